@@ -1,0 +1,4 @@
+pub mod Whole
+pub mod Scan
+pub mod Left
+pub mod Longest

@@ -1,0 +1,10 @@
+pub mod Attributes
+pub mod Data
+pub mod Family
+pub mod Grammar
+pub mod RawBytes
+pub mod Shape
+pub mod Text
+pub mod Transport
+pub mod TypeBytes
+pub mod Types

@@ -1,0 +1,60 @@
+//! The numbers of transactions.
+
+ghost use Rattle.std.specs.Prelude.{◌≡◌, ◌%◌, ◌^◌};
+
+use std::fmt;
+use std::marker::Model;
+
+/// The cookie in every header (RFC 8489, section 5).
+pub const MAGIC_COOKIE: u32 = 0x2112_A442;
+
+/// The number of a transaction, of 96 bits: a response has that of its request.
+#[derive(Clone, Copy, Debug, PartialEq, Eq, PartialOrd, Ord)]
+pub struct TransactionId {
+    id: u128,
+}
+
+impl Model for TransactionId {
+    ghost use Rattle.std.specs.Prelude.{ℕ, ◌<◌, ◌^◌};
+
+    ghost Value = { ℕ };
+
+    ghost view = { λ number. number.id };
+
+    ghost invariant = { λ number. number.id < 2 ^ 96 };
+
+    ghost inverse = { λ n. record { id = n } };
+}
+
+/// Prints `0x` and 24 hex digits.
+impl fmt::Display for TransactionId {
+    fn fmt<W: fmt::Write>(&self, f: &mut fmt::Formatter<W>) -> fmt::Result {
+        let high = (self.id >> 64) as u32;
+        let low = (self.id % (1 << 64)) as u64;
+        write!(f, "0x{high:08x}{low:016x}")
+    }
+}
+
+/// The low 96 bits.
+impl From<u128> for TransactionId {
+    ghost use Rattle.std.specs.Prelude.{◌≡◌, ◌%◌, ◌^◌};
+
+    ghost from_gives = { λ n number. number ≡ n % 2 ^ 96 };
+
+    fn from(value: u128) -> TransactionId {
+        TransactionId {
+            id: value % (1 << 96),
+        }
+    }
+}
+
+/// The number, below 2^96.
+impl From<TransactionId> for u128 {
+    ghost use Rattle.std.specs.Prelude.{◌≡◌};
+
+    ghost from_gives = { λ number n. n ≡ number };
+
+    fn from(value: TransactionId) -> u128 {
+        value.id
+    }
+}
