@@ -1,0 +1,21 @@
+-- Types of attributes, and their numbers.
+use Rattle.std.proofs.Common.{◌≡◌, ℕ, Bool, true, false, eqb, ◌||◌, List, [], ◌∷◌, map, Option, Some, None, refl, sym, ap, ◌∙◌, inl, inr}
+use Rattle.std.specs.Prelude.{find}
+use Rattle.std.specs.Option.{option_map}
+use Rattle.std.specs.List.{list_any}
+use Rattle.std.proofs.lemmas.Bool.{cases_Bool}
+use Rattle.stun_types_wire.specs.declared.attribute.AttributeType.{AttributeType}
+use Rattle.stun_types_write.specs.Adding.{has_kind, is_among}
+
+pub any_numbers : (n : ℕ) (ts : List AttributeType) → has_kind n (map (λ (t : AttributeType). t.0) ts) ≡ list_any (λ (t : AttributeType). eqb t.0 n) ts
+any_numbers n [] = refl
+any_numbers n (t ∷ ts) = ap (λ (b : Bool). eqb t.0 n || b) (any_numbers n ts)
+
+pub find_numbers : (asked ts : List AttributeType) → option_map (λ (t : AttributeType). t.0) (find (λ (t : AttributeType). list_any (λ (a : AttributeType). eqb a.0 t.0) asked) ts) ≡ find (is_among (map (λ (t : AttributeType). t.0) asked)) (map (λ (t : AttributeType). t.0) ts)
+find_numbers asked [] = refl
+find_numbers asked (t ∷ ts) =
+    let same = any_numbers t.0 asked in
+    elim (cases_Bool (list_any (λ (a : AttributeType). eqb a.0 t.0) asked)) [
+      | inl h ↦ rw (same, h) refl
+      | inr h ↦ rw (same, h) (find_numbers asked ts)
+    ]

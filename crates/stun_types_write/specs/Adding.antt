@@ -1,0 +1,46 @@
+-- What an attribute that is added makes of a message, and why it is not added (RFC 8489, sections 14.5 to 14.7).
+use Rattle.std.specs.Prelude.{◌≡◌, ℕ, ◌+◌, ◌-◌, Bool, ◌||◌, ◌==◌, nat_lt, List, [], ◌∷◌, ◌++◌, length, take, drop, Option, Some, None, if◌then◌else◌}
+use Rattle.std.specs.List.{list_any}
+use Rattle.byteorder.specs.Endian.{big_bytes}
+use Rattle.stun_types_wire.specs.declared.error.StunWriteError.{StunWriteError}
+use Rattle.stun_types_wire.specs.declared.error.StunWriteError.TheVariants.{FingerprintExists, MessageIntegrityExists, TooLarge, TooSmall}
+use Rattle.stun_types_wire.specs.Attributes.{Attr, attr_size}
+use Rattle.stun_types_wire.specs.Shape.{integrity_kind, sha256_kind, fingerprint_kind}
+use Rattle.stun_types_wire.specs.Text.{attribute_text}
+
+-- the attribute of a type and a value
+abbrev pub attr_of : ℕ → List ℕ → Attr
+attr_of kind value = record { kind = kind; value = value }
+
+-- the bytes of a message with another length in its header
+unfoldable pub with_length : List ℕ → ℕ → List ℕ
+with_length bytes n = take 2 bytes ++ big_bytes 2 n ++ drop 4 bytes
+
+-- a message to which an attribute is added at the end
+unfoldable pub after_add : List ℕ → Attr → List ℕ
+after_add bytes a = with_length bytes (length bytes - 20 + attr_size a) ++ attribute_text a
+
+-- the greatest size of a message: the length field has sixteen bits
+abbrev pub greatest_size : ℕ
+greatest_size = 20 + 65_535
+
+-- a type among those that were added
+abbrev pub has_kind : ℕ → List ℕ → Bool
+has_kind kind kinds = list_any (λ k. k == kind) kinds
+
+-- the first of the types that were added which is among those asked for
+abbrev pub is_among : List ℕ → ℕ → Bool
+is_among asked kind = list_any (λ k. k == kind) asked
+
+-- a message that would end here doesn't fit into the room that there is
+abbrev pub room_refusal : Option ℕ → ℕ → Option StunWriteError
+room_refusal None end = None
+room_refusal (Some most) end = if nat_lt most end then Some (TooSmall end most) else None
+
+-- why an attribute of this size is not added to a message of these types, this greatest size and this length: the first cause in the order
+unfoldable pub add_refusal : List ℕ → Option ℕ → ℕ → ℕ → Option StunWriteError
+add_refusal kinds limit len size =
+    if has_kind fingerprint_kind kinds then Some FingerprintExists
+    else if has_kind integrity_kind kinds || has_kind sha256_kind kinds then Some MessageIntegrityExists
+    else if nat_lt greatest_size (len + size) then Some (TooLarge 65_535 (len + size - 20))
+    else room_refusal limit (len + size)

@@ -1,0 +1,133 @@
+//! What can be added to a message: a type and a value, however they are held.
+
+ghost use Rattle.std.specs.Prelude.{◌≡◌, ◌+◌, ◌<◌, ◌≤◌, ◌^◌, ◌++◌, length, drop, ℕ, List, IfOk, OnOk, OnErr, MatchResult, IfErr};
+ghost use Rattle.byteorder.specs.Endian.{big_bytes};
+ghost use Rattle.stun_types_wire.specs.declared.attribute.AttributeType.{AttributeType};
+ghost use Rattle.stun_types_wire.specs.declared.error.StunWriteError.TheVariants.{TooSmall};
+ghost use Rattle.stun_types_wire.specs.Attributes.{padded};
+ghost use Rattle.stun_types_wire.specs.Text.{attribute_text};
+ghost use Rattle.stun_types_write.specs.Adding.{attr_of};
+
+use crate::text::{write_attribute, write_attribute_header};
+use std::alloc::Global;
+use std::fmt::Debug;
+use stun_types_base::memory::NoMemory;
+use stun_types_wire::attribute::{AttributeType as Kind, RawAttribute, pad_attribute_len};
+use stun_types_wire::error::StunWriteError;
+
+/// An attribute whose type is known without a value.
+pub trait AttributeStaticType {
+    ghost TYPE: { AttributeType };
+
+    /// The type of every attribute of this kind.
+    const TYPE: Kind;
+}
+
+/// A type and a value. Contracts know an attribute by these two alone.
+pub trait Attribute: Debug + Sync + Send {
+    // The number of the type.
+    ghost kind: { Self → ℕ };
+
+    // The bytes of the value.
+    ghost value: { Self → List ℕ };
+
+    /// The type.
+    fn get_type(&self) -> Kind
+        ensures { result.0 ≡ kind self.now };
+
+    /// The length of the value in bytes, without padding.
+    fn length(&self) -> u16
+        ensures length { result ≡ length (value self.now) }
+        ensures short { length (value self.now) < 2 ^ 16 };
+
+    /// How many bytes the attribute takes, header and padding included.
+    fn padded_len(&self) -> usize
+        ensures size { result ≡ 4 + padded (length (value self.now)) }
+        ensures short { length (value self.now) < 2 ^ 16 }
+    {
+        4 + pad_attribute_len(self.length() as usize)
+    }
+}
+
+/// An attribute that can be written.
+pub trait AttributeWrite: Attribute {
+    /// Writes header, value and padding to the front of bytes that are enough.
+    fn write_into_unchecked(&self, dest: &mut [u8])
+        requires { 4 + padded (length (Self.value self.now)) ≤ length dest.old }
+        ensures { dest.new ≡ attribute_text (attr_of (Self.kind self.now) (Self.value self.now)) ++ drop (4 + padded (length (Self.value self.now))) dest.old };
+
+    /// The attribute as type and bytes. Where memory is refused, `NoMemory`.
+    fn to_raw(&self, alloc: Global) -> Result<RawAttribute<'_>, NoMemory>
+        ensures { IfOk result (λ raw. raw ≡ attr_of (Self.kind self.now) (Self.value self.now)) };
+
+    /// Writes type and length to the front of at least four bytes, and answers four.
+    fn write_header_unchecked(&self, dest: &mut [u8]) -> usize
+        requires { 4 ≤ length dest.old }
+        ensures count { result ≡ 4 }
+        ensures bytes { dest.new ≡ big_bytes 2 (Self.kind self.now) ++ big_bytes 2 (length (Self.value self.now)) ++ drop 4 dest.old }
+    {
+        write_attribute_header(self.get_type(), self.length(), dest);
+        4
+    }
+
+    /// Writes type and length to the front, and answers four. Refused with `TooSmall`, nothing being
+    /// written, where there are fewer than four bytes.
+    fn write_header(&self, dest: &mut [u8]) -> Result<usize, StunWriteError>
+        ensures count { IfOk result (λ n. (n ≡ 4) × (4 ≤ length dest.old)) }
+        ensures bytes { OnOk result (dest.new ≡ big_bytes 2 (Self.kind self.now) ++ big_bytes 2 (length (Self.value self.now)) ++ drop 4 dest.old) }
+        ensures refused { IfErr result (λ error. (error ≡ TooSmall 4 (length dest.old)) × (length dest.old < 4) × (dest.new ≡ dest.old)) }
+    {
+        if dest.len() < 4 {
+            return Err(StunWriteError::TooSmall {
+                expected: 4,
+                actual: dest.len(),
+            });
+        }
+        Ok(self.write_header_unchecked(dest))
+    }
+
+    /// Writes header, value and padding to the front, and answers how many bytes these are. Refused
+    /// with `TooSmall`, nothing being written, where there are fewer.
+    fn write_into(&self, dest: &mut [u8]) -> Result<usize, StunWriteError>
+        ensures count { IfOk result (λ n. (n ≡ 4 + padded (length (Self.value self.now))) × (n ≤ length dest.old)) }
+        ensures bytes { OnOk result (dest.new ≡ attribute_text (attr_of (Self.kind self.now) (Self.value self.now)) ++ drop (4 + padded (length (Self.value self.now))) dest.old) }
+        ensures refused { IfErr result (λ error. (error ≡ TooSmall (4 + padded (length (Self.value self.now))) (length dest.old)) × (length dest.old < 4 + padded (length (Self.value self.now))) × (dest.new ≡ dest.old)) }
+    {
+        let size = self.padded_len();
+        if dest.len() < size {
+            return Err(StunWriteError::TooSmall {
+                expected: size,
+                actual: dest.len(),
+            });
+        }
+        self.write_into_unchecked(dest);
+        Ok(size)
+    }
+}
+
+impl<'a> Attribute for RawAttribute<'a> {
+    ghost kind = { λ raw. raw.kind };
+
+    ghost value = { λ raw. raw.value };
+
+    fn get_type(&self) -> Kind {
+        RawAttribute::get_type(self)
+    }
+
+    fn length(&self) -> u16 {
+        RawAttribute::length(self)
+    }
+}
+
+impl<'a> AttributeWrite for RawAttribute<'a> {
+    fn write_into_unchecked(&self, dest: &mut [u8]) {
+        write_attribute(RawAttribute::get_type(self), self.value(), dest);
+    }
+
+    fn to_raw(&self, _alloc: Global) -> Result<RawAttribute<'_>, NoMemory> {
+        Ok(RawAttribute::new(
+            RawAttribute::get_type(self),
+            self.value(),
+        ))
+    }
+}

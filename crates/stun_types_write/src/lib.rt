@@ -1,0 +1,7 @@
+//! What an attribute is to a writer, and where messages are written.
+#![tactic(auto)]
+
+pub mod attribute;
+pub mod text;
+pub mod vec;
+pub mod writer;

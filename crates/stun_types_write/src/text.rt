@@ -1,0 +1,58 @@
+//! The texts of attributes and lengths, into bytes that are there.
+
+ghost use Rattle.std.specs.Prelude.{◌≡◌, ◌+◌, ◌<◌, ◌≤◌, ◌^◌, ◌++◌, length, drop};
+ghost use Rattle.byteorder.specs.Endian.{big_bytes};
+ghost use Rattle.stun_types_wire.specs.Attributes.{padded};
+ghost use Rattle.stun_types_wire.specs.Text.{attribute_text};
+ghost use Rattle.stun_types_write.specs.Adding.{attr_of, with_length};
+
+use byteorder::{BigEndian, ByteOrder};
+use stun_types_wire::attribute::{AttributeType, pad_attribute_len};
+
+/// Writes the four bytes before a value to the front: the type, and the length of the value.
+pub fn write_attribute_header(atype: AttributeType, len: u16, dest: &mut [u8])
+    requires { 4 ≤ length dest.old }
+    ensures { dest.new ≡ big_bytes 2 atype.0 ++ big_bytes 2 len ++ drop 4 dest.old }
+{
+    let (header, _) = dest.split_at_mut(4);
+    let [k0, k1] = atype.value().to_be_bytes();
+    let [l0, l1] = len.to_be_bytes();
+    header.copy_from_slice(&[k0, k1, l0, l1]);
+}
+
+/// Writes an attribute to the front: type, length, value, and zeros to a multiple of four. What
+/// stands behind is left.
+pub fn write_attribute(atype: AttributeType, value: &[u8], dest: &mut [u8])
+    requires short { length value.now < 2 ^ 16 }
+    requires room { 4 + padded (length value.now) ≤ length dest.old }
+    ensures { dest.new ≡ attribute_text (attr_of atype.0 value.now) ++ drop (4 + padded (length value.now)) dest.old }
+{
+    write_attribute_in_two(atype, &[], value, dest);
+}
+
+/// The same, of a value that stands in two pieces.
+#[tactic(auto, unfolding(stun_types_wire::specs::Text::attribute_text, stun_types_wire::specs::Text::padded_text))]
+pub fn write_attribute_in_two(atype: AttributeType, front: &[u8], back: &[u8], dest: &mut [u8])
+    requires short { length (front.now ++ back.now) < 2 ^ 16 }
+    requires room { 4 + padded (length (front.now ++ back.now)) ≤ length dest.old }
+    ensures { dest.new ≡ attribute_text (attr_of atype.0 (front.now ++ back.now)) ++ drop (4 + padded (length (front.now ++ back.now))) dest.old }
+{
+    let len = front.len() + back.len();
+    let (text, _) = dest.split_at_mut(4 + pad_attribute_len(len));
+    write_attribute_header(atype, len as u16, text);
+    let (_, behind_header) = text.split_at_mut(4);
+    let (first, behind_front) = behind_header.split_at_mut(front.len());
+    let (second, padding) = behind_front.split_at_mut(back.len());
+    first.copy_from_slice(front);
+    second.copy_from_slice(back);
+    padding.fill(0);
+}
+
+/// Writes the length of a message into its header.
+#[tactic(auto, unfolding(crate::specs::Adding::with_length))]
+pub fn write_length(bytes: &mut [u8], n: u16)
+    requires { 20 ≤ length bytes.old }
+    ensures { bytes.new ≡ with_length bytes.old n }
+{
+    BigEndian::write_u16(&mut bytes[2..4], n);
+}
