@@ -1,0 +1,249 @@
+//! ERROR-CODE (RFC 8489, section 14.8).
+
+ghost use Rattle.std.specs.Prelude.{◌≡◌, ◌≢◌, ◌≤◌, ◌/◌, ◌%◌, ◌∷◌, [], IfOk, IfErr, None, Some, length, MatchOption};
+ghost use Rattle.stun_types_attribute.specs.Texts.{longest_text};
+ghost use Rattle.stun_types_attribute.specs.Errors.{CodeAndReason, error_refusal, reason_for, reason_of};
+
+use std::alloc::Global;
+use std::marker::Model;
+use stun_types_base::memory::NoMemory;
+use stun_types_wire::attribute::{AttributeType, RawAttribute};
+use stun_types_wire::error::StunWriteError;
+use stun_types_write::attribute::{Attribute, AttributeStaticType, AttributeWrite};
+use stun_types_write::text::write_attribute_in_two;
+
+/// Why a request is refused: a code from 300 to 699, and a reason of at most 763 bytes.
+#[derive(Debug, Drop)]
+pub struct ErrorCode {
+    code: u16,
+    reason: String,
+}
+
+impl Model for ErrorCode {
+    ghost use Rattle.std.specs.Prelude.{◌≤◌, length};
+    ghost use Rattle.std.specs.String.{string_bytes};
+    ghost use Rattle.stun_types_attribute.specs.Texts.{longest_text};
+    ghost use Rattle.stun_types_attribute.specs.Errors.{CodeAndReason};
+
+    ghost Value = { CodeAndReason };
+
+    ghost view = { λ e. record { code = e.code; reason = string_bytes e.reason } };
+
+    ghost invariant = { λ e. (300 ≤ e.code) × (e.code ≤ 699) × (length (string_bytes e.reason) ≤ longest_text) };
+}
+
+impl ErrorCode {
+    /// The client should try another server.
+    pub const TRY_ALTERNATE: u16 = 300;
+    /// The request is malformed.
+    pub const BAD_REQUEST: u16 = 400;
+    /// The request lacks the right credentials.
+    pub const UNAUTHORIZED: u16 = 401;
+    /// The request is right, and not allowed.
+    pub const FORBIDDEN: u16 = 403;
+    /// The request has an attribute that has to be understood, and is not.
+    pub const UNKNOWN_ATTRIBUTE: u16 = 420;
+    /// There is no allocation where one is needed, or the other way round.
+    pub const ALLOCATION_MISMATCH: u16 = 437;
+    /// The nonce is no longer valid.
+    pub const STALE_NONCE: u16 = 438;
+    /// The server has no addresses of the family.
+    pub const ADDRESS_FAMILY_NOT_SUPPORTED: u16 = 440;
+    /// The credentials are not those of the allocation.
+    pub const WRONG_CREDENTIALS: u16 = 441;
+    /// The transport is not supported.
+    pub const UNSUPPORTED_TRANSPORT_PROTOCOL: u16 = 442;
+    /// The peer is of another family than the allocation.
+    pub const PEER_ADDRESS_FAMILY_MISMATCH: u16 = 443;
+    /// There is a connection to the peer already.
+    pub const CONNECTION_ALREADY_EXISTS: u16 = 446;
+    /// The connection to the peer failed.
+    pub const CONNECTION_TIMEOUT_OR_FAILURE: u16 = 447;
+    /// The user has as many allocations as are allowed.
+    pub const ALLOCATION_QUOTA_REACHED: u16 = 486;
+    /// Both ICE agents have one role.
+    pub const ROLE_CONFLICT: u16 = 487;
+    /// The server failed.
+    pub const SERVER_ERROR: u16 = 500;
+    /// The server lacks what the request needs.
+    pub const INSUFFICIENT_CAPACITY: u16 = 508;
+
+    /// The least code.
+    pub const MIN_CODE: u16 = 300;
+    /// The greatest code.
+    pub const MAX_CODE: u16 = 699;
+    /// How many bytes a reason has at most.
+    pub const MAX_REASON_LEN: usize = 763;
+
+    /// An ERROR-CODE of a code and a reason. Refused, in this order: `OutOfRange` where the code is
+    /// not from 300 to 699, `TooLarge` where the reason has more than 763 bytes; where memory is
+    /// refused, `NoMemory`.
+    #[tactic(auto, unfolding(crate::specs::Errors::error_refusal))]
+    pub fn new(alloc: Global, code: u16, reason: &str) -> Result<ErrorCode, StunWriteError>
+        ensures ok { IfOk result (λ made. (made.code ≡ code) × (made.reason ≡ reason.now) × (error_refusal code reason.now ≡ None)) }
+        ensures refused { IfErr result (λ error. error ≢ StunWriteError.NoMemory → error_refusal code reason.now ≡ Some error) }
+    {
+        if code < ErrorCode::MIN_CODE || code > ErrorCode::MAX_CODE {
+            return Err(StunWriteError::OutOfRange {
+                value: usize::from(code),
+                min: 300,
+                max: 699,
+            });
+        }
+        if reason.len() > ErrorCode::MAX_REASON_LEN {
+            return Err(StunWriteError::TooLarge {
+                expected: ErrorCode::MAX_REASON_LEN,
+                actual: reason.len(),
+            });
+        }
+        Ok(ErrorCode {
+            code,
+            reason: String::from_str(alloc, reason)?,
+        })
+    }
+
+    /// A builder of an ERROR-CODE with this code, and the reason that goes with it.
+    pub fn builder<'reason>(code: u16) -> ErrorCodeBuilder<'reason>
+        ensures code { result.code ≡ code }
+        ensures reason { result.reason ≡ None }
+    {
+        ErrorCodeBuilder { code, reason: None }
+    }
+
+    /// The code, from 300 to 699.
+    pub fn code(&self) -> u16
+        ensures value { result ≡ self.now.code }
+        ensures least { 300 ≤ result }
+        ensures most { result ≤ 699 }
+    {
+        self.code
+    }
+
+    /// The reason.
+    pub fn reason(&self) -> &str
+        ensures value { result.now ≡ self.now.reason }
+        ensures short { length result.now ≤ longest_text }
+    {
+        self.reason.as_str()
+    }
+
+    /// The reason that goes with a code: `Unknown` for a code that has none.
+    pub fn default_reason_for_code(code: u16) -> &'static str
+        ensures { result.now ≡ reason_for code }
+    {
+        match code {
+            ErrorCode::TRY_ALTERNATE => "Try Alternate",
+            ErrorCode::BAD_REQUEST => "Bad Request",
+            ErrorCode::UNAUTHORIZED => "Unauthorized",
+            ErrorCode::FORBIDDEN => "Forbidden",
+            ErrorCode::UNKNOWN_ATTRIBUTE => "Unknown Attribute",
+            ErrorCode::ALLOCATION_MISMATCH => "Allocation Mismatch",
+            ErrorCode::STALE_NONCE => "Stale Nonce",
+            ErrorCode::ADDRESS_FAMILY_NOT_SUPPORTED => "Address Family not Supported",
+            ErrorCode::WRONG_CREDENTIALS => "Wrong Credentials",
+            ErrorCode::UNSUPPORTED_TRANSPORT_PROTOCOL => "Unsupported Transport Protocol",
+            ErrorCode::PEER_ADDRESS_FAMILY_MISMATCH => "Peer Address Family Mismatch",
+            ErrorCode::CONNECTION_ALREADY_EXISTS => "Connection Already Exists",
+            ErrorCode::CONNECTION_TIMEOUT_OR_FAILURE => "Connection Timeout or Failure",
+            ErrorCode::ALLOCATION_QUOTA_REACHED => "Allocation Quota Reached",
+            ErrorCode::ROLE_CONFLICT => "Role Conflict",
+            ErrorCode::SERVER_ERROR => "Server Error",
+            ErrorCode::INSUFFICIENT_CAPACITY => "Insufficient Capacity",
+            _ => "Unknown",
+        }
+    }
+}
+
+/// Makes an ERROR-CODE of a code, with the reason that goes with it or another.
+#[derive(Debug, Drop)]
+pub struct ErrorCodeBuilder<'reason> {
+    code: u16,
+    reason: Option<&'reason str>,
+}
+
+impl<'reason> Model for ErrorCodeBuilder<'reason> {
+    ghost use Rattle.std.specs.Option.{option_copied};
+    ghost use Rattle.stun_types_attribute.specs.Errors.{CodeAndOther};
+
+    ghost Value = { CodeAndOther };
+
+    ghost view = { λ b. record { code = b.code; reason = option_copied b.reason } };
+}
+
+impl<'reason> ErrorCodeBuilder<'reason> {
+    /// The same code with another reason.
+    pub fn reason(self, reason: &'reason str) -> ErrorCodeBuilder<'reason>
+        ensures code { result.code ≡ self.entry.code }
+        ensures reason { result.reason ≡ Some reason.now }
+    {
+        ErrorCodeBuilder {
+            code: self.code,
+            reason: Some(reason),
+        }
+    }
+
+    /// The ERROR-CODE. Refused as `ErrorCode::new` is.
+    pub fn build(self, alloc: Global) -> Result<ErrorCode, StunWriteError>
+        ensures ok { IfOk result (λ made. (made.code ≡ self.entry.code) × (made.reason ≡ reason_of self.entry) × (error_refusal self.entry.code (reason_of self.entry) ≡ None)) }
+        ensures refused { IfErr result (λ error. error ≢ StunWriteError.NoMemory → error_refusal self.entry.code (reason_of self.entry) ≡ Some error) }
+    {
+        let reason = match self.reason {
+            Some(reason) => reason,
+            None => ErrorCode::default_reason_for_code(self.code),
+        };
+        ErrorCode::new(alloc, self.code, reason)
+    }
+}
+
+impl AttributeStaticType for ErrorCode {
+    ghost TYPE = { record { 0 = 0x0009 } };
+
+    const TYPE: AttributeType = AttributeType(0x0009);
+}
+
+impl Attribute for ErrorCode {
+    ghost use Rattle.stun_types_attribute.specs.Errors.{error_value};
+
+    ghost kind = { λ _. 0x0009 };
+
+    ghost value = { error_value };
+
+    fn get_type(&self) -> AttributeType {
+        ErrorCode::TYPE
+    }
+
+    fn length(&self) -> u16 {
+        4 + self.reason().len() as u16
+    }
+}
+
+impl AttributeWrite for ErrorCode {
+    fn write_into_unchecked(&self, dest: &mut [u8]) {
+        write_attribute_in_two(
+            ErrorCode::TYPE,
+            &self.code_bytes(),
+            self.reason().as_bytes(),
+            dest,
+        );
+    }
+
+    fn to_raw(&self, alloc: Global) -> Result<RawAttribute<'_>, NoMemory> {
+        let mut value = Vec::with_capacity(alloc, 4 + self.reason().len())?;
+        value.extend_from_slice(&self.code_bytes())?;
+        value.extend_from_slice(self.reason().as_bytes())?;
+        Ok(RawAttribute::new_owned(
+            ErrorCode::TYPE,
+            value.into_boxed_slice(),
+        ))
+    }
+}
+
+impl ErrorCode {
+    /// The value before the reason: two zeros, the hundreds of the code, the rest of it.
+    fn code_bytes(&self) -> [u8; 4]
+        ensures { result ≡ 0 ∷ 0 ∷ (self.now.code / 100) ∷ (self.now.code % 100) ∷ [] }
+    {
+        let code = self.code();
+        [0, 0, (code / 100) as u8, (code % 100) as u8]
+    }
+}

@@ -1,0 +1,6 @@
+//! The attributes of STUN, each with a type of its own (RFC 8489, section 14).
+#![tactic(auto)]
+
+pub mod error_code;
+pub mod nonce;
+pub mod realm;

@@ -1,0 +1,91 @@
+//! NONCE (RFC 8489, section 14.10).
+
+ghost use Rattle.std.specs.Prelude.{◌≡◌, ◌≢◌, ◌≤◌, IfOk, IfErr, None, Some, length};
+ghost use Rattle.stun_types_attribute.specs.Texts.{longest_text, text_refusal};
+
+use std::alloc::Global;
+use std::marker::Model;
+use stun_types_base::memory::NoMemory;
+use stun_types_wire::attribute::{AttributeType, RawAttribute};
+use stun_types_wire::error::StunWriteError;
+use stun_types_write::attribute::{Attribute, AttributeStaticType, AttributeWrite};
+use stun_types_write::text::write_attribute;
+
+/// The nonce of a challenge, which a request repeats. It has at most 763 bytes. Contracts see the bytes
+/// of the text.
+#[derive(Debug, Drop)]
+pub struct Nonce {
+    nonce: String,
+}
+
+impl Model for Nonce {
+    ghost use Rattle.std.specs.Prelude.{List, ℕ, ◌≤◌, length};
+    ghost use Rattle.std.specs.String.{string_bytes};
+    ghost use Rattle.stun_types_attribute.specs.Texts.{longest_text};
+
+    ghost Value = { List ℕ };
+
+    ghost view = { λ a. string_bytes a.nonce };
+
+    ghost invariant = { λ a. length (string_bytes a.nonce) ≤ longest_text };
+}
+
+impl Nonce {
+    /// How many bytes the text has at most.
+    pub const MAX_LEN: usize = 763;
+
+    /// The NONCE of a text. Refused with `TooLarge` where the text has more than 763 bytes; where
+    /// memory is refused, with `NoMemory`.
+    pub fn new(alloc: Global, nonce: &str) -> Result<Nonce, StunWriteError>
+        ensures ok { IfOk result (λ made. (made ≡ nonce.now) × (text_refusal longest_text nonce.now ≡ None)) }
+        ensures refused { IfErr result (λ error. error ≢ StunWriteError.NoMemory → text_refusal longest_text nonce.now ≡ Some error) }
+    {
+        if nonce.len() > Nonce::MAX_LEN {
+            return Err(StunWriteError::TooLarge {
+                expected: Nonce::MAX_LEN,
+                actual: nonce.len(),
+            });
+        }
+        Ok(Nonce {
+            nonce: String::from_str(alloc, nonce)?,
+        })
+    }
+
+    /// The text.
+    pub fn nonce(&self) -> &str
+        ensures value { result.now ≡ self.now }
+        ensures short { length result.now ≤ longest_text }
+    {
+        self.nonce.as_str()
+    }
+}
+
+impl AttributeStaticType for Nonce {
+    ghost TYPE = { record { 0 = 0x0015 } };
+
+    const TYPE: AttributeType = AttributeType(0x0015);
+}
+
+impl Attribute for Nonce {
+    ghost kind = { λ _. 0x0015 };
+
+    ghost value = { λ a. a };
+
+    fn get_type(&self) -> AttributeType {
+        Nonce::TYPE
+    }
+
+    fn length(&self) -> u16 {
+        self.nonce().len() as u16
+    }
+}
+
+impl AttributeWrite for Nonce {
+    fn write_into_unchecked(&self, dest: &mut [u8]) {
+        write_attribute(Nonce::TYPE, self.nonce().as_bytes(), dest);
+    }
+
+    fn to_raw(&self, _alloc: Global) -> Result<RawAttribute<'_>, NoMemory> {
+        Ok(RawAttribute::new(Nonce::TYPE, self.nonce().as_bytes()))
+    }
+}

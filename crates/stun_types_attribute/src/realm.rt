@@ -1,0 +1,91 @@
+//! REALM (RFC 8489, section 14.9).
+
+ghost use Rattle.std.specs.Prelude.{◌≡◌, ◌≢◌, ◌≤◌, IfOk, IfErr, None, Some, length};
+ghost use Rattle.stun_types_attribute.specs.Texts.{longest_text, text_refusal};
+
+use std::alloc::Global;
+use std::marker::Model;
+use stun_types_base::memory::NoMemory;
+use stun_types_wire::attribute::{AttributeType, RawAttribute};
+use stun_types_wire::error::StunWriteError;
+use stun_types_write::attribute::{Attribute, AttributeStaticType, AttributeWrite};
+use stun_types_write::text::write_attribute;
+
+/// The realm in which a user name and a password count. It has at most 763 bytes. Contracts see the bytes
+/// of the text.
+#[derive(Debug, Drop)]
+pub struct Realm {
+    realm: String,
+}
+
+impl Model for Realm {
+    ghost use Rattle.std.specs.Prelude.{List, ℕ, ◌≤◌, length};
+    ghost use Rattle.std.specs.String.{string_bytes};
+    ghost use Rattle.stun_types_attribute.specs.Texts.{longest_text};
+
+    ghost Value = { List ℕ };
+
+    ghost view = { λ a. string_bytes a.realm };
+
+    ghost invariant = { λ a. length (string_bytes a.realm) ≤ longest_text };
+}
+
+impl Realm {
+    /// How many bytes the text has at most.
+    pub const MAX_LEN: usize = 763;
+
+    /// The REALM of a text. Refused with `TooLarge` where the text has more than 763 bytes; where
+    /// memory is refused, with `NoMemory`.
+    pub fn new(alloc: Global, realm: &str) -> Result<Realm, StunWriteError>
+        ensures ok { IfOk result (λ made. (made ≡ realm.now) × (text_refusal longest_text realm.now ≡ None)) }
+        ensures refused { IfErr result (λ error. error ≢ StunWriteError.NoMemory → text_refusal longest_text realm.now ≡ Some error) }
+    {
+        if realm.len() > Realm::MAX_LEN {
+            return Err(StunWriteError::TooLarge {
+                expected: Realm::MAX_LEN,
+                actual: realm.len(),
+            });
+        }
+        Ok(Realm {
+            realm: String::from_str(alloc, realm)?,
+        })
+    }
+
+    /// The text.
+    pub fn realm(&self) -> &str
+        ensures value { result.now ≡ self.now }
+        ensures short { length result.now ≤ longest_text }
+    {
+        self.realm.as_str()
+    }
+}
+
+impl AttributeStaticType for Realm {
+    ghost TYPE = { record { 0 = 0x0014 } };
+
+    const TYPE: AttributeType = AttributeType(0x0014);
+}
+
+impl Attribute for Realm {
+    ghost kind = { λ _. 0x0014 };
+
+    ghost value = { λ a. a };
+
+    fn get_type(&self) -> AttributeType {
+        Realm::TYPE
+    }
+
+    fn length(&self) -> u16 {
+        self.realm().len() as u16
+    }
+}
+
+impl AttributeWrite for Realm {
+    fn write_into_unchecked(&self, dest: &mut [u8]) {
+        write_attribute(Realm::TYPE, self.realm().as_bytes(), dest);
+    }
+
+    fn to_raw(&self, _alloc: Global) -> Result<RawAttribute<'_>, NoMemory> {
+        Ok(RawAttribute::new(Realm::TYPE, self.realm().as_bytes()))
+    }
+}
