@@ -1,0 +1,7 @@
+//! Messages over borrowed bytes: parsed, looked into, and begun.
+#![tactic(auto)]
+
+mod front;
+pub mod iter;
+pub mod message;
+mod stage;

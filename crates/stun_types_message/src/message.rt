@@ -1,0 +1,204 @@
+//! Messages over borrowed bytes.
+
+ghost use Rattle.std.specs.Prelude.{◌≡◌, ◌==◌, ◌↔◌, IsTrue, None, Some, MatchResult, find, is_some};
+ghost use Rattle.stun_types_wire.specs.Attributes.{kind_at, numbered};
+ghost use Rattle.stun_types_wire.specs.Types.{class_of, method_of, is_response_class};
+ghost use Rattle.stun_types_wire.specs.Grammar.{body_refusal, refusal, shown, number_at};
+
+use crate::front::Front;
+use crate::iter::MessageAttributesIter;
+use crate::stage::Stage;
+use std::convert::TryFrom;
+use std::marker::Model;
+use stun_types_wire::attribute::{AttributeType, RawAttribute};
+use stun_types_wire::class::{MessageClass, MessageType, Method};
+use stun_types_wire::error::StunParseError;
+use stun_types_wire::header::MessageHeader;
+use stun_types_wire::transaction::TransactionId;
+
+/// A message in borrowed bytes. Contracts see the bytes, of which no refusal holds.
+#[derive(Debug, Drop)]
+pub struct Message<'a> {
+    header: MessageHeader,
+    data: &'a [u8],
+}
+
+impl<'a> Model for Message<'a> {
+    ghost use Rattle.std.specs.Prelude.{List, ℕ};
+
+    ghost Value = { List ℕ };
+
+    ghost use Rattle.stun_types_message.specs.Parsed.{IsParsed};
+
+    ghost view = { λ m. m.data.now };
+
+    ghost invariant = { λ m. IsParsed m.data.now m.header };
+}
+
+impl<'a> Message<'a> {
+    /// The message that the bytes are. Refused, in this order: as `MessageHeader::from_bytes` is;
+    /// `Truncated` where there are fewer bytes than header and length tell, `TooLarge` where there are
+    /// more; then, going over the attributes, `Truncated` where one to three bytes are left or where
+    /// an attribute is not there whole, `FingerprintMismatch` where a FINGERPRINT is shown, whose check
+    /// is not written yet.
+    ///
+    /// An attribute that doesn't continue the shape of a message (ordinary ones, then
+    /// MESSAGE-INTEGRITY, MESSAGE-INTEGRITY-SHA256 and FINGERPRINT, each at most once) and what
+    /// follows it are not shown and not looked at.
+    #[tactic(auto, unfolding(stun_types_wire::specs::Grammar::refusal, stun_types_wire::specs::Grammar::length_refusal))]
+    pub fn from_bytes(bytes: &'a [u8]) -> Result<Message<'a>, StunParseError>
+        ensures { MatchResult result (λ m. (m ≡ bytes.now) × (refusal bytes.now ≡ None)) (λ error. refusal bytes.now ≡ Some error) }
+    {
+        let header = MessageHeader::from_bytes(bytes)?;
+        let end = MessageHeader::LENGTH + header.data_length() as usize;
+        if bytes.len() < end {
+            return Err(StunParseError::Truncated {
+                expected: end,
+                actual: bytes.len(),
+            });
+        }
+        if end < bytes.len() {
+            return Err(StunParseError::TooLarge {
+                expected: end,
+                actual: bytes.len(),
+            });
+        }
+        let (_, body) = bytes.split_at(MessageHeader::LENGTH);
+        scan(body)?;
+        Ok(Message {
+            header,
+            data: bytes,
+        })
+    }
+
+    /// The bytes of the message.
+    pub fn as_ref(&self) -> &'a [u8]
+        ensures bytes { result.now ≡ self.now }
+        ensures message { refusal result.now ≡ None }
+    {
+        self.data
+    }
+
+    /// The type.
+    pub fn get_type(&self) -> MessageType
+        ensures { result ≡ kind_at self.now }
+    {
+        self.header.get_type()
+    }
+
+    /// The class.
+    pub fn class(&self) -> MessageClass
+        ensures { result ≡ class_of (kind_at self.now) }
+    {
+        self.get_type().class()
+    }
+
+    /// Whether this is the class.
+    pub fn has_class(&self, class: MessageClass) -> bool
+        ensures { IsTrue result ↔ (class_of (kind_at self.now) ≡ class) }
+    {
+        self.class() == class
+    }
+
+    /// Whether the message answers a request.
+    pub fn is_response(&self) -> bool
+        ensures { result ≡ is_response_class (class_of (kind_at self.now)) }
+    {
+        self.class().is_response()
+    }
+
+    /// The method.
+    pub fn method(&self) -> Method
+        ensures { result.0 ≡ method_of (kind_at self.now) }
+    {
+        self.get_type().method()
+    }
+
+    /// Whether this is the method.
+    pub fn has_method(&self, method: Method) -> bool
+        ensures { IsTrue result ↔ (method_of (kind_at self.now) ≡ method.0) }
+    {
+        self.method() == method
+    }
+
+    /// The number of the transaction.
+    pub fn transaction_id(&self) -> TransactionId
+        ensures { result ≡ number_at self.now }
+    {
+        self.header.transaction_id()
+    }
+
+    /// The attributes that the message shows, each with the offset at which it stands.
+    pub fn iter_attributes(&self) -> MessageAttributesIter<'a>
+        ensures { result ≡ numbered 20 (shown self.now) }
+    {
+        MessageAttributesIter::new(self.data)
+    }
+
+    /// The first attribute of a type, where one is shown.
+    #[tactic(auto, using(stun_types_grammar::proofs::Left::map_numbered))]
+    pub fn raw_attribute(&self, atype: AttributeType) -> Option<RawAttribute<'a>>
+        ensures { result ≡ find (λ a. a.kind == atype.0) (shown self.now) }
+    {
+        for (_, attribute) in self.iter_attributes() {
+            if attribute.get_type() == atype {
+                return Some(attribute);
+            }
+        }
+        None
+    }
+
+    /// Whether an attribute of a type is shown.
+    pub fn has_attribute(&self, atype: AttributeType) -> bool
+        ensures { result ≡ is_some (find (λ a. a.kind == atype.0) (shown self.now)) }
+    {
+        self.raw_attribute(atype).is_some()
+    }
+}
+
+/// The same as `Message::from_bytes`.
+impl<'a> TryFrom<&'a [u8]> for Message<'a> {
+    ghost use Rattle.std.specs.Prelude.{◌≡◌, MatchResult, Some, None};
+    ghost use Rattle.stun_types_wire.specs.Grammar.{refusal};
+
+    type Error = StunParseError;
+
+    ghost try_from_gives = { λ bytes result. MatchResult result (λ m. (m ≡ bytes.now) × (refusal bytes.now ≡ None)) (λ error. refusal bytes.now ≡ Some error) };
+
+    fn try_from(value: &'a [u8]) -> Result<Message<'a>, StunParseError> {
+        Message::from_bytes(value)
+    }
+}
+
+/// Whether the bytes behind a header are attributes of a message.
+#[tactic(auto, using(stun_types_grammar::proofs::Scan::refuses_short, stun_types_grammar::proofs::Scan::ends_all, crate::proofs::Scanning::ends_at, crate::proofs::Scanning::cut_at, crate::proofs::Scanning::fingerprint_at))]
+fn scan(body: &[u8]) -> Result<(), StunParseError>
+    ensures { MatchResult result (λ _. body_refusal body.now ≡ None) (λ error. body_refusal body.now ≡ Some error) }
+{
+    let mut rest = body;
+    let mut stage = Stage::Ordinary;
+    while !rest.is_empty() {
+        let Some(front) = Front::of(rest) else {
+            return Err(StunParseError::Truncated {
+                expected: 4,
+                actual: rest.len(),
+            });
+        };
+        let Some(next) = stage.after(front.atype) else {
+            return Ok(());
+        };
+        if rest.len() < front.size {
+            return Err(StunParseError::Truncated {
+                expected: front.size,
+                actual: rest.len(),
+            });
+        }
+        if let Stage::Fingerprint = next {
+            return Err(StunParseError::FingerprintMismatch);
+        }
+        let (_, after) = rest.split_at(front.size);
+        rest = after;
+        stage = next;
+    }
+    Ok(())
+}

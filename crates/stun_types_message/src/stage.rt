@@ -1,0 +1,47 @@
+//! How far the shape of a message has come.
+
+ghost use Rattle.std.specs.Prelude.{◌≡◌};
+ghost use Rattle.stun_types_wire.specs.Shape.{rank};
+ghost use Rattle.stun_types_message.specs.Stages.{stage_rank, LeadsTo};
+
+use stun_types_wire::attribute::AttributeType;
+
+/// What the last attribute was, of those that are shown so far. A message shows ordinary
+/// attributes, and then each of the other three at most once, in this order.
+#[derive(Clone, Copy, Debug, PartialEq, Eq, PartialOrd, Ord)]
+pub(crate) enum Stage {
+    /// An ordinary attribute, or none.
+    Ordinary,
+    /// MESSAGE-INTEGRITY.
+    Integrity,
+    /// MESSAGE-INTEGRITY-SHA256.
+    Sha256,
+    /// FINGERPRINT.
+    Fingerprint,
+}
+
+impl Stage {
+    /// The stage that an attribute of this type stands for.
+    fn of(atype: AttributeType) -> Stage
+        ensures { stage_rank result ≡ rank atype.0 }
+    {
+        match atype.0 {
+            0x0008 => Stage::Integrity,
+            0x001C => Stage::Sha256,
+            0x8028 => Stage::Fingerprint,
+            _ => Stage::Ordinary,
+        }
+    }
+
+    /// The stage after an attribute of this type, where it may follow.
+    pub(crate) fn after(self, atype: AttributeType) -> Option<Stage>
+        ensures { LeadsTo self atype.0 result }
+    {
+        let next = Stage::of(atype);
+        match (self, next) {
+            (Stage::Ordinary, Stage::Ordinary) => Some(next),
+            _ if self < next => Some(next),
+            _ => None,
+        }
+    }
+}
