@@ -1,6 +1,7 @@
 //! Messages over borrowed bytes: parsed, looked into, and begun.
 #![tactic(auto)]
 
+pub mod builder;
 mod front;
 pub mod iter;
 pub mod message;

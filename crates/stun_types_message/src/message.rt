@@ -1,6 +1,6 @@
 //! Messages over borrowed bytes.
 
-ghost use Rattle.std.specs.Prelude.{◌≡◌, ◌==◌, ◌↔◌, IsTrue, None, Some, MatchResult, find, is_some};
+ghost use Rattle.std.specs.Prelude.{◌≡◌, ◌==◌, ◌<◌, ◌^◌, ◌↔◌, IsTrue, None, Some, MatchResult, find, is_some};
 ghost use Rattle.stun_types_wire.specs.Attributes.{kind_at, numbered};
 ghost use Rattle.stun_types_wire.specs.Types.{class_of, method_of, is_response_class};
 ghost use Rattle.stun_types_wire.specs.Grammar.{body_refusal, refusal, shown, number_at};
@@ -107,9 +107,10 @@ impl<'a> Message<'a> {
         self.class().is_response()
     }
 
-    /// The method.
+    /// The method, of twelve bits.
     pub fn method(&self) -> Method
-        ensures { result.0 ≡ method_of (kind_at self.now) }
+        ensures value { result.0 ≡ method_of (kind_at self.now) }
+        ensures short { result.0 < 2 ^ 12 }
     {
         self.get_type().method()
     }

@@ -111,7 +111,8 @@ impl MessageType {
 
     /// The number that stands in the header, below 2^14.
     pub fn value(self) -> u16
-        ensures { result ≡ self }
+        ensures value { result ≡ self }
+        ensures short { result < 2 ^ 14 }
     {
         self.value
     }

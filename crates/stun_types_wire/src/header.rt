@@ -1,6 +1,6 @@
 //! The header of a message (RFC 8489, section 5).
 
-ghost use Rattle.std.specs.Prelude.{◌≡◌, ◌≤◌, length, None, Some, MatchResult};
+ghost use Rattle.std.specs.Prelude.{◌≡◌, ◌<◌, ◌≤◌, ◌^◌, length, None, Some, MatchResult};
 ghost use Rattle.stun_types_wire.specs.Attributes.{kind_at, length_at};
 ghost use Rattle.stun_types_wire.specs.Grammar.{header_at, header_refusal, may_begin, number_at};
 ghost use Rattle.stun_types_wire.specs.Text.{header_text};
@@ -76,7 +76,8 @@ impl MessageHeader {
     /// The twenty bytes of the header.
     #[tactic(auto, unfolding(crate::specs::Text::header_text))]
     pub fn to_bytes(self) -> [u8; 20]
-        ensures { result ≡ header_text self.kind self.len self.number }
+        ensures text { result ≡ header_text self.kind self.len self.number }
+        ensures lawful { self.kind < 2 ^ 14 }
     {
         let [k0, k1] = self.mtype.value().to_be_bytes();
         let [l0, l1] = self.length.to_be_bytes();

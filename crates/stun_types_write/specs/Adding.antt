@@ -1,11 +1,12 @@
 -- What an attribute that is added makes of a message, and why it is not added (RFC 8489, sections 14.5 to 14.7).
-use Rattle.std.specs.Prelude.{◌≡◌, ℕ, ◌+◌, ◌-◌, Bool, ◌||◌, ◌==◌, nat_lt, List, [], ◌∷◌, ◌++◌, length, take, drop, Option, Some, None, if◌then◌else◌}
+use Rattle.std.specs.Prelude.{◌≡◌, ℕ, ◌+◌, ◌-◌, ◌≤◌, Bool, ◌||◌, ◌==◌, nat_lt, List, [], ◌∷◌, ◌++◌, length, take, drop, Option, Some, None, if◌then◌else◌}
 use Rattle.std.specs.List.{list_any}
 use Rattle.byteorder.specs.Endian.{big_bytes}
 use Rattle.stun_types_wire.specs.declared.error.StunWriteError.{StunWriteError}
 use Rattle.stun_types_wire.specs.declared.error.StunWriteError.TheVariants.{FingerprintExists, MessageIntegrityExists, TooLarge, TooSmall}
 use Rattle.stun_types_wire.specs.Attributes.{Attr, attr_size}
 use Rattle.stun_types_wire.specs.Shape.{integrity_kind, sha256_kind, fingerprint_kind}
+use Rattle.stun_types_wire.specs.Grammar.{header_refusal}
 use Rattle.stun_types_wire.specs.Text.{attribute_text}
 
 -- the attribute of a type and a value
@@ -44,3 +45,8 @@ add_refusal kinds limit len size =
     else if has_kind integrity_kind kinds || has_kind sha256_kind kinds then Some MessageIntegrityExists
     else if nat_lt greatest_size (len + size) then Some (TooLarge 65_535 (len + size - 20))
     else room_refusal limit (len + size)
+
+-- a message that was begun, and can be added to: its header is there, and its length fits
+pub record IsBegun (bytes : List ℕ) : Type 0 where
+  pub header : header_refusal bytes ≡ None
+  pub size : length bytes ≤ greatest_size

@@ -1,0 +1,149 @@
+//! The header and the adds of a message that is written, over any writer.
+
+ghost use Rattle.std.specs.Prelude.{◌≡◌, ◌≢◌, ◌↔◌, ◌+◌, ◌≤◌, ◌++◌, ◌∷◌, [], length, ℕ, List, IsTrue, OnOk, OnErr, IfErr, None, Some};
+ghost use Rattle.stun_types_wire.specs.Attributes.{Attr, attr_size, kind_at};
+ghost use Rattle.stun_types_wire.specs.Shape.{rank};
+ghost use Rattle.stun_types_wire.specs.Types.{class_of, method_of, is_response_class};
+ghost use Rattle.stun_types_wire.specs.Grammar.{header_at, header_refusal, number_at};
+ghost use Rattle.stun_types_wire.specs.Text.{message_text};
+ghost use Rattle.stun_types_write.specs.Adding.{attr_of, after_add, add_refusal, IsBegun};
+
+use stun_types_wire::attribute::AttributeType;
+use stun_types_wire::class::{MessageClass, MessageType, Method};
+use stun_types_wire::error::StunWriteError;
+use stun_types_wire::header::MessageHeader;
+use stun_types_wire::transaction::TransactionId;
+use stun_types_write::attribute::AttributeWrite;
+use stun_types_write::writer::MessageWrite;
+
+/// The greatest length that a header tells, in sixteen bits.
+const MAX_DATA_LENGTH: usize = 65_535;
+
+/// The greatest size of a message, its header included.
+const MAX_MESSAGE_LENGTH: usize = 65_555;
+
+/// The three attributes that end a message, which are added by calls of their own.
+const MESSAGE_INTEGRITY: AttributeType = AttributeType(0x0008);
+const MESSAGE_INTEGRITY_SHA256: AttributeType = AttributeType(0x001C);
+const FINGERPRINT: AttributeType = AttributeType(0x8028);
+
+/// The header and the adds of a message that was begun. Every writer has them.
+pub trait MessageWriteExt: MessageWrite {
+    /// The type of the message.
+    fn get_type(&self) -> MessageType
+        requires { IsBegun (Self.written self.now) }
+        ensures { result ≡ kind_at (Self.written self.now) };
+
+    /// The class of the message.
+    fn class(&self) -> MessageClass
+        requires { IsBegun (Self.written self.now) }
+        ensures { result ≡ class_of (kind_at (Self.written self.now)) };
+
+    /// Whether this is the class of the message.
+    fn has_class(&self, class: MessageClass) -> bool
+        requires { IsBegun (Self.written self.now) }
+        ensures { IsTrue result ↔ (class_of (kind_at (Self.written self.now)) ≡ class) };
+
+    /// Whether the message answers a request.
+    fn is_response(&self) -> bool
+        requires { IsBegun (Self.written self.now) }
+        ensures { result ≡ is_response_class (class_of (kind_at (Self.written self.now))) };
+
+    /// The method of the message.
+    fn method(&self) -> Method
+        requires { IsBegun (Self.written self.now) }
+        ensures { result.0 ≡ method_of (kind_at (Self.written self.now)) };
+
+    /// Whether this is the method of the message.
+    fn has_method(&self, method: Method) -> bool
+        requires { IsBegun (Self.written self.now) }
+        ensures { IsTrue result ↔ (method_of (kind_at (Self.written self.now)) ≡ method.0) };
+
+    /// The number of the transaction.
+    fn transaction_id(&self) -> TransactionId
+        requires { IsBegun (Self.written self.now) }
+        ensures { result ≡ number_at (Self.written self.now) };
+
+    /// Adds an attribute that isn't one of the three which end a message. A type may be added several
+    /// times. Refused, in this order: `FingerprintExists`, `MessageIntegrityExists` where the message
+    /// has one of these, `TooLarge` where its length field would pass 65,535, `TooSmall` where the
+    /// writer has not the room; where memory is refused, `NoMemory`. A refused add changes nothing.
+    fn add_attribute(&mut self, attribute: &dyn AttributeWrite) -> Result<(), StunWriteError>
+        requires begun { IsBegun (Self.written self.old) }
+        requires ordinary { rank (kind attribute.now) ≡ 0 }
+        ensures ok { OnOk result (Self.written self.new ≡ after_add (Self.written self.old) (attr_of (kind attribute.now) (value attribute.now))) }
+        ensures kinds { OnOk result (Self.kinds self.new ≡ Self.kinds self.old ++ kind attribute.now ∷ []) }
+        // A message text becomes the text of one attribute more.
+        ensures text { OnOk result ((mtype number : ℕ) (adds : List Attr) → Self.written self.old ≡ message_text mtype number adds → Self.written self.new ≡ message_text mtype number (adds ++ attr_of (kind attribute.now) (value attribute.now) ∷ [])) }
+        ensures accepted { OnOk result (add_refusal (Self.kinds self.old) (Self.limit self.old) (length (Self.written self.old)) (attr_size (attr_of (kind attribute.now) (value attribute.now))) ≡ None) }
+        ensures refused { IfErr result (λ error. error ≢ StunWriteError.NoMemory → add_refusal (Self.kinds self.old) (Self.limit self.old) (length (Self.written self.old)) (attr_size (attr_of (kind attribute.now) (value attribute.now))) ≡ Some error) }
+        ensures unchanged { OnErr result ((Self.written self.new ≡ Self.written self.old) × (Self.kinds self.new ≡ Self.kinds self.old)) }
+        ensures limit { Self.limit self.new ≡ Self.limit self.old }
+        ensures begun { IsBegun (Self.written self.new) };
+}
+
+impl<W: MessageWrite> MessageWriteExt for W {
+    fn get_type(&self) -> MessageType {
+        header_of(self.data()).get_type()
+    }
+
+    fn class(&self) -> MessageClass {
+        self.get_type().class()
+    }
+
+    fn has_class(&self, class: MessageClass) -> bool {
+        self.class() == class
+    }
+
+    fn is_response(&self) -> bool {
+        self.class().is_response()
+    }
+
+    fn method(&self) -> Method {
+        self.get_type().method()
+    }
+
+    fn has_method(&self, method: Method) -> bool {
+        self.method() == method
+    }
+
+    fn transaction_id(&self) -> TransactionId {
+        header_of(self.data()).transaction_id()
+    }
+
+    #[tactic(auto, unfolding(stun_types_write::specs::Adding::add_refusal), using(crate::proofs::Adds::long_enough, crate::proofs::Adds::added, crate::proofs::Adds::added_text, crate::proofs::Adds::added_begun))]
+    fn add_attribute(&mut self, attribute: &dyn AttributeWrite) -> Result<(), StunWriteError> {
+        if self.has_attribute(FINGERPRINT) {
+            return Err(StunWriteError::FingerprintExists);
+        }
+        if self.has_attribute(MESSAGE_INTEGRITY) || self.has_attribute(MESSAGE_INTEGRITY_SHA256) {
+            return Err(StunWriteError::MessageIntegrityExists);
+        }
+        let end = self.len() + attribute.padded_len();
+        if end > MAX_MESSAGE_LENGTH {
+            return Err(StunWriteError::TooLarge {
+                expected: MAX_DATA_LENGTH,
+                actual: end - MessageHeader::LENGTH,
+            });
+        }
+        if let Some(most) = self.max_size() {
+            if most < end {
+                return Err(StunWriteError::TooSmall {
+                    expected: end,
+                    actual: most,
+                });
+            }
+        }
+        self.push_attribute_unchecked(attribute)?;
+        self.set_length((end - MessageHeader::LENGTH) as u16);
+        Ok(())
+    }
+}
+
+/// The header of a message that was begun.
+fn header_of(bytes: &[u8]) -> MessageHeader
+    requires { header_refusal bytes.now ≡ None }
+    ensures { result ≡ header_at bytes.now }
+{
+    MessageHeader::from_bytes(bytes).unwrap()
+}

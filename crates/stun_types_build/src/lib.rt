@@ -1,0 +1,4 @@
+//! What is added to a message that was begun, by any writer.
+#![tactic(auto)]
+
+pub mod ext;
