@@ -2,3 +2,5 @@ pub mod Whole
 pub mod Scan
 pub mod Left
 pub mod Longest
+pub mod Numbers
+pub mod HeaderLaws
