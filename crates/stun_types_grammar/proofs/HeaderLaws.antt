@@ -41,13 +41,13 @@ begins_fine bytes h = rw h.text (header_front h.kind h.len h.number h.rest h.kin
 
 -- ---- what is not refused has a header at the front
 
-are_parts : (n : ℕ) (bytes : List ℕ) → AreBytes bytes → AreBytes (take n bytes) × AreBytes (drop n bytes)
+pub are_parts : (n : ℕ) (bytes : List ℕ) → AreBytes bytes → AreBytes (take n bytes) × AreBytes (drop n bytes)
 are_parts n bytes h =
     let whole : list_all (λ b. ltb b 256) (take n bytes ++ drop n bytes) ≡ true = ap (list_all (λ b. ltb b 256)) (take-append-drop n bytes) ∙ h in
     and_parts (list_all (λ b. ltb b 256) (take n bytes)) (list_all (λ b. ltb b 256) (drop n bytes)) (sym (list_all-append (λ b. ltb b 256) (take n bytes) (drop n bytes)) ∙ whole)
 
 -- the first n bytes are those of their number
-first_bytes : (n : ℕ) (bytes : List ℕ) → AreBytes bytes → n ≤ length bytes → big_bytes n (big_number n bytes) ≡ take n bytes
+pub first_bytes : (n : ℕ) (bytes : List ℕ) → AreBytes bytes → n ≤ length bytes → big_bytes n (big_number n bytes) ≡ take n bytes
 first_bytes n bytes h long =
     ap (big_bytes n) (sym (big_from-take 0 n n bytes (omega arith))) ∙ bytes_again n (take n bytes) (byte_below (take n bytes) (are_parts n bytes h).0) (omega (arith, length-take n bytes))
 
@@ -78,9 +78,16 @@ pieces bytes =
     ∙ ap (λ (l : List ℕ). take 4 (drop 4 bytes) ++ l) (drop-drop 4 4 bytes ∙ sym (take-append-drop 12 (drop 8 bytes))
     ∙ ap (λ (l : List ℕ). take 12 (drop 8 bytes) ++ l) (drop-drop 12 8 bytes))))
 
-pub begins_with : (bytes : List ℕ) → AreBytes bytes → may_begin bytes ≡ true → 20 ≤ length bytes → BeginsWithHeader bytes
-unfolding header_text
-begins_with bytes h begins long =
+-- what the front tells as a header, and that it is the front's text
+pub record TellsHeader (bytes : List ℕ) : Type 0 where
+  pub text : bytes ≡ header_text (kind_at bytes) (length_at bytes) (number_at bytes) ++ drop 20 bytes
+  pub kind_fits : kind_at bytes < 2 ^ 14
+  pub len_fits : length_at bytes < 2 ^ 16
+  pub number_fits : number_at bytes < 2 ^ 96
+
+pub tells_header : (bytes : List ℕ) → AreBytes bytes → may_begin bytes ≡ true → 20 ≤ length bytes → TellsHeader bytes
+unfolding header_text number_at
+tells_header bytes h begins long =
     let tests = and_parts (ltb (slice_index bytes 0) 64) (starts_with eqb cookie (take 4 (drop 4 bytes))) begins in
     let top = ltb-true (slice_index bytes 0) 64 tests.0 in
     let second = byte_below bytes h 1 in
@@ -91,10 +98,6 @@ begins_with bytes h begins long =
     let number_is = first_bytes 12 (drop 8 bytes) behind_cookie (omega (arith, length-drop 8 bytes)) in
     let cookie-is = cookie_is (take 4 (drop 4 bytes)) (omega (arith, length-take 4 (drop 4 bytes), length-drop 4 bytes)) tests.1 in
     record {
-      kind = kind_at bytes;
-      len = length_at bytes;
-      number = big_number 12 (drop 8 bytes);
-      rest = drop 20 bytes;
       text = pieces bytes ∙ joined (take 2 bytes) (take 2 (drop 2 bytes)) (take 4 (drop 4 bytes)) (take 12 (drop 8 bytes)) (drop 20 bytes) (big_bytes 2 (kind_at bytes)) (big_bytes 2 (length_at bytes)) cookie (big_bytes 12 (big_number 12 (drop 8 bytes))) (sym type_is) (sym length_is) cookie-is (sym number_is);
       kind_fits = omega arith;
       len_fits = big_from-lt 0 2 (drop 2 bytes) (byte_below (drop 2 bytes) behind_type);
@@ -103,6 +106,11 @@ begins_with bytes h begins long =
   where
     joined : (a b c d rest a' b' c' d' : List ℕ) → a ≡ a' → b ≡ b' → c ≡ c' → d ≡ d' → a ++ (b ++ (c ++ (d ++ rest))) ≡ ((a' ++ b') ++ c' ++ d') ++ rest
     joined a b c d rest a' b' c' d' p q r t = rw (p, q, r, t) (simp append_assoc)
+
+pub begins_with : (bytes : List ℕ) → AreBytes bytes → may_begin bytes ≡ true → 20 ≤ length bytes → BeginsWithHeader bytes
+begins_with bytes h begins long =
+    let told = tells_header bytes h begins long in
+    record { kind = kind_at bytes; len = length_at bytes; number = number_at bytes; rest = drop 20 bytes; text = told.text; kind_fits = told.kind_fits; len_fits = told.len_fits; number_fits = told.number_fits }
 
 -- ---- some bytes that may begin a header become one
 

@@ -4,3 +4,5 @@ pub mod Left
 pub mod Longest
 pub mod Numbers
 pub mod HeaderLaws
+pub mod Texts
+pub mod Converse

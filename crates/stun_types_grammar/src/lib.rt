@@ -4,10 +4,12 @@
 
 ghost use Rattle.std.specs.Prelude.{◌≡◌, ◌↔◌, ◌<◌, List, ℕ, drop, length, Some, None};
 ghost use Rattle.stun_types_wire.specs.declared.error.StunParseError.TheVariants.{NotStun, Truncated};
-ghost use Rattle.stun_types_wire.specs.Attributes.{attributes};
+ghost use Rattle.stun_types_wire.specs.Attributes.{Attr, attributes, kind_at};
 ghost use Rattle.stun_types_wire.specs.Shape.{IsLongestFront};
-ghost use Rattle.stun_types_wire.specs.Grammar.{shown, header_refusal};
+ghost use Rattle.stun_types_wire.specs.Grammar.{shown, refusal, header_refusal, fingerprint_refusal, number_at};
+ghost use Rattle.stun_types_wire.specs.Text.{IsTextOf};
 ghost use Rattle.stun_types_grammar.specs.Headers.{AreBytes, BeginsWithHeader, MayBecomeHeader};
+ghost use Rattle.stun_types_grammar.specs.Reading.{IsReadAs};
 
 /// What a message shows is the longest front in the shape of the list of whole attributes behind
 /// its header, and is itself in the shape (RFC 8489, sections 14.5 to 14.7).
@@ -23,5 +25,20 @@ pub fn header_refusals()
     ensures not_stun { (bytes : List ℕ) → AreBytes bytes → (header_refusal bytes ≡ Some NotStun) ↔ (¬ MayBecomeHeader bytes) }
     ensures truncated { (bytes : List ℕ) → AreBytes bytes → (header_refusal bytes ≡ Some (Truncated 20 (length bytes))) ↔ ((length bytes < 20) × MayBecomeHeader bytes) }
     ensures accepted { (bytes : List ℕ) → AreBytes bytes → (header_refusal bytes ≡ None) ↔ BeginsWithHeader bytes }
+{
+}
+
+/// The text of a message is read as that message, whatever its padding is and whatever stands
+/// behind where the shape is left (RFC 8489, sections 5 and 14).
+pub fn text_is_read()
+    ensures { (kind number : ℕ) (all : List Attr) (bytes : List ℕ) → IsTextOf kind number all bytes → fingerprint_refusal all ≡ None → IsReadAs kind number all bytes }
+{
+}
+
+/// A message is the text of what is read of it: the header that it tells, each attribute that it
+/// shows with some padding, and behind them nothing, or four bytes and more that begin with a type
+/// by which the shape is left. With the law before, this says which bytes are a message.
+pub fn message_is_text()
+    ensures { (bytes : List ℕ) → AreBytes bytes → refusal bytes ≡ None → IsTextOf (kind_at bytes) (number_at bytes) (shown bytes) bytes }
 {
 }
