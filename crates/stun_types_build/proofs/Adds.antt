@@ -143,3 +143,26 @@ pub pushed_long : (bytes pushed text : List ℕ) → IsBegun bytes → pushed �
 pushed_long bytes pushed text begun is =
     let long = long_enough bytes begun in
     rw is (omega (arith, length-append bytes text))
+
+-- what follows a header leaves it begun
+begins_more : (bytes text : List ℕ) → 20 ≤ length bytes → may_begin bytes ≡ true → may_begin (bytes ++ text) ≡ true
+begins_more (a ∷ b ∷ c ∷ d ∷ e ∷ f ∷ g ∷ h ∷ rest) text long begins = begins
+begins_more [] text long begins = absurd (omega arith)
+begins_more (a ∷ []) text long begins = absurd (omega arith)
+begins_more (a ∷ b ∷ []) text long begins = absurd (omega arith)
+begins_more (a ∷ b ∷ c ∷ []) text long begins = absurd (omega arith)
+begins_more (a ∷ b ∷ c ∷ d ∷ []) text long begins = absurd (omega arith)
+begins_more (a ∷ b ∷ c ∷ d ∷ e ∷ []) text long begins = absurd (omega arith)
+begins_more (a ∷ b ∷ c ∷ d ∷ e ∷ f ∷ []) text long begins = absurd (omega arith)
+begins_more (a ∷ b ∷ c ∷ d ∷ e ∷ f ∷ g ∷ []) text long begins = absurd (omega arith)
+
+pub pushed_begun : (bytes pushed : List ℕ) (a : Attr) → IsBegun bytes → pushed ≡ bytes ++ attribute_text a → length bytes + attr_size a ≤ greatest_size → IsBegun pushed
+unfolding header_refusal
+pushed_begun bytes pushed a begun is fits =
+    let long = long_enough bytes begun in
+    let all = bytes ++ attribute_text a in
+    let size : length all ≡ length bytes + attr_size a = omega (arith, length-append bytes (attribute_text a), length-attribute_text a) in
+    rw is (record {
+      header = rw (begins_more bytes (attribute_text a) long (begins_of bytes begun.header), le-ltb (length all) 20 (omega (arith, size))) refl;
+      size = omega (arith, size)
+    })

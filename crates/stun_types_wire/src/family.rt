@@ -14,6 +14,11 @@ pub enum AddressFamily {
 
 /// Prints `IPV4` or `IPV6`.
 impl fmt::Display for AddressFamily {
+    ghost use Rattle.std.specs.Prelude.{Some};
+    ghost use Rattle.stun_types_wire.specs.Family.{name_of_family};
+
+    ghost output = { λ family. Some (name_of_family family) };
+
     fn fmt<W: fmt::Write>(&self, f: &mut fmt::Formatter<W>) -> fmt::Result {
         match self {
             AddressFamily::IPV4 => write!(f, "IPV4"),

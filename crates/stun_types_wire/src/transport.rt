@@ -23,6 +23,11 @@ pub enum ParseTransportTypeError {
 
 /// Prints `UDP` or `TCP`.
 impl fmt::Display for TransportType {
+    ghost use Rattle.std.specs.Prelude.{Some};
+    ghost use Rattle.stun_types_wire.specs.Transport.{name_of_transport};
+
+    ghost output = { λ transport. Some (name_of_transport transport) };
+
     fn fmt<W: fmt::Write>(&self, f: &mut fmt::Formatter<W>) -> fmt::Result {
         match self {
             TransportType::Udp => write!(f, "UDP"),

@@ -1,0 +1,6 @@
+-- The definitions that this crate's contracts cite.
+pub use Rattle.stun_types_wire.specs.Attributes
+pub use Rattle.stun_types_wire.specs.Grammar
+pub use Rattle.stun_types_wire.specs.Shape
+pub use Rattle.stun_types_wire.specs.Text
+pub use Rattle.stun_types_wire.specs.Types

@@ -1,0 +1,12 @@
+//! Messages (RFC 8489, section 5).
+
+pub use stun_types_build::ext::MessageWriteExt;
+pub use stun_types_message::iter::MessageAttributesIter;
+pub use stun_types_message::message::Message;
+pub use stun_types_wire::algorithm::IntegrityAlgorithm;
+pub use stun_types_wire::class::{BINDING, MessageClass, MessageType, Method};
+pub use stun_types_wire::error::{StunParseError, StunWriteError, ValidateError};
+pub use stun_types_wire::header::MessageHeader;
+pub use stun_types_wire::transaction::{MAGIC_COOKIE, TransactionId};
+pub use stun_types_write::vec::MessageWriteVec;
+pub use stun_types_write::writer::MessageWrite;

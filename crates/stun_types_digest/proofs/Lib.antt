@@ -1,0 +1,4 @@
+pub mod Register
+pub mod Remainder
+pub mod Table
+pub mod Chunks

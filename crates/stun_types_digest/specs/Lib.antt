@@ -1,0 +1,3 @@
+pub mod Hmac
+pub mod HmacState
+pub mod Crc

@@ -1,0 +1,34 @@
+//! Known CRC-32 values: the check value of the catalogue of CRCs, the sentence that shows all letters,
+//! and a FINGERPRINT without its xor.
+
+use crate::crc::{Crc32, bitwise};
+
+#[test]
+fn check_value(rt: HostRuntime) {
+    assert_eq!(rt; Crc32::checksum(b"123456789"), 0xcbf4_3926);
+    assert_eq!(rt; bitwise::checksum(b"123456789"), 0xcbf4_3926);
+    assert_eq!(rt; Crc32::of_pieces(b"1", b"23", b"456789"), 0xcbf4_3926);
+}
+
+#[test]
+fn several_steps_of_eight_bytes(rt: HostRuntime) {
+    let text = b"The quick brown fox jumps over the lazy dog";
+    assert_eq!(rt; Crc32::checksum(text), 0x414f_a339);
+    let mut state = Crc32::default();
+    for piece in text.chunks(17) {
+        state.update(piece);
+    }
+    assert_eq!(rt; state.finalize(), 0x414f_a339);
+}
+
+#[test]
+fn four_bytes_of_a_fingerprint(rt: HostRuntime) {
+    assert_eq!(rt; Crc32::checksum(&[99; 4]).to_be_bytes(), [216, 45, 250, 14]);
+}
+
+#[test]
+fn empty_text(rt: HostRuntime) {
+    assert_eq!(rt; Crc32::checksum(b""), 0);
+    assert_eq!(rt; bitwise::checksum(b""), 0);
+    assert_eq!(rt; Crc32::of_pieces(b"", b"", b""), 0);
+}
