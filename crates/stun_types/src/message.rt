@@ -1,6 +1,6 @@
 //! Messages (RFC 8489, section 5).
 
-pub use stun_types_build::ext::MessageWriteExt;
+pub use stun_types_build::ext::{MessageWriteExt, add_as};
 pub use stun_types_message::iter::MessageAttributesIter;
 pub use stun_types_message::message::Message;
 pub use stun_types_wire::algorithm::IntegrityAlgorithm;

@@ -13,7 +13,7 @@ use stun_types_wire::class::{MessageClass, MessageType, Method};
 use stun_types_wire::error::StunWriteError;
 use stun_types_wire::header::MessageHeader;
 use stun_types_wire::transaction::TransactionId;
-use stun_types_write::attribute::AttributeWrite;
+use stun_types_write::attribute::{Attribute, AttributeWrite};
 use stun_types_write::writer::MessageWrite;
 
 /// The greatest length that a header tells, in sixteen bits.
@@ -138,6 +138,29 @@ impl<W: MessageWrite> MessageWriteExt for W {
         self.set_length((end - MessageHeader::LENGTH) as u16);
         Ok(())
     }
+}
+
+/// `add_attribute` of an attribute whose type is known. The two are one value, as a `dyn` and as
+/// itself: contracts then know what is added by its own type.
+pub fn add_as<W: MessageWrite, A: AttributeWrite>(
+    writer: &mut W,
+    attribute: &dyn AttributeWrite,
+    same: &A,
+) -> Result<(), StunWriteError>
+    requires begun { IsBegun (W.written writer.old) }
+    requires ordinary { rank (A.kind same.now) ≡ 0 }
+    requires kind { (⟦<dyn AttributeWrite as Attribute>⟧ attribute.now.0).kind attribute.now.1 ≡ A.kind same.now }
+    requires value { (⟦<dyn AttributeWrite as Attribute>⟧ attribute.now.0).value attribute.now.1 ≡ A.value same.now }
+    ensures ok { OnOk result (W.written writer.new ≡ after_add (W.written writer.old) (attr_of (A.kind same.now) (A.value same.now))) }
+    ensures kinds { OnOk result (W.kinds writer.new ≡ W.kinds writer.old ++ A.kind same.now ∷ []) }
+    ensures text { OnOk result ((mtype number : ℕ) (adds : List Attr) → W.written writer.old ≡ message_text mtype number adds → W.written writer.new ≡ message_text mtype number (adds ++ attr_of (A.kind same.now) (A.value same.now) ∷ [])) }
+    ensures accepted { OnOk result (add_refusal (W.kinds writer.old) (W.limit writer.old) (length (W.written writer.old)) (attr_size (attr_of (A.kind same.now) (A.value same.now))) ≡ None) }
+    ensures refused { IfErr result (λ error. error ≢ StunWriteError.NoMemory → add_refusal (W.kinds writer.old) (W.limit writer.old) (length (W.written writer.old)) (attr_size (attr_of (A.kind same.now) (A.value same.now))) ≡ Some error) }
+    ensures unchanged { OnErr result ((W.written writer.new ≡ W.written writer.old) × (W.kinds writer.new ≡ W.kinds writer.old)) }
+    ensures limit { W.limit writer.new ≡ W.limit writer.old }
+    ensures begun { IsBegun (W.written writer.new) }
+{
+    writer.add_attribute(attribute)
 }
 
 /// The header of a message that was begun.

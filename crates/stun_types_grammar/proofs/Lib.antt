@@ -6,3 +6,4 @@ pub mod Numbers
 pub mod HeaderLaws
 pub mod Texts
 pub mod Converse
+pub mod Written

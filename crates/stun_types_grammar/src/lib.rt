@@ -2,12 +2,13 @@
 //! RFC 8489. The functions do nothing; each contract is a law.
 #![tactic(auto)]
 
-ghost use Rattle.std.specs.Prelude.{◌≡◌, ◌↔◌, ◌<◌, List, ℕ, drop, length, Some, None};
+ghost use Rattle.std.specs.Prelude.{◌≡◌, ◌↔◌, ◌<◌, ◌^◌, List, ℕ, drop, length, Some, None};
 ghost use Rattle.stun_types_wire.specs.declared.error.StunParseError.TheVariants.{NotStun, Truncated};
 ghost use Rattle.stun_types_wire.specs.Attributes.{Attr, attributes, kind_at};
-ghost use Rattle.stun_types_wire.specs.Shape.{IsLongestFront};
+ghost use Rattle.stun_types_wire.specs.Shape.{IsLongestFront, IsShape, kinds_of};
 ghost use Rattle.stun_types_wire.specs.Grammar.{shown, refusal, header_refusal, fingerprint_refusal, number_at};
-ghost use Rattle.stun_types_wire.specs.Text.{IsTextOf};
+ghost use Rattle.stun_types_wire.specs.Text.{IsTextOf, FitsAttribute, body_text, message_text};
+ghost use Rattle.std.specs.List.{AllByRecursion};
 ghost use Rattle.stun_types_grammar.specs.Headers.{AreBytes, BeginsWithHeader, MayBecomeHeader};
 ghost use Rattle.stun_types_grammar.specs.Reading.{IsReadAs};
 
@@ -40,5 +41,19 @@ pub fn text_is_read()
 /// by which the shape is left. With the law before, this says which bytes are a message.
 pub fn message_is_text()
     ensures { (bytes : List ℕ) → AreBytes bytes → refusal bytes ≡ None → IsTextOf (kind_at bytes) (number_at bytes) (shown bytes) bytes }
+{
+}
+
+/// A message as a writer writes it is accepted, and read as its type, its number and the attributes
+/// that were added.
+pub fn written_is_read()
+    ensures { (kind number : ℕ) (all : List Attr)
+        → kind < 2 ^ 14
+        → number < 2 ^ 96
+        → AllByRecursion FitsAttribute all
+        → IsShape (kinds_of all)
+        → length (body_text all) < 2 ^ 16
+        → fingerprint_refusal all ≡ None
+        → IsReadAs kind number all (message_text kind number all) }
 {
 }

@@ -1,0 +1,2 @@
+pub mod NonceLemmas
+pub mod OrderLemmas

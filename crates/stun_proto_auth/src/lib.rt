@@ -1,0 +1,7 @@
+//! Authentication of STUN messages: what both sides of long-term credentials share (RFC 8489,
+//! section 9.2). It performs no input or output.
+#![tactic(auto)]
+
+pub mod feature;
+pub mod nonce;
+pub mod supported;

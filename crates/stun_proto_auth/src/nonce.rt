@@ -1,0 +1,213 @@
+//! The text of a server's nonce, which tells the client of security features (RFC 8489, section
+//! 9.2).
+
+ghost use Rattle.std.specs.Prelude.{◌≡◌, ◌<◌, ◌≤◌, IfOk, ℕ, List, length};
+ghost use Rattle.std.specs.String.{string_bytes};
+ghost use Rattle.stun_proto_auth.specs.Nonce.{nonce_character, nonce_text, features_told};
+ghost use Rattle.stun_proto_auth.specs.declared.nonce.NonceFeatures.{NonceFeatures};
+
+use crate::feature::Feature;
+use crate::supported::SupportedIntegrity;
+use base64::engine::general_purpose::STANDARD;
+use std::alloc::Global;
+use stun_types_base::memory::NoMemory;
+use stun_types_wire::algorithm::IntegrityAlgorithm;
+
+/// What the nonce of a server begins with, where the server tells of its security features.
+pub const LONG_TERM_RFC8489_NONCE_COOKIE: &str = "obMatJos2";
+
+/// The characters that follow the features in a nonce: A to Z, a to z, 0 to 9.
+const ALPHABET: &[u8; 62] = b"ABCDEFGHIJKLMNOPQRSTUVWXYZabcdefghijklmnopqrstuvwxyz0123456789";
+
+/// The security features that a nonce tells of (RFC 8489, section 18.1).
+#[derive(Clone, Copy, Debug, PartialEq, Eq)]
+pub struct NonceFeatures {
+    /// The server offers a list of password algorithms.
+    pub password_algorithms: bool,
+    /// The server takes a hash of the user's name in place of the name.
+    pub anonymous_username: bool,
+}
+
+impl NonceFeatures {
+    ghost use Rattle.stun_proto_auth.specs.Nonce.{features_offered, feature_bytes, features_decoded, features_of_byte};
+    ghost use Rattle.base64.specs.GeneralPurpose.{decode_of};
+    ghost use Rattle.base64.specs.Engines.{standard};
+
+    /// The features of a server: password algorithms where it supports anything but Sha1 alone,
+    /// and anonymous names unless they are disabled.
+    pub fn offered(supported: SupportedIntegrity, anonymous_username: Feature) -> Self
+        ensures { result ≡ features_offered supported anonymous_username }
+    {
+        let password_algorithms = supported != SupportedIntegrity::only(IntegrityAlgorithm::Sha1);
+        let anonymous_username = anonymous_username != Feature::Disabled;
+        NonceFeatures {
+            password_algorithms,
+            anonymous_username,
+        }
+    }
+
+    /// The features that a nonce tells a client of. A nonce tells of none where it doesn't begin
+    /// with the cookie, or where the next four characters are missing or don't decode to three
+    /// bytes in base64's standard alphabet.
+    pub fn told_by(nonce: &str) -> Self
+        ensures { result ≡ features_told nonce.now }
+    {
+        let cookie = LONG_TERM_RFC8489_NONCE_COOKIE.as_bytes();
+        let Some(after_cookie) = nonce.as_bytes().strip_prefix(cookie) else {
+            return NonceFeatures::NONE;
+        };
+        NonceFeatures::of_characters(&after_cookie[..after_cookie.len().min(4)])
+    }
+
+    /// The features of the bytes that characters decode to: of none, where those aren't three.
+    fn of_characters(characters: &[u8]) -> Self
+        requires { length characters.now ≤ 4 }
+        ensures { result ≡ features_decoded (decode_of standard characters.now) }
+    {
+        let mut bytes = [0; 3];
+        let Ok(count) = STANDARD.decode_slice_unchecked(characters, &mut bytes) else {
+            return NonceFeatures::NONE;
+        };
+        if count == 3 {
+            NonceFeatures::of_byte(bytes[0])
+        } else {
+            NonceFeatures::NONE
+        }
+    }
+
+    /// No features.
+    const NONE: NonceFeatures = NonceFeatures {
+        password_algorithms: false,
+        anonymous_username: false,
+    };
+
+    /// The features whose bits are set in the first byte of the three.
+    fn of_byte(byte: u8) -> Self
+        ensures { result ≡ features_of_byte byte }
+    {
+        NonceFeatures {
+            password_algorithms: byte & 0x80 != 0,
+            anonymous_username: byte & 0x40 != 0,
+        }
+    }
+
+    /// The three bytes of the features.
+    fn bytes(self) -> [u8; 3]
+        ensures { result ≡ feature_bytes self }
+    {
+        let password_algorithms = if self.password_algorithms { 0x80 } else { 0 };
+        let anonymous_username = if self.anonymous_username { 0x40 } else { 0 };
+        [password_algorithms + anonymous_username, 0, 0]
+    }
+}
+
+/// The character of a word in a nonce.
+fn character(word: u32) -> char
+    ensures value { result ≡ nonce_character word }
+    ensures ascii { result < 128 }
+{
+    char::from(ALPHABET[(word % 62) as usize])
+}
+
+/// The text of a nonce: the cookie, the features in four base64 characters, and for each word the
+/// character at its remainder by 62 in A to Z, a to z, 0 to 9. Refused where memory is.
+pub fn write_nonce(
+    alloc: Global,
+    features: NonceFeatures,
+    words: &[u32],
+) -> Result<String, NoMemory>
+    ensures { IfOk result (λ nonce. string_bytes nonce ≡ nonce_text features words.now) }
+{
+    let mut nonce = String::from_str(alloc, LONG_TERM_RFC8489_NONCE_COOKIE)?;
+    STANDARD.encode_string(&features.bytes(), &mut nonce)?;
+    for word in words {
+        nonce.push(character(*word))?;
+    }
+    Ok(nonce)
+}
+
+/// The law of reading: a nonce tells a client of the features that it was written with.
+pub fn nonce_tells_its_features()
+    ensures { (features : NonceFeatures) (words : List ℕ) → features_told (nonce_text features words) ≡ features }
+{}
+
+#[cfg(test)]
+mod tests {
+    use super::*;
+    use std::test::Fail;
+
+    fn features(password_algorithms: bool, anonymous_username: bool) -> NonceFeatures {
+        NonceFeatures {
+            password_algorithms,
+            anonymous_username,
+        }
+    }
+
+    #[test]
+    fn writes_the_alphabet_by_remainders(rt: HostRuntime) -> Result<(), Fail> {
+        let words = [0, 25, 26, 51, 52, 61, 62, 4_294_967_295];
+        let nonce = write_nonce(rt.alloc(), features(true, true), &words)?;
+        assert_eq!(rt; nonce.as_str(), "obMatJos2wAAAAZaz09AD");
+        Ok(())
+    }
+
+    #[test]
+    fn offers_what_the_server_has(rt: HostRuntime) {
+        let sha1 = SupportedIntegrity::only(IntegrityAlgorithm::Sha1);
+        let both = sha1.with(IntegrityAlgorithm::Sha256);
+        assert_eq!(rt; both.as_slice().len(), 2);
+        assert_eq!(rt;
+            NonceFeatures::offered(sha1, Feature::Disabled),
+            features(false, false)
+        );
+        assert_eq!(rt;
+            NonceFeatures::offered(sha1, Feature::Required),
+            features(false, true)
+        );
+        assert_eq!(rt;
+            NonceFeatures::offered(both, Feature::Disabled),
+            features(true, false)
+        );
+        assert_eq!(rt;
+            NonceFeatures::offered(both, Feature::Auto),
+            features(true, true)
+        );
+    }
+
+    #[test]
+    fn reads_the_two_bits(rt: HostRuntime) {
+        assert_eq!(rt;
+            NonceFeatures::told_by("obMatJos2AAAA"),
+            features(false, false)
+        );
+        assert_eq!(rt;
+            NonceFeatures::told_by("obMatJos2gAAAxyz"),
+            features(true, false)
+        );
+        assert_eq!(rt;
+            NonceFeatures::told_by("obMatJos2QAAAxyz"),
+            features(false, true)
+        );
+        assert_eq!(rt;
+            NonceFeatures::told_by("obMatJos2wAAA"),
+            features(true, true)
+        );
+        assert_eq!(rt;
+            NonceFeatures::told_by("obMatJos2w"),
+            features(false, false)
+        );
+        assert_eq!(rt;
+            NonceFeatures::told_by("obMatJos2wAA="),
+            features(false, false)
+        );
+        assert_eq!(rt;
+            NonceFeatures::told_by("obMatJos2_AAA"),
+            features(false, false)
+        );
+        assert_eq!(rt;
+            NonceFeatures::told_by("abMatJos2wAAA"),
+            features(false, false)
+        );
+        assert_eq!(rt; NonceFeatures::told_by(""), features(false, false));
+    }
+}

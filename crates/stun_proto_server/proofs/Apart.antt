@@ -1,0 +1,80 @@
+-- A change for one address is not seen by another.
+use Rattle.std.proofs.Common.{◌≡◌, ◌≢◌, ℕ, true, false, Some, None, refl, ap, ◌∙◌, cond}
+use Rattle.std.specs.FinMap as map
+use Rattle.std.specs.Ordering.{is_eq, eq_by_cmp}
+use Rattle.std.specs.declared.cmp.Ordering.{Ordering}
+use Rattle.std.specs.declared.cmp.Ordering.TheVariants.{Less, Equal, Greater}
+use Rattle.std.specs.declared.net.socket_addr.SocketAddr.{SocketAddr}
+use Rattle.rand_core.specs.Stream.{Stream}
+use Rattle.stun_proto_server.specs.Server.{Client, Server, with_new_nonce, SameFor}
+use Rattle.stun_types_base.specs.SocketAddrs.{socket_addr_cmp, socket_addr_cmp_total, socket_addr_cmp-IsAntisymmetric}
+
+-- a comparison that ties answers equal
+tie : (answer : Ordering) → is_eq answer ≡ true → answer ≡ Equal
+tie Less is = absurd (Prim.cc is)
+tie Equal is = refl
+tie Greater is = absurd (Prim.cc is)
+
+-- different addresses don't tie
+apart : (other client : SocketAddr) → other ≢ client → eq_by_cmp socket_addr_cmp other client ≡ false
+apart other client different =
+    elim (eq_by_cmp socket_addr_cmp other client) as (λ b. eq_by_cmp socket_addr_cmp other client ≡ b → b ≡ false) [
+      | true ↦ λ is. absurd (different (socket_addr_cmp-IsAntisymmetric other client (tie (socket_addr_cmp other client) is)))
+      | false ↦ λ is. refl
+    ] refl
+
+-- what is kept for another address stays where something is kept for this one
+pub get-insert-other : (m : map.FinMap socket_addr_cmp Client) (client other : SocketAddr) (kept : Client) → other ≢ client
+    → map.get (map.insert m client kept) other ≡ map.get m other
+get-insert-other m client other kept different =
+    map.get-insert socket_addr_cmp_total m client kept other ∙ ap (λ b. cond b (Some kept) (map.get m other)) (apart other client different)
+
+-- what is kept for another address stays where this one is forgotten
+pub get-remove-other : (m : map.FinMap socket_addr_cmp Client) (client other : SocketAddr) → other ≢ client
+    → map.get (map.remove m client) other ≡ map.get m other
+get-remove-other m client other different =
+    map.get-remove socket_addr_cmp_total m client other ∙ ap (λ b. cond b None (map.get m other)) (apart other client different)
+
+-- no address tells a server from itself
+pub same_for-refl : (client : SocketAddr) (old new : Server) → new ≡ old → SameFor client old new
+same_for-refl client old new same = record {
+  realm = ap (λ s. s.realm) same;
+  users = ap (λ s. s.users) same;
+  nonce_expiry = ap (λ s. s.nonce_expiry) same;
+  algorithms = ap (λ s. s.algorithms) same;
+  anonymous_username = ap (λ s. s.anonymous_username) same;
+  kept = ap (λ s. map.get s.clients client) same;
+}
+
+-- what no address but one can see, none but that one can see where it is the server that is
+pub same_for-is : (client : SocketAddr) (old middle new : Server) → new ≡ middle → SameFor client old middle → SameFor client old new
+same_for-is client old middle new is same = record {
+  realm = ap (λ s. s.realm) is ∙ same.realm;
+  users = ap (λ s. s.users) is ∙ same.users;
+  nonce_expiry = ap (λ s. s.nonce_expiry) is ∙ same.nonce_expiry;
+  algorithms = ap (λ s. s.algorithms) is ∙ same.algorithms;
+  anonymous_username = ap (λ s. s.anonymous_username) is ∙ same.anonymous_username;
+  kept = ap (λ s. map.get s.clients client) is ∙ same.kept;
+}
+
+-- other addresses don't see that one is forgotten
+pub removed_others : (old new : Server) (client other : SocketAddr) → new ≡ record old { clients = map.remove old.clients client } → other ≢ client → SameFor other old new
+removed_others old new client other is different = same_for-is other old (record old { clients = map.remove old.clients client }) new is (record {
+  realm = refl;
+  users = refl;
+  nonce_expiry = refl;
+  algorithms = refl;
+  anonymous_username = refl;
+  kept = get-remove-other old.clients client other different;
+})
+
+-- other addresses don't see that a nonce is drawn for one
+pub drawn_others : (old new : Server) (from other : SocketAddr) (now : ℕ) (stream : Stream) → new ≡ with_new_nonce old from now stream → other ≢ from → SameFor other old new
+drawn_others old new from other now stream is different = same_for-is other old (with_new_nonce old from now stream) new is (record {
+  realm = refl;
+  users = refl;
+  nonce_expiry = refl;
+  algorithms = refl;
+  anonymous_username = refl;
+  kept = get-insert-other old.clients from other _ different;
+})

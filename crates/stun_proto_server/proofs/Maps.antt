@@ -1,0 +1,74 @@
+-- The maps of a server, as its fields keep them and as contracts see them.
+use Rattle.std.proofs.Common.{◌≡◌, ℕ, List, Option, Some, None, refl, sym, ap, ◌∙◌, cond, nat_lt, ◌==◌, true, false}
+use Rattle.std.specs.BTreeMap as tree
+use Rattle.std.specs.Cmp.Lexicographic.{slice_cmp, nat_list_cmp_total}
+use Rattle.std.specs.FinMap as map
+use Rattle.std.specs.FinMap.{slice_cmp-IsAntisymmetric, nat_cmp-IsAntisymmetric}
+use Rattle.std.specs.Option.{option_map}
+use Rattle.std.specs.Ordering.{is_eq, is_lt, nat_cmp}
+use Rattle.std.specs.String.{string_bytes, string_cmp}
+use Rattle.std.specs.declared.alloc.Global.{Global}
+use Rattle.std.specs.declared.cmp.Ordering.TheVariants.{Less, Equal, Greater}
+use Rattle.std.specs.declared.net.socket_addr.SocketAddr.{SocketAddr}
+use Rattle.std.specs.declared.string.String.{String}
+use Rattle.std.proofs.lemmas.Map.Text.{btree_map_updates_text, is_eq-slice_cmp}
+use Rattle.stun_proto_server.specs.Server.{Client, Server}
+use Rattle.stun_proto_server.specs.View.{client_of, server_of}
+use Rattle.stun_proto_server.specs.declared.long_term.ClientRecord.{ClientRecord}
+use Rattle.stun_proto_server.specs.declared.long_term.LongTermServerAuth.TheInside.{Inside}
+use Rattle.stun_types_base.proofs.MapView.{get-finite_map, insert-finite_map, remove-finite_map}
+use Rattle.stun_types_base.specs.SocketAddrs.{socket_addr_cmp, socket_addr_cmp_total, socket_addr_cmp-IsAntisymmetric}
+use Rattle.stun_types_integrity.specs.Credentials.{NameAndPassword}
+
+-- what is found for an address
+pub get-clients : (s : Inside) (server : Server) (client : SocketAddr) (found : Option ClientRecord)
+    → server_of s ≡ server → found ≡ tree.get socket_addr_cmp s.clients client → map.get server.clients client ≡ option_map client_of found
+get-clients s server client found view_is is =
+    ap (λ v. map.get v.clients client) (sym view_is) ∙ get-finite_map (λ key. key) socket_addr_cmp_total client_of s.clients client
+    ∙ ap (option_map client_of) (sym is)
+
+-- something is kept for an address
+pub insert-clients : (s : Inside) (new : tree.BTreeMap SocketAddr ClientRecord) (server : Server) (client : SocketAddr) (kept : ClientRecord)
+    → server_of s ≡ server → tree.Updates socket_addr_cmp s.clients new client (Some kept)
+    → server_of (record s { clients = new }) ≡ record server { clients = map.insert server.clients client (client_of kept) }
+insert-clients s new server client kept view_is updates =
+    ap {A = map.FinMap socket_addr_cmp Client} {B = Server} (λ m. record (server_of s) { clients = m })
+    (insert-finite_map (λ key. key) socket_addr_cmp_total client_of socket_addr_cmp-IsAntisymmetric s.clients new client kept updates.0)
+    ∙ ap {A = Server} {B = Server} (λ v. record v { clients = map.insert v.clients client (client_of kept) }) view_is
+
+-- nothing is kept for an address any more
+pub remove-clients : (s : Inside) (new : tree.BTreeMap SocketAddr ClientRecord) (server : Server) (client : SocketAddr)
+    → server_of s ≡ server → tree.Updates socket_addr_cmp s.clients new client None
+    → server_of (record s { clients = new }) ≡ record server { clients = map.remove server.clients client }
+remove-clients s new server client view_is updates =
+    ap {A = map.FinMap socket_addr_cmp Client} {B = Server} (λ m. record (server_of s) { clients = m })
+    (remove-finite_map (λ key. key) socket_addr_cmp_total client_of socket_addr_cmp-IsAntisymmetric s.clients new client updates.0)
+    ∙ ap {A = Server} {B = Server} (λ v. record v { clients = map.remove v.clients client }) view_is
+
+-- the password of a user's credentials
+abbrev pub password_of : NameAndPassword → List ℕ
+password_of user = user.password
+
+-- a user's new credentials, at each name
+users_updates : (s : Inside) (new : tree.BTreeMap (String Global) NameAndPassword) (name : List ℕ) (user : Option NameAndPassword)
+    → tree.UpdatesBy string_cmp (λ key. slice_cmp nat_cmp name (string_bytes key)) s.users new user
+    → (q : List ℕ) → tree.get_by_text new q ≡ cond (is_eq (slice_cmp nat_cmp name q)) user (tree.get_by_text s.users q)
+users_updates s new name user updates q =
+    btree_map_updates_text name s.users new user updates q ∙ ap (λ b. cond b user (tree.get_by_text s.users q)) (sym (is_eq-slice_cmp name q))
+
+-- a user is kept by name
+pub insert-users : (s : Inside) (new : tree.BTreeMap (String Global) NameAndPassword) (server : Server) (name : List ℕ) (user : NameAndPassword)
+    → server_of s ≡ server → tree.UpdatesBy string_cmp (λ key. slice_cmp nat_cmp name (string_bytes key)) s.users new (Some user)
+    → server_of (record s { users = new }) ≡ record server { users = map.insert server.users name user.password }
+insert-users s new server name user view_is updates =
+    ap {A = map.FinMap (slice_cmp nat_cmp) (List ℕ)} {B = Server} (λ m. record (server_of s) { users = m })
+    (insert-finite_map string_bytes nat_list_cmp_total password_of (slice_cmp-IsAntisymmetric nat_cmp-IsAntisymmetric) s.users new name user (users_updates s new name (Some user) updates))
+    ∙ ap {A = Server} {B = Server} (λ v. record v { users = map.insert v.users name user.password }) view_is
+
+-- the order's test for less is the test for less
+pub is_lt-nat_cmp : (a b : ℕ) → is_lt (nat_cmp a b) ≡ nat_lt a b
+is_lt-nat_cmp a b =
+    elim (nat_lt a b) as (λ below. is_lt (cond below Less (cond (a == b) Equal Greater)) ≡ below) [
+      | true ↦ refl
+      | false ↦ elim (a == b) as (λ same. is_lt (cond same Equal Greater) ≡ false) [ true ↦ refl | false ↦ refl ]
+    ]

@@ -1,0 +1,95 @@
+-- What contracts see of a server's side of long-term authentication.
+use Rattle.std.specs.Prelude.{◌≡◌, ℕ, nat_lt, Bool, false, if◌then◌else◌, List, Option, None, Some, refl}
+use Rattle.std.specs.Cmp.Lexicographic.{slice_cmp}
+use Rattle.std.specs.Coded.{Coded, code_by, coded×, coded_ℕ, coded_list}
+use Rattle.std.specs.FinMap as map
+use Rattle.std.specs.Option.{option_map}
+use Rattle.std.specs.Ordering.{nat_cmp}
+use Rattle.std.specs.contracts.net.socket_addr.SocketAddr as addr
+use Rattle.std.specs.declared.net.socket_addr.SocketAddr.{SocketAddr}
+use Rattle.rand_core.specs.Stream.{Stream}
+use Rattle.stun_proto_agent.specs.Moments.{moment_after}
+use Rattle.stun_proto_auth.specs.contracts.feature.Feature as feature
+use Rattle.stun_proto_auth.specs.declared.feature.Feature.{Feature}
+use Rattle.stun_proto_auth.specs.Nonce.{features_offered, nonce_text}
+use Rattle.stun_types_base.specs.SocketAddrs.{socket_addr_cmp}
+use Rattle.stun_types_base.specs.Words.{words_of}
+use Rattle.stun_types_wire.specs.contracts.algorithm.IntegrityAlgorithm as algorithm
+use Rattle.stun_types_wire.specs.declared.algorithm.IntegrityAlgorithm.{IntegrityAlgorithm}
+
+-- what is kept for one address: the nonce's text and the moment of its drawing
+pub record Client : Type 0 where
+  pub nonce : List ℕ
+  pub drawn : ℕ
+
+-- a server: the realm, each user's password by name, what is kept for each address, how many nanoseconds a nonce stands, and what it supports
+pub record Server : Type 0 where
+  pub realm : List ℕ
+  pub users : map.FinMap (slice_cmp nat_cmp) (List ℕ)
+  pub clients : map.FinMap socket_addr_cmp Client
+  pub nonce_expiry : ℕ
+  pub algorithms : List IntegrityAlgorithm
+  pub anonymous_username : Feature
+
+-- the code of what is kept for one address
+abbrev pub client_code : Coded Client
+client_code =
+    code_by (List ℕ × ℕ) (coded× (coded_list coded_ℕ) coded_ℕ) (λ c. (c.nonce, c.drawn)) (λ p. record { nonce = p.0; drawn = p.1 }) (λ _. refl)
+
+-- the code of the users
+abbrev pub users_code : Coded (map.FinMap (slice_cmp nat_cmp) (List ℕ))
+users_code = map.code (coded_list coded_ℕ) (coded_list coded_ℕ)
+
+-- the code of what is kept for all addresses
+abbrev pub clients_code : Coded (map.FinMap socket_addr_cmp Client)
+clients_code = map.code addr.the_row.coded client_code
+
+-- the code of a server
+abbrev pub server_code : Coded Server
+server_code =
+    code_by (List ℕ × (map.FinMap (slice_cmp nat_cmp) (List ℕ) × (map.FinMap socket_addr_cmp Client × (ℕ × (List IntegrityAlgorithm × Feature)))))
+    (coded× (coded_list coded_ℕ) (coded× users_code (coded× clients_code (coded× coded_ℕ (coded× (coded_list algorithm.the_row.coded) feature.the_row.coded)))))
+    (λ s. (s.realm, (s.users, (s.clients, (s.nonce_expiry, (s.algorithms, s.anonymous_username))))))
+    (λ p. record { realm = p.0; users = p.1.0; clients = p.1.1.0; nonce_expiry = p.1.1.1.0; algorithms = p.1.1.1.1.0; anonymous_username = p.1.1.1.1.1 })
+    (λ _. refl)
+
+-- the nonce that is kept for an address, of any age
+abbrev pub nonce_at : Server → SocketAddr → Option (List ℕ)
+nonce_at server client = option_map (λ (kept : Client). kept.nonce) (map.get server.clients client)
+
+-- whether a nonce stands at a moment: there is one, and the moment is before its drawing plus the expiry
+abbrev pub is_standing : ℕ → ℕ → Option Client → Bool
+is_standing expiry now None = false
+is_standing expiry now (Some kept) = nat_lt now (moment_after kept.drawn expiry)
+
+-- whether the nonce that is kept for an address stands at a moment
+abbrev pub has_standing_nonce : Server → SocketAddr → ℕ → Bool
+has_standing_nonce server client now = is_standing server.nonce_expiry now (map.get server.clients client)
+
+-- what a drawing at a moment keeps: the nonce of the stream's next sixteen words, which tells of the server's features
+abbrev pub new_client : Server → ℕ → Stream → Client
+new_client server now stream = record {
+  nonce = nonce_text (features_offered server.algorithms server.anonymous_username) (words_of 16 stream);
+  drawn = now;
+}
+
+-- the server with a nonce drawn for an address
+abbrev pub with_new_nonce : Server → SocketAddr → ℕ → Stream → Server
+with_new_nonce server from now stream = record server { clients = map.insert server.clients from (new_client server now stream) }
+
+-- the server with a nonce that stands for an address
+abbrev pub refreshed : Server → SocketAddr → ℕ → Stream → Server
+refreshed server from now stream = if has_standing_nonce server from now then server else with_new_nonce server from now stream
+
+-- how many words a refresh draws
+abbrev pub words_drawn : Server → SocketAddr → ℕ → ℕ
+words_drawn server from now = if has_standing_nonce server from now then 0 else 16
+
+-- two servers that an address can't tell apart: the same realm, users and settings, and the same kept for the address
+pub record SameFor (client : SocketAddr) (old new : Server) : Type 0 where
+  pub realm : new.realm ≡ old.realm
+  pub users : new.users ≡ old.users
+  pub nonce_expiry : new.nonce_expiry ≡ old.nonce_expiry
+  pub algorithms : new.algorithms ≡ old.algorithms
+  pub anonymous_username : new.anonymous_username ≡ old.anonymous_username
+  pub kept : map.get new.clients client ≡ map.get old.clients client

@@ -1,0 +1,23 @@
+-- The server that the fields of a `LongTermServerAuth` hold.
+use Rattle.std.specs.Prelude.{map}
+use Rattle.std.specs.Duration.{as_nanos}
+use Rattle.std.specs.FinMap as finite
+use Rattle.std.specs.String.{string_bytes}
+use Rattle.stun_proto_server.specs.Server.{Client, Server}
+use Rattle.stun_proto_server.specs.declared.long_term.ClientRecord.{ClientRecord}
+use Rattle.stun_proto_server.specs.declared.long_term.LongTermServerAuth.TheInside.{Inside}
+
+-- what is kept for one address
+abbrev pub client_of : ClientRecord → Client
+client_of kept = record { nonce = string_bytes kept.nonce; drawn = kept.drawn }
+
+-- the server
+abbrev pub server_of : Inside → Server
+server_of s = record {
+  realm = string_bytes s.realm;
+  users = finite.from_entries (map (λ e. (string_bytes e.0, e.1.password)) s.users.entries);
+  clients = finite.from_entries (map (λ e. (e.0, client_of e.1)) s.clients.entries);
+  nonce_expiry = as_nanos s.nonce_expiry;
+  algorithms = s.supported;
+  anonymous_username = s.anonymous_username;
+}

@@ -1,0 +1,322 @@
+//! The server's side of long-term credentials: its users, and a nonce for each client address.
+
+ghost use Rattle.std.specs.Prelude.{◌≡◌, ◌≢◌, ◌*◌, ◌≤◌, [], ◌∷◌, Ok, OnOk, OnErr, IsTrue};
+ghost use Rattle.std.specs.Duration.{as_nanos};
+ghost use Rattle.std.specs.FinMap as map;
+ghost use Rattle.std.specs.List.{IsDistinct};
+ghost use Rattle.std.specs.Option.{option_copied};
+ghost use Rattle.std.specs.String.{string_bytes};
+ghost use Rattle.std.specs.declared.net.socket_addr.SocketAddr.{SocketAddr};
+ghost use Rattle.stun_proto_auth.specs.Algorithms.{is_same_algorithm, with_algorithm};
+ghost use Rattle.stun_types_base.specs.Words.{stream_after};
+ghost use Rattle.stun_types_wire.specs.declared.algorithm.IntegrityAlgorithm.TheVariants.{Sha1};
+ghost use Rattle.stun_proto_auth.specs.declared.feature.Feature.TheVariants.{Auto};
+ghost use Rattle.stun_proto_server.specs.Server.{nonce_at, has_standing_nonce, words_drawn, with_new_nonce, refreshed, SameFor};
+
+use rand_core::Rng;
+use std::alloc::Global;
+use std::collections::BTreeMap;
+use std::marker::Model;
+use std::net::SocketAddr;
+use std::time::Duration;
+use stun_proto_agent::instant::Instant;
+use stun_proto_auth::feature::Feature;
+use stun_proto_auth::nonce::{NonceFeatures, write_nonce};
+use stun_proto_auth::supported::SupportedIntegrity;
+use stun_types_base::memory::NoMemory;
+use stun_types_base::words::draw_words;
+use stun_types_integrity::credentials::LongTermCredentials;
+use stun_types_wire::algorithm::IntegrityAlgorithm;
+
+/// The least time that a nonce stands, in seconds.
+pub const MIN_NONCE_EXPIRY: u64 = 30;
+
+/// How many random words a nonce is made of.
+const NONCE_WORDS: usize = 16;
+
+/// What a server keeps for one client address.
+#[derive(Debug, Drop)]
+struct ClientRecord {
+    nonce: String,
+    drawn: Instant,
+}
+
+/// The server's side of long-term authentication: a realm, its users, and for each client address
+/// a record of its own, which the calls of other addresses don't touch. Contracts see the record
+/// `Server` of `specs/Server.antt`.
+#[derive(Debug, Drop)]
+pub struct LongTermServerAuth {
+    alloc: Global,
+    realm: String,
+    users: BTreeMap<String, LongTermCredentials>,
+    clients: BTreeMap<SocketAddr, ClientRecord>,
+    nonce_expiry: Duration,
+    supported: SupportedIntegrity,
+    anonymous_username: Feature,
+}
+
+impl Model for LongTermServerAuth {
+    ghost use Rattle.stun_proto_server.specs.Server.{Server, server_code};
+
+    ghost Value = { Server };
+
+    ghost coded = { server_code };
+
+    ghost use Rattle.stun_proto_server.specs.View.{server_of};
+
+    ghost view = { server_of };
+}
+
+impl LongTermServerAuth {
+    /// A server of a realm, with no users. It supports Sha1 alone, takes hashed names, and its
+    /// nonces stand for an hour. It keeps the allocator, and holds no memory of its own yet.
+    pub fn new(alloc: Global, realm: String) -> Self
+        ensures { result ≡ record {
+          realm = string_bytes realm;
+          users = map.empty;
+          clients = map.empty;
+          nonce_expiry = 3_600_000_000_000;
+          algorithms = Sha1 ∷ [];
+          anonymous_username = Auto;
+        } }
+    {
+        LongTermServerAuth {
+            alloc,
+            realm,
+            users: BTreeMap::new(alloc),
+            clients: BTreeMap::new(alloc),
+            nonce_expiry: Duration::from_secs(3600),
+            supported: SupportedIntegrity::only(IntegrityAlgorithm::Sha1),
+            anonymous_username: Feature::Auto,
+        }
+    }
+
+    /// The realm.
+    pub fn realm(&self) -> &str
+        ensures { result.now ≡ self.now.realm }
+    {
+        self.realm.as_str()
+    }
+
+    /// Adds a user, in place of one of that name. Where memory is refused, nothing changes.
+    pub fn add_user(&mut self, user: LongTermCredentials) -> Result<(), NoMemory>
+        ensures ok { OnOk result
+            (self.new ≡ record self.old { users = map.insert self.old.users user.username user.password }) }
+        ensures err { OnErr result (self.new ≡ self.old) }
+    {
+        let name = String::from_str(self.alloc, user.username())?;
+        self.users.insert(name, user)?;
+        Ok(())
+    }
+
+    /// The integrity algorithms that are supported, in the order in which they were added: at
+    /// least one, and none twice.
+    pub fn supported_integrity(&self) -> &[IntegrityAlgorithm]
+        ensures value { result.now ≡ self.now.algorithms }
+        ensures never_empty { result.now ≢ [] }
+        ensures distinct { IsDistinct is_same_algorithm result.now }
+    {
+        self.supported.as_slice()
+    }
+
+    /// Supports an integrity algorithm too, as the last one; one that is there already changes
+    /// nothing.
+    pub fn add_supported_integrity(&mut self, algorithm: IntegrityAlgorithm)
+        ensures { self.new ≡ record self.old { algorithms = with_algorithm self.old.algorithms algorithm } }
+    {
+        self.supported = self.supported.with(algorithm);
+    }
+
+    /// Supports this integrity algorithm alone.
+    pub fn set_supported_integrity(&mut self, algorithm: IntegrityAlgorithm)
+        ensures { self.new ≡ record self.old { algorithms = algorithm ∷ [] } }
+    {
+        self.supported = SupportedIntegrity::only(algorithm);
+    }
+
+    /// Whether clients may send a hash of the user's name in its place.
+    pub fn anonymous_username(&self) -> Feature
+        ensures { result ≡ self.now.anonymous_username }
+    {
+        self.anonymous_username
+    }
+
+    /// Sets whether clients may send a hash of the user's name in its place. Required is as good
+    /// as Auto; Disabled only withholds the bit that later nonces tell of it by.
+    pub fn set_anonymous_username(&mut self, feature: Feature)
+        ensures { self.new ≡ record self.old { anonymous_username = feature } }
+    {
+        self.anonymous_username = feature;
+    }
+
+    /// Sets how long a nonce stands, those that are kept already too. It may not be less than
+    /// `MIN_NONCE_EXPIRY` seconds.
+    pub fn set_nonce_expiry_duration(&mut self, duration: Duration)
+        requires { MIN_NONCE_EXPIRY * 1_000_000_000 ≤ as_nanos duration }
+        ensures { self.new ≡ record self.old { nonce_expiry = as_nanos duration } }
+    {
+        self.nonce_expiry = duration;
+    }
+
+    /// The nonce that is kept for a client, of any age, or `None`.
+    pub fn nonce_for_client(&self, client: SocketAddr) -> Option<&str>
+        ensures { option_copied result ≡ nonce_at self.now client }
+    {
+        match self.clients.get(&client) {
+            Some(kept) => Some(kept.nonce.as_str()),
+            None => None,
+        }
+    }
+
+    /// Forgets what is kept for a client. One that isn't known changes nothing.
+    pub fn remove_client(&mut self, client: SocketAddr)
+        ensures removed { self.new ≡ record self.old { clients = map.remove self.old.clients client } }
+        ensures others { (other : SocketAddr) → other ≢ client → SameFor other self.old self.new }
+    {
+        self.clients.remove(&client);
+    }
+
+    /// Draws a nonce for a client where none is kept for it, or where the moment isn't before the
+    /// drawing of the one kept plus the expiry; else nothing changes and no word is drawn. A
+    /// drawing takes sixteen words, before any memory is asked for. Where memory is refused, which
+    /// only a drawing can meet, they are drawn all the same, and nothing changes.
+    pub fn refresh_nonce<R: Rng>(
+        &mut self,
+        from: SocketAddr,
+        now: Instant,
+        rng: &mut R,
+    ) -> Result<(), NoMemory>
+        ensures stream { R.stream rng.new ≡ stream_after (words_drawn self.old from now) (R.stream rng.old) }
+        ensures ok { OnOk result (self.new ≡ refreshed self.old from now (R.stream rng.old)) }
+        ensures err { OnErr result (self.new ≡ self.old) }
+        ensures standing { IsTrue (has_standing_nonce self.old from now) → result ≡ Ok tt }
+        ensures others { (other : SocketAddr) → other ≢ from → SameFor other self.old self.new }
+    {
+        if self.has_standing_nonce(from, now) {
+            return Ok(());
+        }
+        self.draw_nonce(from, now, rng)
+    }
+
+    /// Whether the nonce that is kept for a client stands at a moment.
+    fn has_standing_nonce(&self, client: SocketAddr, now: Instant) -> bool
+        ensures { result ≡ has_standing_nonce self.now client now }
+    {
+        match self.clients.get(&client) {
+            Some(kept) => now < kept.drawn.saturating_add(self.nonce_expiry),
+            None => false,
+        }
+    }
+
+    /// Draws a nonce for a client, in place of the one kept.
+    fn draw_nonce<R: Rng>(
+        &mut self,
+        from: SocketAddr,
+        now: Instant,
+        rng: &mut R,
+    ) -> Result<(), NoMemory>
+        ensures stream { R.stream rng.new ≡ stream_after 16 (R.stream rng.old) }
+        ensures ok { OnOk result (self.new ≡ with_new_nonce self.old from now (R.stream rng.old)) }
+        ensures err { OnErr result (self.new ≡ self.old) }
+        ensures others { (other : SocketAddr) → other ≢ from → SameFor other self.old self.new }
+    {
+        let words: [u32; NONCE_WORDS] = draw_words(rng);
+        let features = NonceFeatures::offered(self.supported, self.anonymous_username);
+        let nonce = write_nonce(self.alloc, features, &words)?;
+        self.clients
+            .insert(from, ClientRecord { nonce, drawn: now })?;
+        Ok(())
+    }
+}
+
+#[cfg(test)]
+mod tests {
+    use super::*;
+    use rand_chacha::ChaCha20Rng;
+    use rand_core::SeedableRng;
+    use std::test::Fail;
+
+    const MINUTE: u64 = 60_000_000_000;
+
+    fn zero_seed() -> ChaCha20Rng {
+        ChaCha20Rng::from_seed([0; 32])
+    }
+
+    fn server(alloc: Global) -> Result<LongTermServerAuth, NoMemory> {
+        Ok(LongTermServerAuth::new(alloc, String::from_str(alloc, "realm")?))
+    }
+
+    #[test]
+    fn first_nonce_of_the_zero_seed(rt: HostRuntime) -> Result<(), Fail> {
+        let mut server = server(rt.alloc())?;
+        let client: SocketAddr = "192.168.0.1:1000".parse()?;
+        assert_eq!(rt; server.realm(), "realm");
+        assert_eq!(rt; server.nonce_for_client(client), None);
+        server.refresh_nonce(client, Instant::ZERO, &mut zero_seed())?;
+        assert_eq!(rt;
+            server.nonce_for_client(client),
+            Some("obMatJos2QAAAgyiDbICXwPDaQ1ha")
+        );
+        Ok(())
+    }
+
+    #[test]
+    fn anonymity_disabled_withholds_its_bit(rt: HostRuntime) -> Result<(), Fail> {
+        let mut server = server(rt.alloc())?;
+        let client: SocketAddr = "[2001:db8::1]:1000".parse()?;
+        server.set_anonymous_username(Feature::Disabled);
+        assert_eq!(rt; server.anonymous_username(), Feature::Disabled);
+        server.refresh_nonce(client, Instant::ZERO, &mut zero_seed())?;
+        assert_eq!(rt;
+            server.nonce_for_client(client),
+            Some("obMatJos2AAAAgyiDbICXwPDaQ1ha")
+        );
+        Ok(())
+    }
+
+    #[test]
+    fn nonce_stands_until_its_expiry(rt: HostRuntime) -> Result<(), Fail> {
+        let mut server = server(rt.alloc())?;
+        let client: SocketAddr = "192.168.0.1:1000".parse()?;
+        let other: SocketAddr = "192.168.0.1:1001".parse()?;
+        server.set_nonce_expiry_duration(Duration::from_secs(60));
+        server.refresh_nonce(client, Instant::ZERO, &mut zero_seed())?;
+        let mut rng = ChaCha20Rng::from_seed([1; 32]);
+        server.refresh_nonce(client, Instant::from_nanos(MINUTE - 1), &mut rng)?;
+        assert_eq!(rt;
+            server.nonce_for_client(client),
+            Some("obMatJos2QAAAgyiDbICXwPDaQ1ha")
+        );
+        server.refresh_nonce(client, Instant::from_nanos(MINUTE), &mut rng)?;
+        assert_ne!(rt;
+            server.nonce_for_client(client),
+            Some("obMatJos2QAAAgyiDbICXwPDaQ1ha")
+        );
+        server.refresh_nonce(other, Instant::ZERO, &mut zero_seed())?;
+        server.remove_client(client);
+        assert_eq!(rt; server.nonce_for_client(client), None);
+        assert_eq!(rt;
+            server.nonce_for_client(other),
+            Some("obMatJos2QAAAgyiDbICXwPDaQ1ha")
+        );
+        Ok(())
+    }
+
+    #[test]
+    fn users_and_algorithms_are_added(rt: HostRuntime) -> Result<(), Fail> {
+        let mut server = server(rt.alloc())?;
+        let name = String::from_str(rt.alloc(), "user")?;
+        let password = String::from_str(rt.alloc(), "pass")?;
+        server.add_user(LongTermCredentials::new(name, password))?;
+        assert_eq!(rt;
+            server.supported_integrity(),
+            [IntegrityAlgorithm::Sha1].as_slice()
+        );
+        server.set_supported_integrity(IntegrityAlgorithm::Sha256);
+        server.add_supported_integrity(IntegrityAlgorithm::Sha1);
+        server.add_supported_integrity(IntegrityAlgorithm::Sha256);
+        let both = [IntegrityAlgorithm::Sha256, IntegrityAlgorithm::Sha1];
+        assert_eq!(rt; server.supported_integrity(), both.as_slice());
+        Ok(())
+    }
+}

@@ -1,0 +1,32 @@
+-- Lemmas on the words of a stream, by their place.
+use Rattle.std.proofs.Common.{◌≡◌, ℕ, zero, suc, ◌+◌, refl, sym, ap, ◌∙◌, add-one, arith}
+use Rattle.rand_core.specs.Stream.{Stream, next_u32}
+use Rattle.stun_types_base.specs.Words.{stream_after, word_at}
+
+-- after no words a stream is whole
+pub stream_after-zero : (stream : Stream) → stream_after 0 stream ≡ stream
+unfolding stream_after
+stream_after-zero stream = refl
+
+-- one word further
+pub stream_after-step : (count : ℕ) (stream : Stream) → stream_after (count + 1) stream ≡ (next_u32 (stream_after count stream)).1
+unfolding stream_after
+stream_after-step count stream = rw add-one refl
+
+-- words drawn in two goes are the words drawn in one
+pub stream_after-add : (first more : ℕ) (stream : Stream) → stream_after (first + more) stream ≡ stream_after more (stream_after first stream)
+unfolding stream_after
+stream_after-add first zero stream = ap (λ n. stream_after n stream) (omega arith)
+stream_after-add first (suc more) stream =
+    let one_more : first + suc more ≡ suc (first + more) = omega arith in
+    ap (λ n. stream_after n stream) one_more ∙ ap (λ s. (next_u32 s).1) (stream_after-add first more stream)
+
+-- a word of the stream that is left stands as many places further in the whole stream
+pub word_at-stream_after : (first place : ℕ) (stream : Stream) → word_at (stream_after first stream) place ≡ word_at stream (first + place)
+word_at-stream_after first place stream = ap (λ s. (next_u32 s).0) (sym (stream_after-add first place stream))
+
+-- a draw after this many words gives the word at that place, and leaves the stream one word further
+pub drawn : (start before after : Stream) (count word : ℕ) → before ≡ stream_after count start → ◌≡◌ {A = ℕ × Stream} (word, after) (next_u32 before)
+    → (word ≡ word_at start count) × (after ≡ stream_after (count + 1) start)
+drawn start before after count word at is =
+    (ap (λ p. p.0) is ∙ ap (λ s. (next_u32 s).0) at, ap (λ p. p.1) is ∙ ap (λ s. (next_u32 s).1) at ∙ sym (stream_after-step count start))

@@ -1,0 +1,18 @@
+//! Words drawn from a random number generator, by their place in its stream.
+
+ghost use Rattle.std.specs.Prelude.{◌≡◌};
+ghost use Rattle.stun_types_base.specs.Words.{stream_after, words_of};
+
+use rand_core::Rng;
+
+/// The next words of a generator, as many as the array holds.
+pub fn draw_words<const COUNT: usize, R: Rng>(rng: &mut R) -> [u32; COUNT]
+    ensures words { result ≡ words_of COUNT (R.stream rng.old) }
+    ensures stream { R.stream rng.new ≡ stream_after COUNT (R.stream rng.old) }
+{
+    let mut words = [0; COUNT];
+    for word in words.iter_mut() {
+        *word = rng.next_u32();
+    }
+    words
+}

@@ -1,0 +1,2 @@
+pub mod Challenges
+pub mod Nonces

@@ -1,0 +1,36 @@
+-- What a refresh leaves for its address.
+use Rattle.std.specs.Prelude.{◌≡◌, ℕ, true, false, cond, List, Option, Some, None, IsSome}
+use Rattle.std.proofs.Common.{refl, sym, ap, ◌∙◌, ◌⊎◌, inl, inr}
+use Rattle.std.proofs.lemmas.Bool.{cases_Bool}
+use Rattle.std.specs.Ordering.{is_eq, eq_by_cmp}
+use Rattle.std.specs.Option.{option_map}
+use Rattle.std.specs.Cmp.{eq_by_cmp_equiv}
+use Rattle.std.specs.FinMap as map
+use Rattle.std.specs.declared.net.socket_addr.SocketAddr.{SocketAddr}
+use Rattle.rand_core.specs.Stream.{Stream}
+use Rattle.stun_types_base.specs.SocketAddrs.{socket_addr_cmp, socket_addr_cmp_total}
+use Rattle.stun_proto_server.specs.Server.{Client, Server, nonce_at, is_standing, has_standing_nonce, with_new_nonce, new_client, refreshed}
+
+nonce_of_some : (kept : Option Client) (expiry now : ℕ) → is_standing expiry now kept ≡ true → IsSome (option_map (λ (c : Client). c.nonce) kept)
+nonce_of_some None expiry now h = absurd (let p : false ≡ true = h in cc)
+nonce_of_some (Some kept) expiry now h = refl
+
+-- after a refresh a nonce is kept for its address
+pub refreshed_nonce : (server : Server) (from : SocketAddr) (now : ℕ) (stream : Stream) → IsSome (nonce_at (refreshed server from now stream) from)
+refreshed_nonce server from now stream =
+    elim (cases_Bool (has_standing_nonce server from now)) [
+      | inl stands ↦ rw stands (nonce_of_some (map.get server.clients from) server.nonce_expiry now stands)
+      | inr stands ↦
+          let same : is_eq (socket_addr_cmp from from) ≡ true = (eq_by_cmp_equiv socket_addr_cmp_total).refl from in
+          let put = map.get-insert socket_addr_cmp_total server.clients from (new_client server now stream) from in
+          let kept : map.get (map.insert server.clients from (new_client server now stream)) from ≡ Some (new_client server now stream) = put ∙ ap (λ b. cond b (Some (new_client server now stream)) (map.get server.clients from)) same in
+          rw stands (rw kept refl)
+    ]
+
+-- a refresh leaves the realm
+pub refreshed_realm : (server : Server) (from : SocketAddr) (now : ℕ) (stream : Stream) → (refreshed server from now stream).realm ≡ server.realm
+refreshed_realm server from now stream =
+    elim (cases_Bool (has_standing_nonce server from now)) [
+      | inl stands ↦ rw stands refl
+      | inr stands ↦ rw stands refl
+    ]

@@ -1,0 +1,2 @@
+pub mod Challenge
+pub mod State

@@ -1,0 +1,7 @@
+//! The core of a small TURN server: it judges requests by what its driver decides, and keeps what it
+//! granted. It does no IO: bytes, addresses, moments and random words come in, replies go out.
+#![tactic(auto)]
+
+pub mod decision;
+pub mod desk;
+pub mod grant;

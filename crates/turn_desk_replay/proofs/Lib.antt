@@ -1,0 +1,5 @@
+pub mod BytesLemmas
+pub mod InputLemmas
+pub mod LineLemmas
+pub mod NumberLemmas
+pub mod PrintLemmas

@@ -1,0 +1,72 @@
+-- The bytes that a BYTES word names. The answers of the event lines so far are lists of bytes, the
+-- first line's first; a line that was answered by no bytes has none.
+use Rattle.std.specs.Prelude.{ℕ, ◌-◌, ◌==◌, nat_le, ◌&&◌, Bool, if◌then◌else◌, List, [], ◌∷◌, ◌++◌, map, drop, length, slice_get, slice_range, slice_index, Option, Some, None}
+use Rattle.std.specs.Option.{option_map}
+use Rattle.std.specs.Result.{result_ok}
+use Rattle.std.specs.List.{slice_split, list_any}
+use Rattle.std.specs.Char.{is_ascii_uppercase}
+use Rattle.hex.specs.Hex.{decode_of}
+use Rattle.turn_desk_replay.specs.Number.{number}
+
+-- the bytes of which the text is lower case hex
+unfoldable pub hex_bytes : List ℕ → Option (List ℕ)
+hex_bytes text = if list_any is_ascii_uppercase text then None else result_ok (decode_of text)
+
+-- what the event line of this number was answered, event lines counted from 1
+abbrev pub answer_of : List (List ℕ) → Option ℕ → Option (List ℕ)
+answer_of answers None = None
+answer_of answers (Some k) = if k == 0 then None else slice_get answers (k - 1)
+
+-- the bytes from one place up to, not including, another
+abbrev pub range_of : Option (List ℕ) → Option ℕ → Option ℕ → Option (List ℕ)
+range_of (Some bytes) (Some from) (Some to) =
+    if nat_le from to && nat_le to (length bytes) then Some (slice_range bytes from to) else None
+range_of (Some bytes) (Some from) None = None
+range_of (Some bytes) None to = None
+range_of None from to = None
+
+-- what `k` or `k:a:b` names, from the words between the colons
+unfoldable pub reference_bytes : List (List ℕ) → List (List ℕ) → Option (List ℕ)
+reference_bytes answers [] = None
+reference_bytes answers (event ∷ []) = answer_of answers (number event)
+reference_bytes answers (event ∷ from ∷ []) = None
+reference_bytes answers (event ∷ from ∷ to ∷ []) = range_of (answer_of answers (number event)) (number from) (number to)
+reference_bytes answers (event ∷ from ∷ to ∷ more ∷ rest) = None
+
+-- bytes, where there is one at least
+abbrev pub some_bytes : Option (List ℕ) → Option (List ℕ)
+some_bytes None = None
+some_bytes (Some []) = None
+some_bytes (Some (b ∷ bs)) = Some (b ∷ bs)
+
+-- the bytes that a part names by what stands behind its `@`
+abbrev pub answered_part : List (List ℕ) → List ℕ → Option (List ℕ)
+answered_part answers reference = some_bytes (reference_bytes answers (slice_split (λ b. b == 58) reference))
+
+-- the bytes that a part names, which begins with `@` or is lower case hex
+unfoldable pub part_bytes : List (List ℕ) → List ℕ → Option (List ℕ)
+part_bytes answers part =
+    if slice_index part 0 == 64 then answered_part answers (drop 1 part) else some_bytes (hex_bytes part)
+
+-- the bytes in front of some others, where those are there
+abbrev pub prepend : List ℕ → Option (List ℕ) → Option (List ℕ)
+prepend bytes others = option_map (λ rest. bytes ++ rest) others
+
+-- the bytes of one part and those of the parts behind it
+abbrev pub both : Option (List ℕ) → Option (List ℕ) → Option (List ℕ)
+both None others = None
+both (Some bytes) others = prepend bytes others
+
+-- the bytes of the parts in their order, where each names some
+unfoldable pub joined : List (Option (List ℕ)) → Option (List ℕ)
+joined [] = Some []
+joined (bytes ∷ rest) = both bytes (joined rest)
+
+-- the word `-`
+abbrev pub is_dash : List ℕ → Bool
+is_dash word = length word == 1 && slice_index word 0 == 45
+
+-- the bytes that a BYTES word names: none for `-`, else those of the parts that `+` joins
+unfoldable pub named_bytes : List (List ℕ) → List ℕ → Option (List ℕ)
+named_bytes answers word =
+    if is_dash word then Some [] else joined (map (part_bytes answers) (slice_split (λ b. b == 43) word))

@@ -1,0 +1,170 @@
+//! BYTES: parts joined by `+`, each lower case hex or bytes that an earlier event line answered.
+
+ghost use Rattle.std.specs.Prelude.{◌≡◌, Some, None, Err, IfOk, OnOk, map};
+ghost use Rattle.std.specs.Option.{option_copied};
+ghost use Rattle.std.specs.List.{list_any};
+ghost use Rattle.std.specs.Char.{is_ascii_uppercase};
+ghost use Rattle.turn_desk_replay.specs.Number.{number};
+ghost use Rattle.turn_desk_replay.specs.Bytes.{answer_of, answered_part, hex_bytes, is_dash, joined, named_bytes, part_bytes, prepend, range_of, reference_bytes, some_bytes};
+
+use crate::answer::Answer;
+use crate::number::read_u64;
+use crate::refusal::LineError;
+use crate::word::pieces;
+use std::alloc::Global;
+use stun_types_base::memory::NoMemory;
+
+/// The bytes that a BYTES word names: `-` is no bytes, and else its parts, which `+` joins, give
+/// theirs in their order. A part that names no bytes makes the word bad.
+///
+/// `answers` are those of the event lines so far, the first of them first.
+pub fn read_bytes(alloc: Global, word: &str, answers: &[Answer]) -> Result<Vec<u8>, LineError>
+    ensures ok { IfOk result (λ bytes. named_bytes answers.now word.now ≡ Some bytes.items) }
+    ensures bad { result ≡ Err LineError.Bad → named_bytes answers.now word.now ≡ None }
+{
+    if is_no_bytes(word) {
+        return Ok(Vec::new(alloc));
+    }
+    let parts = pieces(alloc, word, '+')?;
+    join_parts(alloc, parts.as_slice(), answers)
+}
+
+/// The bytes that the parts of a word name, in the order of the parts.
+fn join_parts(alloc: Global, parts: &[&str], answers: &[Answer]) -> Result<Vec<u8>, LineError>
+    ensures ok { IfOk result (λ bytes. joined (map (λ x. part_bytes answers.now x.now) parts.now) ≡ Some bytes.items) }
+    ensures bad { result ≡ Err LineError.Bad → joined (map (λ x. part_bytes answers.now x.now) parts.now) ≡ None }
+{
+    let mut bytes = Vec::new(alloc);
+    for part in parts {
+        if let Err(error) = push_part(alloc, &mut bytes, part, answers) {
+            return Err(error);
+        }
+    }
+    Ok(bytes)
+}
+
+/// Whether a word is `-`, which stands for no bytes.
+fn is_no_bytes(word: &str) -> bool
+    ensures { result ≡ is_dash word.now }
+{
+    let bytes = word.as_bytes();
+    bytes.len() == 1 && bytes[0] == b'-'
+}
+
+/// Appends the bytes that a part names.
+fn push_part(
+    alloc: Global,
+    bytes: &mut Vec<u8>,
+    part: &str,
+    answers: &[Answer],
+) -> Result<(), LineError>
+    ensures ok { OnOk result (prepend bytes.old.items (part_bytes answers.now part.now) ≡ Some bytes.new.items) }
+    ensures bad { result ≡ Err LineError.Bad → part_bytes answers.now part.now ≡ None }
+{
+    match part.strip_prefix('@') {
+        Some(reference) => push_answered(alloc, bytes, reference, answers),
+        None => push_hex(alloc, bytes, part),
+    }
+}
+
+/// Appends the bytes that a part names by what stands behind its `@`.
+fn push_answered(
+    alloc: Global,
+    bytes: &mut Vec<u8>,
+    reference: &str,
+    answers: &[Answer],
+) -> Result<(), LineError>
+    ensures ok { OnOk result (prepend bytes.old.items (answered_part answers.now reference.now) ≡ Some bytes.new.items) }
+    ensures bad { result ≡ Err LineError.Bad → answered_part answers.now reference.now ≡ None }
+{
+    let words = pieces(alloc, reference, ':')?;
+    match answered_bytes(words.as_slice(), answers) {
+        Some(named) => push_some(bytes, named),
+        None => Err(LineError::Bad),
+    }
+}
+
+/// Appends the bytes of a part that is lower case hex.
+fn push_hex(alloc: Global, bytes: &mut Vec<u8>, part: &str) -> Result<(), LineError>
+    ensures ok { OnOk result (prepend bytes.old.items (some_bytes (hex_bytes part.now)) ≡ Some bytes.new.items) }
+    ensures bad { result ≡ Err LineError.Bad → some_bytes (hex_bytes part.now) ≡ None }
+{
+    let decoded = decode_lower(alloc, part)?;
+    push_some(bytes, decoded.as_slice())
+}
+
+/// Appends bytes that a part named. Where they are none, the part named nothing.
+fn push_some(bytes: &mut Vec<u8>, named: &[u8]) -> Result<(), LineError>
+    ensures ok { OnOk result (prepend bytes.old.items (some_bytes (Some named.now)) ≡ Some bytes.new.items) }
+    ensures bad { result ≡ Err LineError.Bad → some_bytes (Some named.now) ≡ None }
+{
+    if named.is_empty() {
+        return Err(LineError::Bad);
+    }
+    bytes.extend_from_slice(named)?;
+    Ok(())
+}
+
+/// Whether an upper case letter stands in a text.
+fn has_uppercase(text: &str) -> bool
+    ensures { result ≡ list_any is_ascii_uppercase text.now }
+{
+    text.as_bytes().iter().any(|byte| byte.is_ascii_uppercase())
+}
+
+/// The bytes of lower case hex.
+#[tactic(auto, unfolding(crate::specs::Bytes::hex_bytes))]
+fn decode_lower(alloc: Global, text: &str) -> Result<Vec<u8>, LineError>
+    ensures ok { IfOk result (λ bytes. hex_bytes text.now ≡ Some bytes.items) }
+    ensures bad { result ≡ Err LineError.Bad → hex_bytes text.now ≡ None }
+{
+    if has_uppercase(text) {
+        return Err(LineError::Bad);
+    }
+    match hex::decode(alloc, text) {
+        Ok(bytes) => Ok(bytes),
+        Err(hex::FromHexError::OutOfMemory) => Err(LineError::NoMemory),
+        Err(_) => Err(LineError::Bad),
+    }
+}
+
+/// The bytes that `k` or `k:a:b` names, from the words between the colons.
+#[tactic(auto, unfolding(crate::specs::Bytes::reference_bytes))]
+fn answered_bytes<'a>(words: &[&str], answers: &'a [Answer]) -> Option<&'a [u8]>
+    ensures { option_copied result ≡ reference_bytes answers.entry.now (map (λ x. x.now) words.now) }
+{
+    match words {
+        [event] => whole_answer(event, answers),
+        [event, from, to] => answer_range(event, from, to, answers),
+        _ => None,
+    }
+}
+
+/// What an event line answered, event lines counted from 1.
+fn whole_answer<'a>(event: &str, answers: &'a [Answer]) -> Option<&'a [u8]>
+    ensures { option_copied result ≡ answer_of answers.entry.now (number event.now) }
+{
+    let Some(event) = read_u64(event) else {
+        return None;
+    };
+    if event == 0 {
+        return None;
+    }
+    match answers.get((event - 1) as usize) {
+        Some(answer) => Some(answer.as_slice()),
+        None => None,
+    }
+}
+
+/// A range of what an event line answered: from one place up to, not including, another.
+fn answer_range<'a>(event: &str, from: &str, to: &str, answers: &'a [Answer]) -> Option<&'a [u8]>
+    ensures { option_copied result ≡ range_of (answer_of answers.entry.now (number event.now)) (number from.now) (number to.now) }
+{
+    let Some(bytes) = whole_answer(event, answers) else {
+        return None;
+    };
+    let (Some(from), Some(to)) = (read_u64(from), read_u64(to)) else {
+        return None;
+    };
+    bytes.get(from as usize..to as usize)
+}

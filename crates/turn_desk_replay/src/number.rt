@@ -1,0 +1,63 @@
+//! Numbers of a trace: decimal digits alone, with no sign; zeros may lead.
+
+ghost use Rattle.std.specs.Prelude.{◌≡◌, ◌-◌, ◌^◌, ◌≤◌, IfSome};
+ghost use Rattle.turn_desk_replay.specs.Number.{number_within};
+
+/// The least error code that a decision may have.
+pub const LEAST_CODE: u16 = 300;
+
+/// The greatest error code that a decision may have.
+pub const GREATEST_CODE: u16 = 699;
+
+/// The number that a word of digits alone spells in decimal. None where another character stands
+/// in the word, where there is no digit, and for 2^64 and more.
+#[tactic(auto, using(crate::proofs::NumberLemmas::parse_number, crate::proofs::NumberLemmas::plus_number))]
+pub fn read_u64(word: &str) -> Option<u64>
+    ensures { result ≡ number_within 0 (2 ^ 64 - 1) word.now }
+{
+    if word.as_bytes().first() == Some(&b'+') {
+        return None;
+    }
+    word.parse::<u64>().ok()
+}
+
+/// The number that a word of digits alone spells in decimal, where it lies within bounds.
+fn read_within(word: &str, least: u64, most: u64) -> Option<u64>
+    ensures value { result ≡ number_within least most word.now }
+    ensures within { IfSome result (λ n. (least ≤ n) × (n ≤ most)) }
+{
+    let Some(number) = read_u64(word) else {
+        return None;
+    };
+    if number < least {
+        return None;
+    }
+    if most < number {
+        return None;
+    }
+    Some(number)
+}
+
+/// The number that a word of digits alone spells in decimal; none also for 2^32 and more.
+pub fn read_u32(word: &str) -> Option<u32>
+    ensures { result ≡ number_within 0 (2 ^ 32 - 1) word.now }
+{
+    let number = read_within(word, 0, u32::MAX as u64)?;
+    Some(number as u32)
+}
+
+/// A seed: 0 to 255.
+pub fn read_seed(word: &str) -> Option<u8>
+    ensures { result ≡ number_within 0 255 word.now }
+{
+    let seed = read_within(word, 0, u8::MAX as u64)?;
+    Some(seed as u8)
+}
+
+/// An error code: 300 to 699 (RFC 8489, section 14.8).
+pub fn read_code(word: &str) -> Option<u16>
+    ensures { result ≡ number_within 300 699 word.now }
+{
+    let code = read_within(word, LEAST_CODE as u64, GREATEST_CODE as u64)?;
+    Some(code as u16)
+}
