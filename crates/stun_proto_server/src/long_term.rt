@@ -1,6 +1,6 @@
 //! The server's side of long-term credentials: its users, and a nonce for each client address.
 
-ghost use Rattle.std.specs.Prelude.{◌≡◌, ◌≢◌, ◌*◌, ◌≤◌, [], ◌∷◌, Ok, OnOk, OnErr, IsTrue};
+ghost use Rattle.std.specs.Prelude.{◌≡◌, ◌≢◌, ◌*◌, ◌≤◌, length, [], ◌∷◌, Ok, OnOk, OnErr, IsTrue};
 ghost use Rattle.std.specs.Duration.{as_nanos};
 ghost use Rattle.std.specs.FinMap as map;
 ghost use Rattle.std.specs.List.{IsDistinct};
@@ -69,8 +69,10 @@ impl Model for LongTermServerAuth {
 
 impl LongTermServerAuth {
     /// A server of a realm, with no users. It supports Sha1 alone, takes hashed names, and its
-    /// nonces stand for an hour. It keeps the allocator, and holds no memory of its own yet.
+    /// nonces stand for an hour. The realm has at most 763 bytes (RFC 8489, section 14.9). It keeps
+    /// the allocator, and holds no memory of its own yet.
     pub fn new(alloc: Global, realm: String) -> Self
+        requires { length (string_bytes realm) ≤ 763 }
         ensures { result ≡ record {
           realm = string_bytes realm;
           users = map.empty;

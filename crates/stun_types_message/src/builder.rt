@@ -1,6 +1,6 @@
 //! Messages that are begun, in any writer.
 
-ghost use Rattle.std.specs.Prelude.{◌≡◌, ◌≤◌, [], IfOk, IfSome};
+ghost use Rattle.std.specs.Prelude.{◌≡◌, ◌≤◌, [], length, IfOk, IfSome};
 ghost use Rattle.stun_types_wire.specs.Attributes.{kind_at};
 ghost use Rattle.stun_types_wire.specs.Types.{class_of, method_of, type_of};
 ghost use Rattle.stun_types_wire.specs.Grammar.{number_at};
@@ -30,6 +30,7 @@ impl<'a> Message<'a> {
         requires room { IfSome (W.limit writer) (λ most. 20 ≤ most) }
         ensures text { IfOk result (λ begun. W.written begun ≡ message_text mtype transaction_id []) }
         ensures begun { IfOk result (λ begun. IsBegun (W.written begun)) }
+        ensures size { IfOk result (λ begun. length (W.written begun) ≡ 20) }
         ensures kinds { IfOk result (λ begun. W.kinds begun ≡ []) }
         ensures limit { IfOk result (λ begun. W.limit begun ≡ W.limit writer) }
     {
@@ -51,6 +52,7 @@ impl<'a> Message<'a> {
         requires room { IfSome (W.limit writer) (λ most. 20 ≤ most) }
         ensures text { IfOk result (λ begun. W.written begun ≡ message_text (type_of Error (method_of (kind_at request.now))) (number_at request.now) []) }
         ensures begun { IfOk result (λ begun. IsBegun (W.written begun)) }
+        ensures size { IfOk result (λ begun. length (W.written begun) ≡ 20) }
         ensures kinds { IfOk result (λ begun. W.kinds begun ≡ []) }
         ensures limit { IfOk result (λ begun. W.limit begun ≡ W.limit writer) }
     {

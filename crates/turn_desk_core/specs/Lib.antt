@@ -1,2 +1,3 @@
 pub mod Challenge
 pub mod State
+pub mod Lending

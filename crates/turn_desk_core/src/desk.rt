@@ -8,6 +8,8 @@ ghost use Rattle.stun_types_wire.specs.declared.class.MessageClass.TheVariants.{
 ghost use Rattle.stun_types_base.specs.Words.{stream_after};
 ghost use Rattle.stun_types_grammar.specs.Reading.{IsReadAs};
 ghost use Rattle.stun_proto_server.specs.Server.{nonce_at, refreshed, words_drawn};
+ghost use Rattle.std.specs.Borrow.{sem};
+ghost use Rattle.turn_desk_core.specs.Lending.{LendsAuth};
 ghost use Rattle.turn_desk_core.specs.Challenge.{IsUnsignedAllocate, challenge_attributes, challenge_text, error_type};
 
 use crate::decision::Decision;
@@ -62,6 +64,14 @@ impl Desk {
             auth,
             grants: ListOf::new(alloc),
         }
+    }
+
+    /// The authenticator, to be changed.
+    pub fn auth_mut(&mut self) -> &mut LongTermServerAuth
+        ensures* writes_back { sem 𝓛 (LendsAuth self.entry result) }
+        ensures value { result.now ≡ self.old.auth }
+    {
+        &mut self.auth
     }
 
     /// What was granted, in order. Nothing is granted yet: that work is not done.

@@ -10,3 +10,4 @@ pub mod Replay
 pub mod Setup
 pub mod Status
 pub mod Stop
+pub mod Refusal

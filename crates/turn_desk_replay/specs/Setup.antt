@@ -2,8 +2,8 @@
 use Rattle.std.specs.Prelude.{ℕ, ◌≡◌, ◌≤◌, List, [], ◌∷◌, length, codes}
 use Rattle.turn_desk_replay.specs.declared.setup.Algorithms.{Algorithms}
 use Rattle.turn_desk_replay.specs.declared.setup.Algorithms.TheVariants.{Sha1}
-use Rattle.turn_desk_replay.specs.declared.setup.Anonymity.{Anonymity}
-use Rattle.turn_desk_replay.specs.declared.setup.Anonymity.TheVariants.{Auto, Required, Disabled}
+use Rattle.stun_proto_auth.specs.declared.feature.Feature.{Feature}
+use Rattle.stun_proto_auth.specs.declared.feature.Feature.TheVariants.{Auto, Required, Disabled}
 use Rattle.turn_desk_replay.specs.declared.setup.TheConstants.{MAX_REALM, MAX_USERNAME}
 use Rattle.turn_desk_replay.specs.declared.setup.Setup.{Setup}
 use Rattle.turn_desk_replay.specs.declared.setup.Setup.TheVariants.{Desk, User}
@@ -13,7 +13,7 @@ abbrev pub algorithms_word : Algorithms → List ℕ
 algorithms_word Sha1 = codes "sha1"
 
 -- the word for the anonymity
-abbrev pub anonymity_word : Anonymity → List ℕ
+abbrev pub anonymity_word : Feature → List ℕ
 anonymity_word Auto = codes "auto"
 anonymity_word Required = codes "required"
 anonymity_word Disabled = codes "disabled"

@@ -16,6 +16,11 @@ pub enum LineError {
 }
 
 impl fmt::Display for LineError {
+    ghost use Rattle.turn_desk_replay.specs.Refusal.{name_of_line_error};
+    ghost use Rattle.std.specs.Prelude.{Some};
+
+    ghost output = { λ error. Some (name_of_line_error error) };
+
     fn fmt<W: fmt::Write>(&self, f: &mut fmt::Formatter<W>) -> fmt::Result {
         match self {
             LineError::Bad => write!(f, "bad line"),

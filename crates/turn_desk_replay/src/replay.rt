@@ -12,13 +12,17 @@ use crate::event::{Event, ToDesk};
 use crate::input::{InputError, MAX_TRACE, read_trace};
 use crate::line::{Line, cut_line, is_skipped, read_line};
 use crate::refusal::LineError;
-use crate::setup::Setup;
+use crate::setup::{Algorithms, MAX_REALM, Setup};
 use crate::status::Status;
 use crate::stop::{Stop, flush, print_stop};
 use rand_chacha::ChaCha20Rng;
 use rand_core::SeedableRng;
 use std::alloc::Global;
 use std::io::{Read, Write};
+use stun_proto_auth::feature::Feature;
+use stun_proto_server::long_term::LongTermServerAuth;
+use stun_types_integrity::credentials::LongTermCredentials;
+use stun_types_wire::algorithm::IntegrityAlgorithm;
 use turn_desk_core::desk::Desk;
 
 /// Reads a trace whole, does what its lines say, and prints one line for each event line. At the
@@ -78,25 +82,44 @@ impl Progress {
             return Err(LineError::Bad);
         }
         match setup {
-            Setup::Desk { .. } => self.set_up_desk(),
-            Setup::User { .. } => self.set_up_user(),
+            Setup::Desk {
+                realm,
+                algorithms,
+                anonymity,
+            } => self.set_up_desk(realm, algorithms, anonymity),
+            Setup::User { name, password } => self.set_up_user(name, password),
         }
     }
 
     /// Makes the desk. There is one at most.
-    fn set_up_desk(&mut self) -> Result<(), LineError> {
-        if self.desk.is_some() {
+    fn set_up_desk(
+        &mut self,
+        realm: &str,
+        algorithms: Algorithms,
+        anonymity: Feature,
+    ) -> Result<(), LineError> {
+        if self.desk.is_some() || realm.len() > MAX_REALM {
             return Err(LineError::Bad);
         }
-        self.desk = Some(Desk::new(self.alloc));
+        let realm = String::from_str(self.alloc, realm)?;
+        let mut auth = LongTermServerAuth::new(self.alloc, realm);
+        match algorithms {
+            Algorithms::Sha1 => auth.set_supported_integrity(IntegrityAlgorithm::Sha1),
+        }
+        auth.set_anonymous_username(anonymity);
+        self.desk = Some(Desk::new(self.alloc, auth));
         Ok(())
     }
 
     /// Makes a user known to the desk, which must be there.
-    fn set_up_user(&mut self) -> Result<(), LineError> {
-        if self.desk.is_none() {
+    fn set_up_user(&mut self, name: &str, password: &str) -> Result<(), LineError> {
+        let Some(desk) = &mut self.desk else {
             return Err(LineError::Bad);
-        }
+        };
+        let name = String::from_str(self.alloc, name)?;
+        let password = String::from_str(self.alloc, password)?;
+        let user = LongTermCredentials::new(name, password);
+        desk.auth_mut().add_user(user)?;
         Ok(())
     }
 

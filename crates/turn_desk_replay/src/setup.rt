@@ -2,9 +2,11 @@
 
 ghost use Rattle.std.specs.Prelude.{◌≡◌, ◌≢◌, MatchOption, map};
 ghost use Rattle.turn_desk_replay.specs.declared.setup.Algorithms.{Algorithms};
-ghost use Rattle.turn_desk_replay.specs.declared.setup.Anonymity.{Anonymity};
+ghost use Rattle.stun_proto_auth.specs.declared.feature.Feature.{Feature};
 ghost use Rattle.turn_desk_replay.specs.declared.setup.Setup.{Setup};
 ghost use Rattle.turn_desk_replay.specs.Setup.{algorithms_word, anonymity_word, IsDesk, IsUser};
+
+use stun_proto_auth::feature::Feature as Anonymity;
 
 /// The most bytes of a realm (RFC 8489, section 14.9).
 pub const MAX_REALM: usize = 763;
@@ -17,17 +19,6 @@ pub const MAX_USERNAME: usize = 513;
 pub enum Algorithms {
     /// `sha1`
     Sha1,
-}
-
-/// Whether a desk offers to take users' names in hashed form (RFC 8489, section 9.2).
-#[derive(Clone, Copy, Debug, PartialEq, Eq)]
-pub enum Anonymity {
-    /// `auto`
-    Auto,
-    /// `required`
-    Required,
-    /// `disabled`
-    Disabled,
 }
 
 /// A line that stands before the events.
@@ -96,7 +87,7 @@ pub fn read_algorithms(word: &str) -> Option<Algorithms>
 
 /// The anonymity that a word names.
 pub fn read_anonymity(word: &str) -> Option<Anonymity>
-    ensures { MatchOption result ((a : Anonymity) → word.now ≢ anonymity_word a) (λ a. word.now ≡ anonymity_word a) }
+    ensures { MatchOption result ((a : Feature) → word.now ≢ anonymity_word a) (λ a. word.now ≡ anonymity_word a) }
 {
     match word {
         "auto" => Some(Anonymity::Auto),

@@ -1,15 +1,17 @@
 //! Messages that are written.
 
-ghost use Rattle.std.specs.Prelude.{◌≡◌, ◌<◌, [], length, IfOk, OnOk};
+ghost use Rattle.std.specs.Prelude.{◌≡◌, ◌+◌, ◌≤◌, [], length, IfOk, OnOk};
 ghost use Rattle.stun_types_wire.specs.Text.{message_text};
-ghost use Rattle.stun_types_wire.specs.Shape.{rank};
-ghost use Rattle.stun_types_write.specs.Adding.{IsBegun};
+ghost use Rattle.stun_types_wire.specs.Attributes.{attr_size};
+ghost use Rattle.stun_types_write.specs.Adding.{attr_of, IsBegun};
 
 use std::test::Fail;
-use stun_types::attribute::{AttributeType, ErrorCode, Nonce, RawAttribute, Realm};
+use stun_types::attribute::{
+    Attribute, AttributeType, AttributeWrite, ErrorCode, Nonce, RawAttribute, Realm,
+};
 use stun_types::message::{
     BINDING, Message, MessageClass, MessageType, MessageWrite, MessageWriteExt, MessageWriteVec,
-    StunWriteError, TransactionId,
+    StunWriteError, TransactionId, add_as,
 };
 
 /// An unsigned ALLOCATE: LIFETIME, REQUESTED-TRANSPORT, DONT-FRAGMENT.
@@ -53,7 +55,7 @@ fn begun(rt: &HostRuntime) -> Result<MessageWriteVec, StunWriteError>
     ensures text { IfOk result (λ writer. writer.bytes ≡ message_text 1 0x7392 []) }
     ensures kinds { IfOk result (λ writer. writer.kinds ≡ []) }
     ensures begun { IfOk result (λ writer. IsBegun writer.bytes) }
-    ensures short { IfOk result (λ writer. length writer.bytes < 100) }
+    ensures short { IfOk result (λ writer. length writer.bytes ≡ 20) }
 {
     let mtype = MessageType::from_class_method(MessageClass::Request, BINDING);
     let number = TransactionId::from(0x7392u128);
@@ -61,23 +63,12 @@ fn begun(rt: &HostRuntime) -> Result<MessageWriteVec, StunWriteError>
     Ok(writer)
 }
 
-/// Adds an ordinary attribute to a message that is begun.
-fn add(
-    writer: &mut MessageWriteVec,
-    attribute: &RawAttribute,
-) -> Result<(), StunWriteError>
-    requires begun { IsBegun writer.old.bytes }
-    requires ordinary { rank attribute.now.kind ≡ 0 }
-    ensures { IsBegun writer.new.bytes }
-{
-    writer.add_attribute(attribute)
-}
-
 #[test]
 fn first_message_is_written(rt: HostRuntime) -> Result<(), Fail> {
     let mut writer = begun(&rt)?;
     let value = [0, 2, 0, 0];
-    add(&mut writer, &RawAttribute::new(AttributeType(0x001D), &value))?;
+    let algorithm = RawAttribute::new(AttributeType(0x001D), &value);
+    add_as(&mut writer, &algorithm, &algorithm)?;
     let text = "000100082112a442000000000000000000007392001d000400020000";
     let expected = hex::decode(rt.alloc(), text)?;
     assert_eq!(rt; writer.as_slice(), expected.as_slice());
@@ -87,14 +78,20 @@ fn first_message_is_written(rt: HostRuntime) -> Result<(), Fail> {
     Ok(())
 }
 
-/// Pushes an attribute of no value, which may be one that ends a message.
-#[tactic(auto, using(stun_types_build::proofs::Adds::pushed_begun))]
-fn push_empty(writer: &mut MessageWriteVec, kind: AttributeType) -> Result<(), StunWriteError>
+/// Pushes an attribute, which may be one that ends a message, to a message that is short.
+#[tactic(auto, using(crate::proofs::Pushes::begun_with))]
+fn push_as<A: AttributeWrite>(
+    writer: &mut MessageWriteVec,
+    attribute: &dyn AttributeWrite,
+    same: &A,
+) -> Result<(), StunWriteError>
     requires begun { IsBegun writer.old.bytes }
-    requires short { length writer.old.bytes < 100 }
+    requires short { length writer.old.bytes + attr_size (attr_of (A.kind same.now) (A.value same.now)) ≤ 65_555 }
+    requires kind { (⟦<dyn AttributeWrite as Attribute>⟧ attribute.now.0).kind attribute.now.1 ≡ A.kind same.now }
+    requires value { (⟦<dyn AttributeWrite as Attribute>⟧ attribute.now.0).value attribute.now.1 ≡ A.value same.now }
     ensures { OnOk result (IsBegun writer.new.bytes) }
 {
-    writer.push_attribute_unchecked(&RawAttribute::new(kind, &[]))?;
+    writer.push_attribute_unchecked(attribute)?;
     Ok(())
 }
 
@@ -106,9 +103,11 @@ fn adds_after_an_ending_attribute_are_refused(rt: HostRuntime) -> Result<(), Fai
         (0x001C, StunWriteError::MessageIntegrityExists),
     ] {
         let mut ended = begun(&rt)?;
-        push_empty(&mut ended, AttributeType(kind))?;
+        let ending = RawAttribute::new(AttributeType(kind), &[]);
+        push_as(&mut ended, &ending, &ending)?;
         let before = ended.as_slice().to_vec(rt.alloc())?;
-        let answer = add(&mut ended, &RawAttribute::new(AttributeType(0x0022), &[]));
+        let attribute = RawAttribute::new(AttributeType(0x0022), &[]);
+        let answer = add_as(&mut ended, &attribute, &attribute);
         assert_eq!(rt; answer.err(), Some(refused));
         assert_eq!(rt; ended.as_slice(), before.as_slice());
     }
@@ -120,9 +119,11 @@ fn adds_past_the_length_field_are_refused(rt: HostRuntime) -> Result<(), Fail> {
     let most = [0; 65_528];
     let ordinary = AttributeType(0x0022);
     let mut writer = begun(&rt)?;
-    add(&mut writer, &RawAttribute::new(ordinary, &most))?;
+    let large = RawAttribute::new(ordinary, &most);
+    add_as(&mut writer, &large, &large)?;
     assert_eq!(rt; writer.len(), 20 + 65_532);
-    let answer = add(&mut writer, &RawAttribute::new(ordinary, &[]));
+    let empty = RawAttribute::new(ordinary, &[]);
+    let answer = add_as(&mut writer, &empty, &empty);
     let too_large = StunWriteError::TooLarge {
         expected: 65_535,
         actual: 65_536,
