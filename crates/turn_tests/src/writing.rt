@@ -79,7 +79,6 @@ fn first_message_is_written(rt: HostRuntime) -> Result<(), Fail> {
 }
 
 /// Pushes an attribute, which may be one that ends a message, to a message that is short.
-#[tactic(auto, using(crate::proofs::Pushes::begun_with))]
 fn push_as<A: AttributeWrite>(
     writer: &mut MessageWriteVec,
     attribute: &dyn AttributeWrite,
