@@ -231,10 +231,7 @@ impl AttributeWrite for ErrorCode {
         let mut value = Vec::with_capacity(alloc, 4 + self.reason().len())?;
         value.extend_from_slice(&self.code_bytes())?;
         value.extend_from_slice(self.reason().as_bytes())?;
-        Ok(RawAttribute::new_owned(
-            ErrorCode::TYPE,
-            value.into_boxed_slice(),
-        ))
+        Ok(RawAttribute::new_owned(ErrorCode::TYPE, value.into_boxed_slice()))
     }
 }
 

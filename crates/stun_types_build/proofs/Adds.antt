@@ -88,7 +88,7 @@ add_begun bytes a begun fits =
     let size : length all ≡ length bytes + attr_size a = omega (arith, length-append (with_length bytes n) (attribute_text a), length-with_length bytes n long, length-attribute_text a) in
     record {
       header = rw (begins_again bytes (attribute_text a) n long (begins_of bytes begun.header), le-ltb (length all) 20 (omega (arith, size))) refl;
-      size = omega (arith, size)
+      size = omega (arith, size);
     }
 
 pub added_begun : (bytes pushed after : List ℕ) (kind end : ℕ) (value : List ℕ) → IsBegun bytes → pushed ≡ bytes ++ attribute_text (attr_of kind value) → end ≡ length bytes + (4 + padded (length value)) → end ≤ greatest_size
@@ -135,7 +135,7 @@ pub text_begun : (kind number : ℕ) → kind < 2 ^ 14 → IsBegun (message_text
 unfolding header_refusal message_text body_text header_text
 text_begun kind number h = record {
   header = rw (lt-ltb (kind / 256 % 256) 64 (omega arith)) refl;
-  size = omega arith
+  size = omega arith;
 }
 
 -- what is pushed to a message leaves its header there
@@ -164,5 +164,5 @@ pushed_begun bytes pushed a begun is fits =
     let size : length all ≡ length bytes + attr_size a = omega (arith, length-append bytes (attribute_text a), length-attribute_text a) in
     rw is (record {
       header = rw (begins_more bytes (attribute_text a) long (begins_of bytes begun.header), le-ltb (length all) 20 (omega (arith, size))) refl;
-      size = omega (arith, size)
+      size = omega (arith, size);
     })

@@ -24,7 +24,9 @@ const MAX_MESSAGE_LENGTH: usize = 65_555;
 
 /// The three attributes that end a message, which are added by calls of their own.
 const MESSAGE_INTEGRITY: AttributeType = AttributeType(0x0008);
+
 const MESSAGE_INTEGRITY_SHA256: AttributeType = AttributeType(0x001C);
+
 const FINGERPRINT: AttributeType = AttributeType(0x8028);
 
 /// The header and the adds of a message that was begun. Every writer has them.

@@ -39,7 +39,7 @@ fits_part bytes are h =
     let short = big_from-lt 0 2 (drop 2 bytes) (byte_below (drop 2 bytes) (are_parts 2 bytes are).1) in
     record {
       attribute = record { kind = kind; value = rw own short };
-      padding = rw own (omega (arith, length-take (padding_len len) (drop (4 + len) bytes), length-drop (4 + len) bytes))
+      padding = rw own (omega (arith, length-take (padding_len len) (drop (4 + len) bytes), length-drop (4 + len) bytes));
     }
 
 -- the front is the text of its part, and then what is behind
@@ -83,9 +83,9 @@ unfolding parts_text
 more_parts before rest are h four follows later = record {
   parts = part_at rest ∷ later.parts;
   text = front_text rest are h four ∙ ap (λ (l : List ℕ). part_text (part_at rest) ++ l) (later.text ∙ ap (λ (l : List ℕ). parts_text later.parts ++ l) (sym (behind_step before rest h follows)))
-  ∙ sym (append_assoc (part_text (part_at rest)) (parts_text later.parts) (behind_shown before rest));
+      ∙ sym (append_assoc (part_text (part_at rest)) (parts_text later.parts) (behind_shown before rest));
   shows = ap (λ (l : List Attr). attr_at rest ∷ l) later.shows ∙ sym (shown_step before rest h follows);
-  each = (fits_part rest are h, later.each)
+  each = (fits_part rest are h, later.each);
 }
 
 pub has_parts : (n before : ℕ) (rest : List ℕ) → AreBytes rest → length rest ≤ n → HasParts before rest
@@ -166,12 +166,12 @@ has_text bytes are h =
       parts = parts.parts;
       behind = behind;
       text = told.text ∙ ap (λ (l : List ℕ). header_text (kind_at bytes) (length_at bytes) (number_at bytes) ++ l) parts.text
-      ∙ ap (λ n. header_text (kind_at bytes) n (number_at bytes) ++ (parts_text parts.parts ++ behind)) (sym body_size);
+          ∙ ap (λ n. header_text (kind_at bytes) n (number_at bytes) ++ (parts_text parts.parts ++ behind)) (sym body_size);
       kind_fits = told.kind_fits;
       number_fits = told.number_fits;
       length_fits = rw body_size told.len_fits;
       shows = parts.shows;
       each = parts.each;
       shape = shape_of body;
-      ended = leaves_by (shown_after 0 body) behind (no_rest_refusal (last_rank 0 (shown_after 0 body)) behind last.1)
+      ended = leaves_by (shown_after 0 body) behind (no_rest_refusal (last_rank 0 (shown_after 0 body)) behind last.1);
     }

@@ -101,7 +101,7 @@ tells_header bytes h begins long =
       text = pieces bytes ∙ joined (take 2 bytes) (take 2 (drop 2 bytes)) (take 4 (drop 4 bytes)) (take 12 (drop 8 bytes)) (drop 20 bytes) (big_bytes 2 (kind_at bytes)) (big_bytes 2 (length_at bytes)) cookie (big_bytes 12 (big_number 12 (drop 8 bytes))) (sym type_is) (sym length_is) cookie-is (sym number_is);
       kind_fits = omega arith;
       len_fits = big_from-lt 0 2 (drop 2 bytes) (byte_below (drop 2 bytes) behind_type);
-      number_fits = big_from-lt 0 12 (drop 8 bytes) (byte_below (drop 8 bytes) behind_cookie)
+      number_fits = big_from-lt 0 12 (drop 8 bytes) (byte_below (drop 8 bytes) behind_cookie);
     }
   where
     joined : (a b c d rest a' b' c' d' : List ℕ) → a ≡ a' → b ≡ b' → c ≡ c' → d ≡ d' → a ++ (b ++ (c ++ (d ++ rest))) ≡ ((a' ++ b') ++ c' ++ d') ++ rest
@@ -139,7 +139,7 @@ complete (a ∷ b ∷ c ∷ d ∷ e ∷ f ∷ g ∷ i ∷ more) h p =
       rest = zeros;
       are = list_all-append (λ n. ltb n 256) bytes zeros ∙ and_from (list_all (λ n. ltb n 256) bytes) true h refl;
       begins = p;
-      long = omega (arith, length-append more zeros)
+      long = omega (arith, length-append more zeros);
     }
 
 -- ---- what may not begin a header never becomes one
@@ -212,6 +212,7 @@ truncated_means bytes h = (there, back)
       | short begins less _ ↦ (less, becomes_header bytes h begins)
       | whole _ _ is ↦ absurd cc
     ]
+
     back : (length bytes < 20) × MayBecomeHeader bytes → header_refusal bytes ≡ Some (Truncated 20 (length bytes))
     back p = elim (header_cases bytes) [
       | wrong _ is ↦ absurd (no_header bytes is p.1)

@@ -105,7 +105,7 @@ more_ordinary k kinds e h = record {
   each = (e, h.each);
   first = h.first;
   second = h.second;
-  third = h.third
+  third = h.third;
 }
 
 pub follows_shape : (kinds : List ℕ) → Follows 0 kinds → IsShape kinds

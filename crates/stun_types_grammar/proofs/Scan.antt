@@ -87,7 +87,7 @@ goes_on before rest body so_far four size follows other =
     record {
       last = sym (rank_step before rest whole follows) ∙ so_far.last;
       behind = sym (behind_step before rest whole follows) ∙ so_far.behind;
-      fingerprint = sym (fingerprint_step before rest whole follows other) ∙ so_far.fingerprint
+      fingerprint = sym (fingerprint_step before rest whole follows other) ∙ so_far.fingerprint;
     }
 
 stops : (before : ℕ) (rest body : List ℕ) → Continues before rest body → shown_after before rest ≡ [] → body_refusal body ≡ rest_refusal before rest

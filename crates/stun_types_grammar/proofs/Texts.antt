@@ -123,10 +123,13 @@ follows_last before (a ∷ all) kind f = follows_last (rank a.kind) all kind f.1
 pub ended_by : (all : List Attr) (behind : List ℕ) → IsShape (kinds_of all) → (behind ≡ []) ⊎ LeavesShape (kinds_of all) behind → Ended (last_rank 0 all) behind
 ended_by all behind shape (inl none) = inl none
 ended_by all behind shape (inr leaves) =
-    inr (leaves.four, elim (cases_Bool (may_follow (last_rank 0 all) (rank (kind_at behind)))) [
-      | inl h ↦ absurd (leaves.leaves (follows_shape (kinds_of all ++ kind_at behind ∷ []) (follows_more 0 all (kind_at behind) (shape_follows (kinds_of all) shape) h)))
-      | inr h ↦ h
-    ])
+    inr (
+      leaves.four,
+      elim (cases_Bool (may_follow (last_rank 0 all) (rank (kind_at behind)))) [
+        | inl h ↦ absurd (leaves.leaves (follows_shape (kinds_of all ++ kind_at behind ∷ []) (follows_more 0 all (kind_at behind) (shape_follows (kinds_of all) shape) h)))
+        | inr h ↦ h
+      ],
+    )
 
 pub leaves_by : (all : List Attr) (behind : List ℕ) → Ended (last_rank 0 all) behind → (behind ≡ []) ⊎ LeavesShape (kinds_of all) behind
 leaves_by all behind (inl none) = inl none
@@ -181,5 +184,5 @@ text_read kind number all bytes h no_fingerprint =
       message = rw (h.text, header_front kind (length body) number body h.kind_fits, length_fine kind number body h.length_fits, header_drop kind (length body) number body, shows, none, behind) (rest_fine (last_rank 0 (attributes_of h.parts)) h.behind ended);
       kind = ap kind_at h.text ∙ header_kind kind (length body) number body h.kind_fits;
       number = ap number_at h.text ∙ header_number kind (length body) number body h.number_fits;
-      shows = ap (λ (l : List ℕ). shown_after 0 (drop 20 l)) h.text ∙ ap (shown_after 0) (header_drop kind (length body) number body) ∙ shows ∙ h.shows
+      shows = ap (λ (l : List ℕ). shown_after 0 (drop 20 l)) h.text ∙ ap (shown_after 0) (header_drop kind (length body) number body) ∙ shows ∙ h.shows;
     }

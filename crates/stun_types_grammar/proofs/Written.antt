@@ -41,7 +41,7 @@ written_text kind number all k n fits shape short =
       shows = parts_of-attributes all;
       each = parts_of-fit all fits;
       shape = shape;
-      ended = inl refl
+      ended = inl refl;
     }
 
 pub written_read : (kind number : ℕ) (all : List Attr) → kind < 2 ^ 14 → number < 2 ^ 96 → AllByRecursion FitsAttribute all → IsShape (kinds_of all) → length (body_text all) < 2 ^ 16 → fingerprint_refusal all ≡ None

@@ -16,8 +16,7 @@ ghost use Rattle.stun_types_grammar.specs.Reading.{IsReadAs};
 /// its header, and is itself in the shape (RFC 8489, sections 14.5 to 14.7).
 pub fn shown_is_longest_front()
     ensures { (bytes : List ℕ) → IsLongestFront (shown bytes) (attributes (drop 20 bytes)) }
-{
-}
+{}
 
 /// Bytes are refused as `NotStun` exactly where no continuation of them is a header, as `Truncated`
 /// exactly where some continuation is one and they are fewer than twenty, and not at all exactly
@@ -26,23 +25,20 @@ pub fn header_refusals()
     ensures not_stun { (bytes : List ℕ) → AreBytes bytes → (header_refusal bytes ≡ Some NotStun) ↔ (¬ MayBecomeHeader bytes) }
     ensures truncated { (bytes : List ℕ) → AreBytes bytes → (header_refusal bytes ≡ Some (Truncated 20 (length bytes))) ↔ ((length bytes < 20) × MayBecomeHeader bytes) }
     ensures accepted { (bytes : List ℕ) → AreBytes bytes → (header_refusal bytes ≡ None) ↔ BeginsWithHeader bytes }
-{
-}
+{}
 
 /// The text of a message is read as that message, whatever its padding is and whatever stands
 /// behind where the shape is left (RFC 8489, sections 5 and 14).
 pub fn text_is_read()
     ensures { (kind number : ℕ) (all : List Attr) (bytes : List ℕ) → IsTextOf kind number all bytes → fingerprint_refusal all ≡ None → IsReadAs kind number all bytes }
-{
-}
+{}
 
 /// A message is the text of what is read of it: the header that it tells, each attribute that it
 /// shows with some padding, and behind them nothing, or four bytes and more that begin with a type
 /// by which the shape is left. With the law before, this says which bytes are a message.
 pub fn message_is_text()
     ensures { (bytes : List ℕ) → AreBytes bytes → refusal bytes ≡ None → IsTextOf (kind_at bytes) (number_at bytes) (shown bytes) bytes }
-{
-}
+{}
 
 /// A message as a writer writes it is accepted, and read as its type, its number and the attributes
 /// that were added.
@@ -55,5 +51,4 @@ pub fn written_is_read()
         → length (body_text all) < 2 ^ 16
         → fingerprint_refusal all ≡ None
         → IsReadAs kind number all (message_text kind number all) }
-{
-}
+{}

@@ -1,5 +1,5 @@
 -- Which attributes a message shows: ordinary ones, then MESSAGE-INTEGRITY, MESSAGE-INTEGRITY-SHA256 and FINGERPRINT, each at most once (RFC 8489, sections 14.5 to 14.7).
-use Rattle.std.specs.Prelude.{◌≡◌, ◌⊎◌, ℕ, ◌+◌, ◌≤◌, Bool, ◌||◌, ◌&&◌, ◌==◌, nat_lt, List, [], ◌∷◌, ◌++◌, map, length, drop, sum_by, if◌then◌else◌}
+use Rattle.std.specs.Prelude.{◌≡◌, ◌⊎◌, ℕ, ◌≤◌, Bool, ◌||◌, ◌&&◌, ◌==◌, nat_lt, List, [], ◌∷◌, ◌++◌, map, length, drop, sum_by, if◌then◌else◌}
 use Rattle.std.specs.List.{AllByRecursion}
 use Rattle.stun_types_wire.specs.Attributes.{Attr, attr_size, attributes}
 

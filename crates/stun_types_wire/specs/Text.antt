@@ -1,8 +1,8 @@
 -- The text of a message: a header, and each attribute with its padding (RFC 8489, sections 5 and 14).
-use Rattle.std.specs.Prelude.{◌≡◌, ℕ, ◌+◌, ◌-◌, ◌<◌, ◌≤◌, ◌^◌, List, [], ◌∷◌, ◌++◌, map, length, take, drop, replicate, ◌⊎◌}
+use Rattle.std.specs.Prelude.{◌≡◌, ℕ, ◌<◌, ◌≤◌, ◌^◌, List, [], ◌∷◌, ◌++◌, map, length, replicate, ◌⊎◌}
 use Rattle.std.specs.List.{flat_map, AllByRecursion}
 use Rattle.byteorder.specs.Endian.{big_bytes}
-use Rattle.stun_types_wire.specs.Attributes.{Attr, padded, padding_len, attr_size, kind_at}
+use Rattle.stun_types_wire.specs.Attributes.{Attr, padding_len, kind_at}
 use Rattle.stun_types_wire.specs.Shape.{IsShape, kinds_of}
 use Rattle.stun_types_wire.specs.Grammar.{cookie}
 

@@ -1,5 +1,5 @@
 -- The type of a message: its class and its method, bit by bit (RFC 8489, section 5, figure 3).
-use Rattle.std.specs.Prelude.{◌≡◌, ◌||◌, ℕ, ◌+◌, ◌*◌, ◌/◌, ◌%◌, Bool, ◌==◌, if◌then◌else◌}
+use Rattle.std.specs.Prelude.{ℕ, ◌+◌, ◌*◌, ◌/◌, ◌%◌, Bool, ◌==◌, if◌then◌else◌}
 use Rattle.stun_types_wire.specs.declared.class.MessageClass.{MessageClass}
 use Rattle.stun_types_wire.specs.declared.class.MessageClass.TheVariants.{Request, Indication, Success, Error}
 

@@ -125,9 +125,6 @@ impl<'a> AttributeWrite for RawAttribute<'a> {
     }
 
     fn to_raw(&self, _alloc: Global) -> Result<RawAttribute<'_>, NoMemory> {
-        Ok(RawAttribute::new(
-            RawAttribute::get_type(self),
-            self.value(),
-        ))
+        Ok(RawAttribute::new(RawAttribute::get_type(self), self.value()))
     }
 }

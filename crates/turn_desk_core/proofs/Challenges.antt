@@ -97,5 +97,6 @@ numbers_fit bytes are message =
   where
     method_fits : (kind : ℕ) → kind < 2 ^ 14 → method_of kind < 4096
     method_fits kind h = omega arith
+
     type_fits : (method : ℕ) → method < 4096 → type_of Error method < 2 ^ 14
     type_fits method h = omega arith

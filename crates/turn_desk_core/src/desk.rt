@@ -32,6 +32,7 @@ const ALLOCATE: Method = Method(0x003);
 
 /// The attributes by which a message is signed.
 const MESSAGE_INTEGRITY: AttributeType = AttributeType(0x0008);
+
 const MESSAGE_INTEGRITY_SHA256: AttributeType = AttributeType(0x001C);
 
 /// A small server core. Contracts see its authenticator and what it granted.

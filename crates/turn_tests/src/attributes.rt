@@ -33,10 +33,19 @@ fn raw_attribute_in_bytes_and_back(rt: HostRuntime) -> Result<(), Fail> {
 #[test]
 fn raw_attributes_are_refused(rt: HostRuntime) {
     let (three, _) = PASSWORD_ALGORITHM.split_at(3);
-    assert_eq!(rt; RawAttribute::from_bytes(three).err(), Some(truncated(4, 3)));
-    assert_eq!(rt; AttributeHeader::try_from(three).err(), Some(truncated(4, 3)));
+    assert_eq!(rt;
+        RawAttribute::from_bytes(three).err(),
+        Some(truncated(4, 3))
+    );
+    assert_eq!(rt;
+        AttributeHeader::try_from(three).err(),
+        Some(truncated(4, 3))
+    );
     let (seven, _) = PASSWORD_ALGORITHM.split_at(7);
-    assert_eq!(rt; RawAttribute::from_bytes(seven).err(), Some(truncated(8, 7)));
+    assert_eq!(rt;
+        RawAttribute::from_bytes(seven).err(),
+        Some(truncated(8, 7))
+    );
 }
 
 #[test]
@@ -83,7 +92,9 @@ fn error_code_in_bytes(rt: HostRuntime) -> Result<(), Fail> {
     assert_eq!(rt; error.code(), ErrorCode::FORBIDDEN);
     assert_eq!(rt; error.reason(), "Forbidden");
     let raw = error.to_raw(rt.alloc())?;
-    let value = [0, 0, 4, 3, b'F', b'o', b'r', b'b', b'i', b'd', b'd', b'e', b'n'];
+    let value = [
+        0, 0, 4, 3, b'F', b'o', b'r', b'b', b'i', b'd', b'd', b'e', b'n',
+    ];
     assert_eq!(rt; raw.value(), value.as_slice());
     let mut written = [9; 21];
     let size = error.write_into(&mut written)?;
@@ -125,7 +136,10 @@ fn texts_are_refused(rt: HostRuntime) -> Result<(), Fail> {
     });
     assert_eq!(rt; Realm::new(rt.alloc(), text.as_str()).err(), expected);
     assert_eq!(rt; Nonce::new(rt.alloc(), text.as_str()).err(), expected);
-    assert_eq!(rt; ErrorCode::new(rt.alloc(), 400, text.as_str()).err(), expected);
+    assert_eq!(rt;
+        ErrorCode::new(rt.alloc(), 400, text.as_str()).err(),
+        expected
+    );
     Ok(())
 }
 
@@ -136,7 +150,10 @@ fn writes_are_refused(rt: HostRuntime) -> Result<(), Fail> {
     let too_small = |expected: usize, actual: usize| StunWriteError::TooSmall { expected, actual };
     assert_eq!(rt; realm.write_into(&mut room).err(), Some(too_small(12, 11)));
     assert_eq!(rt; room, [7; 11]);
-    assert_eq!(rt; realm.write_header(&mut room[..3]).err(), Some(too_small(4, 3)));
+    assert_eq!(rt;
+        realm.write_header(&mut room[..3]).err(),
+        Some(too_small(4, 3))
+    );
     assert_eq!(rt; realm.write_header(&mut room)?, 4);
     assert_eq!(rt; room, [0, 0x14, 0, 5, 7, 7, 7, 7, 7, 7, 7]);
     assert_eq!(rt; realm.padded_len(), 12);

@@ -10,7 +10,8 @@ use stun_types::message::{
 const BINDING_REQUEST: &str = "000100082112a442000000000000000000007392001d000400020000";
 
 /// The sample request of RFC 5769, section 2.1. It ends in a FINGERPRINT, which is not checked yet.
-const SAMPLE_REQUEST: &str = "000100582112a442b7e7a701bc34d686fa87dfae802200105354554e207465737420636c69656e74002400046e0001ff80290008932ff9b151263b36000600096576746a3a68367659202020000800149aeaa70cbfd8cb56781ef2b5b2d3f249c1b571a280280004e57a3bcf";
+const SAMPLE_REQUEST: &str =
+    "000100582112a442b7e7a701bc34d686fa87dfae802200105354554e207465737420636c69656e74002400046e0001ff80290008932ff9b151263b36000600096576746a3a68367659202020000800149aeaa70cbfd8cb56781ef2b5b2d3f249c1b571a280280004e57a3bcf";
 
 #[test]
 fn binding_request_with_password_algorithm(rt: HostRuntime) -> Result<(), Fail> {
@@ -20,7 +21,9 @@ fn binding_request_with_password_algorithm(rt: HostRuntime) -> Result<(), Fail> 
     assert!(rt; !message.is_response());
     assert!(rt; message.has_method(BINDING));
     assert_eq!(rt; message.transaction_id(), TransactionId::from(0x7392u128));
-    let raw = message.raw_attribute(AttributeType(0x001D)).ok_or("not shown")?;
+    let raw = message
+        .raw_attribute(AttributeType(0x001D))
+        .ok_or("not shown")?;
     assert_eq!(rt; raw.value(), [0, 2, 0, 0].as_slice());
     assert!(rt; !message.has_attribute(AttributeType(0x0006)));
     let mut left = message.iter_attributes();
@@ -55,18 +58,37 @@ fn messages_are_refused(rt: HostRuntime) -> Result<(), Fail> {
         ("40", StunParseError::NotStun),
         ("0001000821", truncated(20, 5)),
         // one byte more than the length tells
-        ("000100082112a442000000000000000000007392001d00040002000000", too_large),
+        (
+            "000100082112a442000000000000000000007392001d00040002000000",
+            too_large,
+        ),
         // three bytes where an attribute begins
-        ("0001000b2112a442000000000000000000007392001d000400020000001d00", truncated(4, 3)),
+        (
+            "0001000b2112a442000000000000000000007392001d000400020000001d00",
+            truncated(4, 3),
+        ),
         // a value of five bytes, of whose padded length four are there
-        ("000100082112a442000000000000000000007392001d000500020000", truncated(12, 8)),
+        (
+            "000100082112a442000000000000000000007392001d000500020000",
+            truncated(12, 8),
+        ),
         // a FINGERPRINT, and one that is not there whole
-        ("000100082112a4420000000000000000000073928028000400020000", StunParseError::FingerprintMismatch),
-        ("000100082112a4420000000000000000000073928028000500020000", truncated(12, 8)),
+        (
+            "000100082112a4420000000000000000000073928028000400020000",
+            StunParseError::FingerprintMismatch,
+        ),
+        (
+            "000100082112a4420000000000000000000073928028000500020000",
+            truncated(12, 8),
+        ),
         (SAMPLE_REQUEST, StunParseError::FingerprintMismatch),
     ] {
         let bytes = hex::decode(rt.alloc(), text)?;
-        assert_eq!(rt; Message::from_bytes(bytes.as_slice()).err(), Some(expected), "{text}");
+        assert_eq!(rt;
+            Message::from_bytes(bytes.as_slice()).err(),
+            Some(expected),
+            "{text}"
+        );
     }
     Ok(())
 }

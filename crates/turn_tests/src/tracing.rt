@@ -5,7 +5,8 @@ use turn_desk_replay::replay::replay;
 use turn_desk_replay::status::Status;
 
 /// What a challenge shows behind its header: ERROR-CODE 401, REALM, NONCE.
-const SHOWN: &str = "0009001000000401556e617574686f72697a6564001400057265616c6d0000000015001d6f624d61744a6f73325141414167796944624943587750446151316861000000";
+const SHOWN: &str =
+    "0009001000000401556e617574686f72697a6564001400057265616c6d0000000015001d6f624d61744a6f73325141414167796944624943587750446151316861000000";
 
 /// The unsigned ALLOCATE of a client that was recorded, and the number of its transaction.
 struct Recorded {
@@ -59,11 +60,13 @@ fn clients_are_challenged_under_their_own_numbers(rt: HostRuntime) -> Result<(),
 
 #[test]
 fn challenge_of_a_desk_without_anonymous_names(rt: HostRuntime) {
-    let mut trace: &[u8] = b"desk realm sha1 disabled\ntodesk 0 192.168.0.1:1000 000300142112a442ade0b876903df1a0e56a5d40000d0004000007080019000411000000001a0000 0 refuse 400";
+    let mut trace: &[u8] =
+        b"desk realm sha1 disabled\ntodesk 0 192.168.0.1:1000 000300142112a442ade0b876903df1a0e56a5d40000d0004000007080019000411000000001a0000 0 refuse 400";
     let mut output = Vec::new(rt.alloc());
     let status = replay(rt.alloc(), &mut trace, &mut output);
     assert_eq!(rt; status, Status::Done);
-    let reply: &[u8] = b"reply 011300442112a442ade0b876903df1a0e56a5d400009001000000401556e617574686f72697a6564001400057265616c6d0000000015001d6f624d61744a6f73324141414167796944624943587750446151316861000000\n";
+    let reply: &[u8] =
+        b"reply 011300442112a442ade0b876903df1a0e56a5d400009001000000401556e617574686f72697a6564001400057265616c6d0000000015001d6f624d61744a6f73324141414167796944624943587750446151316861000000\n";
     assert_eq!(rt; output.as_slice(), reply);
 }
 
@@ -81,5 +84,9 @@ todesk 0 10.0.0.9:1 - 0 grant\n";
     let mut output = Vec::new(rt.alloc());
     let status = replay(rt.alloc(), &mut trace, &mut output);
     assert_eq!(rt; status, Status::Done);
-    assert!(rt; output.as_slice().ends_with(b"\nnone\nnone\nnone\nnone\nnone\nnone\n"));
+    assert!(rt;
+        output
+            .as_slice()
+            .ends_with(b"\nnone\nnone\nnone\nnone\nnone\nnone\n")
+    );
 }

@@ -19,7 +19,8 @@ const ALLOCATE: &str =
     "000300142112a442ade0b876903df1a0e56a5d40000d0004000007080019000411000000001a0000";
 
 /// The challenge that answers it: ERROR-CODE, REALM, NONCE.
-const CHALLENGE: &str = "011300442112a442ade0b876903df1a0e56a5d400009001000000401556e617574686f72697a6564001400057265616c6d0000000015001d6f624d61744a6f73325141414167796944624943587750446151316861000000";
+const CHALLENGE: &str =
+    "011300442112a442ade0b876903df1a0e56a5d400009001000000401556e617574686f72697a6564001400057265616c6d0000000015001d6f624d61744a6f73325141414167796944624943587750446151316861000000";
 
 #[test]
 fn challenge_is_written(rt: HostRuntime) -> Result<(), Fail> {
@@ -74,7 +75,10 @@ fn first_message_is_written(rt: HostRuntime) -> Result<(), Fail> {
     assert_eq!(rt; writer.as_slice(), expected.as_slice());
     assert!(rt; writer.has_attribute(AttributeType(0x001D)));
     let asked = [AttributeType(0x0006), AttributeType(0x001D)];
-    assert_eq!(rt; writer.has_any_attribute(&asked), Some(AttributeType(0x001D)));
+    assert_eq!(rt;
+        writer.has_any_attribute(&asked),
+        Some(AttributeType(0x001D))
+    );
     Ok(())
 }
 
