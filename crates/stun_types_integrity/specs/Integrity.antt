@@ -1,5 +1,5 @@
 -- Message integrity: which text is covered, by which digest, and when a message validates (RFC 8489, sections 14.5 and 14.6).
-use Rattle.std.specs.Prelude.{◌≡◌, ℕ, ◌+◌, ◌-◌, ◌%◌, Bool, false, ◌==◌, ◌&&◌, ◌||◌, nat_le, IsTrue, List, ◌∷◌, ◌++◌, length, take, drop}
+use Rattle.std.specs.Prelude.{◌≡◌, ℕ, ◌+◌, ◌-◌, ◌%◌, Bool, ◌==◌, ◌&&◌, nat_le, Option, Some, None, if◌then◌else◌, IsTrue, List, ◌∷◌, ◌++◌, length, take, drop}
 use Rattle.std.specs.List.{AllByRecursion}
 use Rattle.sha1.specs.Sha1.{sha1}
 use Rattle.sha2.specs.Sha256.{sha256}
@@ -33,9 +33,9 @@ abbrev pub is_lawful_length : IntegrityAlgorithm → ℕ → Bool
 is_lawful_length Sha1 len = len == 20
 is_lawful_length Sha256 len = nat_le 16 len && (nat_le len 32 && len % 4 == 0)
 
--- a type of an integrity attribute
-abbrev pub is_integrity_kind : ℕ → Bool
-is_integrity_kind kind = kind == integrity_kind || kind == sha256_kind
+-- the algorithm of an attribute's type, where it is an integrity attribute
+abbrev pub algorithm_of : ℕ → Option IntegrityAlgorithm
+algorithm_of kind = if kind == integrity_kind then Some Sha1 else if kind == sha256_kind then Some Sha256 else None
 
 -- ---- validation
 
@@ -59,4 +59,4 @@ pub record IsSigned (bytes key : List ℕ) (algorithm : IntegrityAlgorithm) (tex
 -- the same, and no integrity attribute is shown behind that attribute
 pub record Validates (bytes key : List ℕ) (algorithm : IntegrityAlgorithm) (text : List ℕ) : Type 0 where
   pub signed : IsSigned bytes key algorithm text
-  pub last : AllByRecursion (λ entry. is_integrity_kind entry.1.kind ≡ false) signed.behind
+  pub last : AllByRecursion (λ entry. algorithm_of entry.1.kind ≡ None) signed.behind

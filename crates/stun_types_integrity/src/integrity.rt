@@ -4,6 +4,7 @@ ghost use Rattle.std.specs.Prelude.{◌≡◌, ◌≢◌, ◌↔◌, ◌++◌, l
 ghost use Rattle.stun_types_wire.specs.declared.algorithm.IntegrityAlgorithm.TheVariants.{Sha1};
 ghost use Rattle.stun_types_integrity.specs.Integrity.{integrity_hmac};
 
+use crate::algorithm::MESSAGE_INTEGRITY;
 use crate::key::IntegrityKey;
 use std::alloc::Global;
 use std::marker::Model;
@@ -102,7 +103,7 @@ impl MessageIntegrity {
 impl AttributeStaticType for MessageIntegrity {
     ghost TYPE = { record { 0 = 0x0008 } };
 
-    const TYPE: AttributeType = AttributeType(0x0008);
+    const TYPE: AttributeType = MESSAGE_INTEGRITY;
 }
 
 impl Attribute for MessageIntegrity {

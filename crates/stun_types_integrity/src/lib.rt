@@ -2,6 +2,7 @@
 //! MESSAGE-INTEGRITY (RFC 8489, sections 9 and 14.5).
 #![tactic(auto)]
 
+pub mod algorithm;
 pub mod credentials;
 pub mod integrity;
 pub mod key;
