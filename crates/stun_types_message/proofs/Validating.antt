@@ -1,14 +1,14 @@
 -- The attribute that is validated: where it stands, and that it is the only one of its type.
-use Rattle.std.proofs.Common.{◌≡◌, ℕ, zero, suc, ◌+◌, ◌-◌, ◌^◌, ◌<◌, ◌≤◌, Bool, true, false, ltb, eqb, leb, cond, List, [], ◌∷◌, ◌++◌, length, take, drop, Option, Some, None, refl, sym, ap, subst, ◌∙◌, arith, inl, inr}
-use Rattle.std.specs.Prelude.{find, map, IsSomeAnd, IfOk, IfErr, OnOk, Result, Ok, Err}
-use Rattle.std.proofs.lemmas.Bool.{cases_Bool, and_parts, ltb-true, ltb-false, leb-true, eqb-true, ne_eqb, eq-eqb}
+use Rattle.std.proofs.Common.{◌≡◌, ℕ, zero, suc, ◌+◌, ◌-◌, ◌<◌, ◌≤◌, Bool, true, ltb, eqb, cond, List, [], ◌∷◌, ◌++◌, length, take, drop, Option, Some, None, refl, sym, ap, subst, ◌∙◌, arith, inl, inr}
+use Rattle.std.specs.Prelude.{find, map, IsSomeAnd, IfOk, IfErr, OnOk, MatchResult, Result, Ok, Err}
+use Rattle.std.proofs.lemmas.Bool.{cases_Bool, ltb-true, ltb-false, eqb-true, ne_eqb, eq-eqb}
 use Rattle.std.specs.Option.{option_or}
 use Rattle.std.proofs.lemmas.List.{length-drop, drop-drop}
 use Rattle.byteorder.specs.Endian.{big_bytes}
 use Rattle.stun_types_wire.specs.declared.error.StunParseError.{StunParseError}
 use Rattle.stun_types_wire.specs.declared.algorithm.IntegrityAlgorithm.{IntegrityAlgorithm}
 use Rattle.stun_types_wire.specs.Attributes.{Attr, attr_size, padded, attr_at, kind_at, length_at, size_at, is_whole, numbered}
-use Rattle.stun_types_wire.specs.Shape.{integrity_kind, sha256_kind, rank, may_follow, kinds_of, shape_front, shown_after}
+use Rattle.stun_types_wire.specs.Shape.{integrity_kind, sha256_kind, rank, may_follow, kinds_of, shown_after}
 use Rattle.stun_types_wire.specs.Grammar.{Header, IsMessage, shown, refusal, header_refusal, length_refusal, body_refusal, or_else}
 use Rattle.stun_types_grammar.proofs.Whole.{whole_long, size_whole}
 use Rattle.std.specs.List.{AllByRecursion}
@@ -19,8 +19,8 @@ use Rattle.stun_types_write.specs.Adding.{with_length}
 use Rattle.stun_types_wire.specs.declared.algorithm.IntegrityAlgorithm.TheVariants.{Sha1, Sha256}
 use Rattle.stun_types_wire.specs.declared.error.StunParseError.TheVariants.{MissingAttribute, InvalidAttributeData}
 use Rattle.stun_types_wire.specs.declared.error.ValidateError.{ValidateError}
-use Rattle.stun_types_wire.specs.declared.error.ValidateError.TheVariants.{Parse, IntegrityFailed}
-use Rattle.stun_types_integrity.specs.Integrity.{IsFront, IsSigned, Validates, algorithm_of, attribute_kind, covered_text, integrity_hmac}
+use Rattle.stun_types_wire.specs.declared.error.ValidateError.TheVariants.{Parse, IntegrityFailed, NoMemory}
+use Rattle.stun_types_integrity.specs.Integrity.{IsSigned, Validates, algorithm_of, attribute_kind, covered_text, integrity_hmac}
 use Rattle.stun_types_integrity.specs.Credentials.{Key}
 use Rattle.stun_types_integrity.specs.Keys.{key_of}
 use Rattle.stun_types_integrity.specs.declared.credentials.MessageIntegrityCredentials.{MessageIntegrityCredentials}
@@ -186,19 +186,21 @@ positive_rank Sha256 = omega arith
 right_signed : (bytes key : List ℕ) (algorithm : IntegrityAlgorithm) (o : Option (ℕ × Attr)) → IsMessage bytes → first_of_kind (attribute_kind algorithm) bytes ≡ o → IsSomeAnd o (IsRight bytes key algorithm) → (text : List ℕ) × IsSigned bytes key algorithm text
 right_signed bytes key algorithm None message is right = absurd right
 right_signed bytes key algorithm (Some entry) message is right =
-    let found = found_parts (of_kind (attribute_kind algorithm)) (numbered 20 (shown bytes)) entry is in
-    (covered_text bytes entry.0, record {
-      message = message;
-      before = found.before;
-      offset = entry.0;
-      attribute = entry.1;
-      behind = found.behind;
-      shows = found.parts;
-      kind = eqb-true entry.1.kind (attribute_kind algorithm) found.passes;
-      covered = refl;
-      lawful = right.lawful;
-      digest = right.digest
-    })
+    let found = found_parts (of_kind (attribute_kind algorithm)) (numbered 20 (shown bytes)) entry is in (
+      covered_text bytes entry.0,
+      record {
+        message = message;
+        before = found.before;
+        offset = entry.0;
+        attribute = entry.1;
+        behind = found.behind;
+        shows = found.parts;
+        kind = eqb-true entry.1.kind (attribute_kind algorithm) found.passes;
+        covered = refl;
+        lawful = right.lawful;
+        digest = right.digest;
+      },
+    )
 
 pub signed : (bytes key : List ℕ) (algorithm : IntegrityAlgorithm) → IsMessage bytes → IsSomeAnd (first_of_kind (attribute_kind algorithm) bytes) (IsRight bytes key algorithm) → (text : List ℕ) × IsSigned bytes key algorithm text
 signed bytes key algorithm message right = right_signed bytes key algorithm (first_of_kind (attribute_kind algorithm) bytes) message refl right
@@ -297,7 +299,7 @@ signed_validates bytes key algorithm text is s =
     let same : last.entry ≡ (s.offset, s.attribute) = cc in
     record {
       signed = record s { before = last.before; behind = last.behind; shows = last.parts ∙ ap (λ (e : ℕ × Attr). last.before ++ e ∷ last.behind) same };
-      last = last.none
+      last = last.none;
     }
 
 pub validates_last : (bytes key : List ℕ) (algorithm : IntegrityAlgorithm) (text : List ℕ) → Validates bytes key algorithm text → last_algorithm (shown bytes) ≡ Some algorithm
@@ -307,6 +309,10 @@ validates_last bytes key algorithm text v =
 
 -- ---- what is answered under credentials
 
+algorithm_kept : (c : MessageIntegrityCredentials) (a : IntegrityAlgorithm) → (key_of c a).algorithm ≡ a
+algorithm_kept (ShortTerm s) a = refl
+algorithm_kept (LongTerm s) a = refl
+
 pub valid_by : (bytes : List ℕ) (credentials : MessageIntegrityCredentials) (key : Key) (algorithm : IntegrityAlgorithm) (result : Result IntegrityAlgorithm ValidateError) → last_algorithm (shown bytes) ≡ Some algorithm → key ≡ key_of credentials algorithm
     → IfOk result (λ answered. (answered ≡ key.algorithm) × ((text : List ℕ) × IsSigned bytes key.bytes answered text)) → IfOk result (λ answered. (text : List ℕ) × Validates bytes (key_of credentials answered).bytes answered text)
 valid_by bytes credentials key algorithm (Err error) last is h = tt
@@ -315,7 +321,19 @@ valid_by bytes credentials key algorithm (Ok answered) last is h =
     let same : algorithm ≡ answered = sym own ∙ sym h.0 in
     let bytes-are : key.bytes ≡ (key_of credentials answered).bytes = ap (λ (k : Key). k.bytes) is ∙ ap (λ (a : IntegrityAlgorithm). (key_of credentials a).bytes) same in
     (h.1.0, signed_validates bytes (key_of credentials answered).bytes answered h.1.0 (last ∙ ap (λ (a : IntegrityAlgorithm). Some a) same) (subst (λ (k : List ℕ). IsSigned bytes k answered h.1.0) bytes-are h.1.1))
-  where
-    algorithm_kept : (c : MessageIntegrityCredentials) (a : IntegrityAlgorithm) → (key_of c a).algorithm ≡ a
-    algorithm_kept (ShortTerm s) a = refl
-    algorithm_kept (LongTerm s) a = refl
+
+pub accepted_by : (bytes : List ℕ) (credentials : MessageIntegrityCredentials) (key : Key) (algorithm : IntegrityAlgorithm) (result : Result IntegrityAlgorithm ValidateError) → last_algorithm (shown bytes) ≡ Some algorithm → key ≡ key_of credentials algorithm
+    → ((text : List ℕ) → IsSigned bytes key.bytes key.algorithm text → result ≡ Ok key.algorithm)
+    → (a : IntegrityAlgorithm) (text : List ℕ) → Validates bytes (key_of credentials a).bytes a text → MatchResult result (λ answered. answered ≡ a) (λ error. error ≡ NoMemory)
+accepted_by bytes credentials key algorithm result last is accepts a text v =
+    let both : Some algorithm ≡ Some a = sym last ∙ validates_last bytes (key_of credentials a).bytes a text v in
+    let same : algorithm ≡ a = cc in
+    let key-is : key ≡ key_of credentials a = is ∙ ap (λ (b : IntegrityAlgorithm). key_of credentials b) same in
+    let own : key.algorithm ≡ a = ap (λ (k : Key). k.algorithm) key-is ∙ algorithm_kept credentials a in
+    let P : List ℕ → IntegrityAlgorithm → Type 0 = λ k b. IsSigned bytes k b text in
+    let one = subst (λ (k : List ℕ). IsSigned bytes k a text) (sym (ap (λ (k : Key). k.bytes) key-is)) v.signed in
+    let two = subst (λ (b : IntegrityAlgorithm). IsSigned bytes key.bytes b text) (sym own) one in
+    rw (accepts text two) own
+
+pub none_validates : (bytes key : List ℕ) (algorithm : IntegrityAlgorithm) (text : List ℕ) → last_algorithm (shown bytes) ≡ None → Validates bytes key algorithm text → ⊥
+none_validates bytes key algorithm text none v = let p = sym none ∙ validates_last bytes key algorithm text v in absurd cc

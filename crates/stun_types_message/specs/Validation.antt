@@ -1,12 +1,15 @@
 -- Which attribute is validated, and why a message is not (RFC 8489, sections 9.1.3, 9.2.4 and 14.5).
-use Rattle.std.specs.Prelude.{◌≡◌, ℕ, ◌+◌, ◌≤◌, ◌==◌, IsTrue, List, [], ◌∷◌, length, drop, find, Option, Some, None, IsSomeAnd}
+use Rattle.std.specs.Prelude.{◌≡◌, ℕ, ◌+◌, ◌≤◌, ◌==◌, IsTrue, List, [], ◌∷◌, length, drop, find, Option, None, IsSomeAnd, MatchOption}
 use Rattle.std.specs.Option.{option_or}
 use Rattle.stun_types_wire.specs.declared.algorithm.IntegrityAlgorithm.{IntegrityAlgorithm}
 use Rattle.stun_types_wire.specs.declared.error.ValidateError.{ValidateError}
 use Rattle.stun_types_wire.specs.declared.error.ValidateError.TheVariants.{Parse, IntegrityFailed}
 use Rattle.stun_types_wire.specs.declared.error.StunParseError.TheVariants.{MissingAttribute, InvalidAttributeData}
 use Rattle.stun_types_wire.specs.Attributes.{Attr, padded, size_at, numbered}
+use Rattle.stun_types_wire.specs.Shape.{integrity_kind}
 use Rattle.stun_types_wire.specs.Grammar.{shown}
+use Rattle.stun_types_integrity.specs.declared.credentials.MessageIntegrityCredentials.{MessageIntegrityCredentials}
+use Rattle.stun_types_integrity.specs.Keys.{key_of}
 use Rattle.stun_types_integrity.specs.Integrity.{IsFront, algorithm_of, attribute_kind, covered_text, integrity_hmac, is_lawful_length}
 
 -- the first attribute of a type that is shown, with the offset at which it stands
@@ -43,3 +46,8 @@ IsRefused bytes key algorithm (Parse (MissingAttribute kind)) = (kind.0 ≡ attr
 IsRefused bytes key algorithm (Parse InvalidAttributeData) = IsSomeAnd (first_of_kind (attribute_kind algorithm) bytes) (λ entry. ¬ IsLawful algorithm entry)
 IsRefused bytes key algorithm IntegrityFailed = IsSomeAnd (first_of_kind (attribute_kind algorithm) bytes) (λ entry. IsLawful algorithm entry × (¬ HasDigest bytes key algorithm entry.0 entry.1.value))
 IsRefused bytes key algorithm _ = ⊥
+
+-- why a message does not validate under credentials: it shows no integrity attribute, or that of the last one's algorithm is refused
+abbrev pub IsNotValid : List ℕ → MessageIntegrityCredentials → ValidateError → Type 0
+IsNotValid bytes credentials error =
+    MatchOption (last_algorithm (shown bytes)) (error ≡ Parse (MissingAttribute (record { 0 = integrity_kind }))) (λ algorithm. IsRefused bytes (key_of credentials algorithm).bytes algorithm error)

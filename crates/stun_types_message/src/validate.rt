@@ -2,17 +2,17 @@
 
 ghost use Rattle.std.specs.Prelude.{◌≡◌, ◌≢◌, ◌↔◌, ◌-◌, ◌≤◌, ℕ, List, Ok, Some, None, IsTrue, IsSomeAnd, IfOk, IfErr, IfSome, OnOk, MatchOption, MatchResult, length};
 ghost use Rattle.stun_types_wire.specs.declared.algorithm.IntegrityAlgorithm.{IntegrityAlgorithm as Algorithm};
-ghost use Rattle.stun_types_wire.specs.declared.error.ValidateError.TheVariants.{Parse};
-ghost use Rattle.stun_types_wire.specs.declared.error.StunParseError.TheVariants.{InvalidAttributeData};
 ghost use Rattle.stun_types_wire.specs.Attributes.{Attr};
 ghost use Rattle.stun_types_wire.specs.Grammar.{IsMessage, shown};
 ghost use Rattle.stun_types_integrity.specs.Integrity.{IsSigned, Validates, attribute_kind};
 ghost use Rattle.stun_types_integrity.specs.Keys.{key_of};
-ghost use Rattle.stun_types_message.specs.Validation.{HasDigest, IsRefused, IsRight, StandsAt, first_of_kind, last_algorithm};
+ghost use Rattle.stun_types_message.specs.Validation.{HasDigest, IsNotValid, IsRefused, IsRight, StandsAt, first_of_kind, last_algorithm};
 
 use crate::message::Message;
 use std::alloc::Global;
-use stun_types_integrity::algorithm::{algorithm_of, attribute_type, is_lawful_length};
+use stun_types_integrity::algorithm::{
+    MESSAGE_INTEGRITY, algorithm_of, attribute_type, is_lawful_length,
+};
 use stun_types_integrity::credentials::MessageIntegrityCredentials;
 use stun_types_integrity::key::IntegrityKey;
 use stun_types_wire::algorithm::IntegrityAlgorithm;
@@ -32,6 +32,27 @@ impl<'a> Message<'a> {
             }
         }
         last
+    }
+
+    /// Validates the message by the last integrity attribute that it shows, under the key that the
+    /// credentials make for that attribute's algorithm, and answers the algorithm. Refused with
+    /// `Parse(MissingAttribute)` of MESSAGE-INTEGRITY where the message shows no integrity
+    /// attribute, and else as `validate_integrity_with_key` is; where memory is refused for the key,
+    /// with `NoMemory`.
+    pub fn validate_integrity(
+        &self,
+        alloc: Global,
+        credentials: &MessageIntegrityCredentials,
+    ) -> Result<IntegrityAlgorithm, ValidateError>
+        ensures valid { IfOk result (λ algorithm. (text : List ℕ) × Validates self.now (key_of credentials.now algorithm).bytes algorithm text) }
+        ensures accepted { (algorithm : Algorithm) (text : List ℕ) → Validates self.now (key_of credentials.now algorithm).bytes algorithm text → MatchResult result (λ answered. answered ≡ algorithm) (λ error. error ≡ ValidateError.NoMemory) }
+        ensures refused { IfErr result (λ error. error ≢ ValidateError.NoMemory → IsNotValid self.now credentials.now error) }
+    {
+        let Some(algorithm) = self.last_integrity() else {
+            return Err(ValidateError::Parse(StunParseError::MissingAttribute(MESSAGE_INTEGRITY)));
+        };
+        let key = credentials.make_key(alloc, algorithm)?;
+        self.validate_integrity_with_key(&key)
     }
 
     /// Validates the message by the integrity attribute of the algorithm for which a key was made,
