@@ -8,6 +8,7 @@ ghost use Rattle.stun_types_integrity.specs.Integrity.{IsSigned, Validates, attr
 ghost use Rattle.stun_types_integrity.specs.Keys.{key_of};
 ghost use Rattle.stun_types_message.specs.Validation.{HasDigest, IsNotValid, IsRefused, IsRight, StandsAt, first_of_kind, last_algorithm};
 
+use crate::iter::MessageAttributesIter;
 use crate::message::Message;
 use std::alloc::Global;
 use stun_types_integrity::algorithm::{
@@ -101,8 +102,7 @@ impl<'a> Message<'a> {
         ensures found { result ≡ first_of_kind atype.0 self.now }
         ensures stands { IfSome result (λ entry. StandsAt self.now entry.0 entry.1.value) }
     {
-        let _ = self.as_ref();
-        for (offset, attribute) in self.iter_attributes() {
+        for (offset, attribute) in MessageAttributesIter::new(self.as_ref()) {
             if attribute.get_type() == atype {
                 return Some((offset, attribute));
             }

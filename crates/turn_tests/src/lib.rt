@@ -9,4 +9,6 @@ mod parsing;
 #[cfg(test)]
 mod types;
 #[cfg(test)]
+mod validating;
+#[cfg(test)]
 mod writing;
