@@ -4,3 +4,6 @@ pub use Rattle.stun_types_wire.specs.Grammar
 pub use Rattle.stun_types_wire.specs.Shape
 pub use Rattle.stun_types_wire.specs.Text
 pub use Rattle.stun_types_wire.specs.Types
+pub use Rattle.stun_types_integrity.specs.Credentials
+pub use Rattle.stun_types_integrity.specs.Integrity
+pub use Rattle.stun_types_integrity.specs.Keys

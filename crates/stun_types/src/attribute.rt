@@ -3,6 +3,7 @@
 pub use stun_types_attribute::error_code::{ErrorCode, ErrorCodeBuilder};
 pub use stun_types_attribute::nonce::Nonce;
 pub use stun_types_attribute::realm::Realm;
+pub use stun_types_integrity::integrity::MessageIntegrity;
 pub use stun_types_wire::attribute::{
     AttributeHeader, AttributeType, RawAttribute, pad_attribute_len,
 };

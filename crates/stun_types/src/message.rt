@@ -1,6 +1,10 @@
 //! Messages (RFC 8489, section 5).
 
 pub use stun_types_build::ext::{MessageWriteExt, add_as};
+pub use stun_types_integrity::credentials::{
+    LongTermCredentials, LongTermKeyCredentials, MessageIntegrityCredentials, ShortTermCredentials,
+};
+pub use stun_types_integrity::key::IntegrityKey;
 pub use stun_types_message::iter::MessageAttributesIter;
 pub use stun_types_message::message::Message;
 pub use stun_types_wire::algorithm::IntegrityAlgorithm;

@@ -1,1 +1,3 @@
 pub mod Credentials
+pub mod Integrity
+pub mod Keys

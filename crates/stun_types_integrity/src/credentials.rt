@@ -1,12 +1,17 @@
-//! Credentials, which integrity keys are made of.
+//! Credentials, of which integrity keys are made (RFC 8489, section 9).
 
-ghost use Rattle.std.specs.Prelude.{◌≡◌};
+ghost use Rattle.std.specs.Prelude.{◌≡◌, IfOk};
 ghost use Rattle.std.specs.String.{string_bytes};
+ghost use Rattle.stun_types_integrity.specs.Credentials.{long_term_key, short_term_key};
 
+use crate::key::{IntegrityKey, md5_of_parts, sha256_of_parts};
+use std::alloc::Global;
 use std::marker::Model;
+use stun_types_base::memory::NoMemory;
+use stun_types_wire::algorithm::IntegrityAlgorithm;
 
-/// A user's name and password, which hold in many sessions (RFC 8489, section 9.2). Contracts see
-/// the two texts.
+/// A user's name and password, which count in many sessions, and in each realm by another key
+/// (RFC 8489, section 9.2). Contracts see the two texts.
 #[derive(Debug, Drop)]
 pub struct LongTermCredentials {
     username: String,
@@ -14,13 +19,10 @@ pub struct LongTermCredentials {
 }
 
 impl Model for LongTermCredentials {
-    ghost use Rattle.stun_types_integrity.specs.Credentials.{NameAndPassword, name_and_password_code};
+    ghost use Rattle.std.specs.String.{string_bytes};
+    ghost use Rattle.stun_types_integrity.specs.Credentials.{NameAndPassword};
 
     ghost Value = { NameAndPassword };
-
-    ghost coded = { name_and_password_code };
-
-    ghost use Rattle.std.specs.String.{string_bytes};
 
     ghost view = { λ c. record { username = string_bytes c.username; password = string_bytes c.password } };
 }
@@ -46,20 +48,187 @@ impl LongTermCredentials {
     {
         self.password.as_str()
     }
+
+    /// The same credentials in a realm. Where memory is refused, `NoMemory`, and the realm is
+    /// dropped.
+    pub fn to_key(&self, alloc: Global, realm: String) -> Result<LongTermKeyCredentials, NoMemory>
+        ensures { IfOk result (λ key. key ≡ record { username = self.now.username; password = self.now.password; realm = string_bytes realm }) }
+    {
+        let username = String::from_str(alloc, self.username())?;
+        let password = String::from_str(alloc, self.password())?;
+        Ok(LongTermKeyCredentials::new(username, password, realm))
+    }
 }
 
-#[cfg(test)]
-mod tests {
-    use super::*;
-    use std::test::Fail;
+/// A user's name and password in one realm (RFC 8489, section 9.2.2). Contracts see the three
+/// texts.
+#[derive(Debug, Drop)]
+pub struct LongTermKeyCredentials {
+    username: String,
+    password: String,
+    realm: String,
+}
 
-    #[test]
-    fn both_texts_are_kept(rt: HostRuntime) -> Result<(), Fail> {
-        let username = String::from_str(rt.alloc(), "user")?;
-        let password = String::from_str(rt.alloc(), "pass")?;
-        let credentials = LongTermCredentials::new(username, password);
-        assert_eq!(rt; credentials.username(), "user");
-        assert_eq!(rt; credentials.password(), "pass");
-        Ok(())
+impl Model for LongTermKeyCredentials {
+    ghost use Rattle.std.specs.String.{string_bytes};
+    ghost use Rattle.stun_types_integrity.specs.Credentials.{LongTermSecret};
+
+    ghost Value = { LongTermSecret };
+
+    ghost view = { λ c. record { username = string_bytes c.username; password = string_bytes c.password; realm = string_bytes c.realm } };
+}
+
+impl LongTermKeyCredentials {
+    /// The credentials of this name and password in this realm.
+    pub fn new(username: String, password: String, realm: String) -> Self
+        ensures { result ≡ record { username = string_bytes username; password = string_bytes password; realm = string_bytes realm } }
+    {
+        LongTermKeyCredentials {
+            username,
+            password,
+            realm,
+        }
+    }
+
+    /// The user's name.
+    pub fn username(&self) -> &str
+        ensures { result.now ≡ self.now.username }
+    {
+        self.username.as_str()
+    }
+
+    /// The user's password.
+    pub fn password(&self) -> &str
+        ensures { result.now ≡ self.now.password }
+    {
+        self.password.as_str()
+    }
+
+    /// The realm.
+    pub fn realm(&self) -> &str
+        ensures { result.now ≡ self.now.realm }
+    {
+        self.realm.as_str()
+    }
+
+    /// The key for an algorithm: a digest of name, realm and password with colons between them, MD5
+    /// for `Sha1` and SHA-256 for `Sha256` (RFC 8489, sections 9.2.2 and 18.5.1). Where memory is
+    /// refused, `NoMemory`.
+    pub fn make_key(
+        &self,
+        alloc: Global,
+        algorithm: IntegrityAlgorithm,
+    ) -> Result<IntegrityKey, NoMemory>
+        ensures { IfOk result (λ key. key ≡ long_term_key self.now algorithm) }
+    {
+        let username = self.username().as_bytes();
+        let realm = self.realm().as_bytes();
+        let password = self.password().as_bytes();
+        match algorithm {
+            IntegrityAlgorithm::Sha1 => {
+                IntegrityKey::new(alloc, &md5_of_parts(username, realm, password), algorithm)
+            }
+            IntegrityAlgorithm::Sha256 => {
+                IntegrityKey::new(
+                    alloc,
+                    &sha256_of_parts(username, realm, password),
+                    algorithm,
+                )
+            }
+        }
+    }
+}
+
+/// A password that counts in one session (RFC 8489, section 9.1). Contracts see its text.
+#[derive(Debug, Drop)]
+pub struct ShortTermCredentials {
+    password: String,
+}
+
+impl Model for ShortTermCredentials {
+    ghost use Rattle.std.specs.String.{string_bytes};
+    ghost use Rattle.stun_types_integrity.specs.Credentials.{ShortTermSecret};
+
+    ghost Value = { ShortTermSecret };
+
+    ghost view = { λ c. record { password = string_bytes c.password } };
+}
+
+impl ShortTermCredentials {
+    /// The credentials of this password.
+    pub fn new(password: String) -> Self
+        ensures { result ≡ record { password = string_bytes password } }
+    {
+        ShortTermCredentials { password }
+    }
+
+    /// The password.
+    pub fn password(&self) -> &str
+        ensures { result.now ≡ self.now.password }
+    {
+        self.password.as_str()
+    }
+
+    /// The key for an algorithm: the bytes of the password (RFC 8489, section 9.1.1). Where memory
+    /// is refused, `NoMemory`.
+    pub fn make_key(
+        &self,
+        alloc: Global,
+        algorithm: IntegrityAlgorithm,
+    ) -> Result<IntegrityKey, NoMemory>
+        ensures { IfOk result (λ key. key ≡ short_term_key self.now algorithm) }
+    {
+        IntegrityKey::new(alloc, self.password().as_bytes(), algorithm)
+    }
+}
+
+/// Credentials by which messages are signed and validated.
+#[derive(Debug, Drop)]
+pub enum MessageIntegrityCredentials {
+    /// A password (RFC 8489, section 9.1).
+    ShortTerm(ShortTermCredentials),
+    /// A name and a password in a realm (RFC 8489, section 9.2).
+    LongTerm(LongTermKeyCredentials),
+}
+
+impl MessageIntegrityCredentials {
+    ghost use Rattle.stun_types_integrity.specs.Keys.{key_of};
+
+    /// The key for an algorithm, as the credentials make it. Where memory is refused, `NoMemory`.
+    pub fn make_key(
+        &self,
+        alloc: Global,
+        algorithm: IntegrityAlgorithm,
+    ) -> Result<IntegrityKey, NoMemory>
+        ensures { IfOk result (λ key. key ≡ key_of self.now algorithm) }
+    {
+        match self {
+            MessageIntegrityCredentials::ShortTerm(credentials) => {
+                credentials.make_key(alloc, algorithm)
+            }
+            MessageIntegrityCredentials::LongTerm(credentials) => {
+                credentials.make_key(alloc, algorithm)
+            }
+        }
+    }
+}
+
+impl From<ShortTermCredentials> for MessageIntegrityCredentials {
+    ghost use Rattle.stun_types_integrity.specs.declared.credentials.MessageIntegrityCredentials.TheVariants.{ShortTerm};
+
+    ghost from_gives = { λ secret credentials. credentials ≡ ShortTerm secret };
+
+    fn from(value: ShortTermCredentials) -> MessageIntegrityCredentials {
+        MessageIntegrityCredentials::ShortTerm(value)
+    }
+}
+
+impl From<LongTermKeyCredentials> for MessageIntegrityCredentials {
+    ghost use Rattle.stun_types_integrity.specs.declared.credentials.MessageIntegrityCredentials.TheVariants.{LongTerm};
+
+    ghost from_gives = { λ secret credentials. credentials ≡ LongTerm secret };
+
+    fn from(value: LongTermKeyCredentials) -> MessageIntegrityCredentials {
+        MessageIntegrityCredentials::LongTerm(value)
     }
 }

@@ -1,8 +1,8 @@
 -- The steps of a scan, in the names of the code.
-use Rattle.std.proofs.Common.{◌≡◌, ℕ, ◌+◌, ◌<◌, ◌≤◌, true, false, eqb, Some, None, List, ◌∷◌, length, take, drop, sym, ap, ◌∙◌, refl, arith, inl, inr}
+use Rattle.std.proofs.Common.{◌≡◌, ℕ, ◌<◌, ◌≤◌, true, false, eqb, Some, None, List, length, drop, sym, ap, ◌∙◌, refl, inl, inr}
 use Rattle.std.proofs.lemmas.Bool.{cases_Bool, eqb-true}
 use Rattle.stun_types_wire.specs.declared.error.StunParseError.TheVariants.{Truncated, FingerprintMismatch}
-use Rattle.stun_types_wire.specs.Attributes.{Attr, kind_at}
+use Rattle.stun_types_wire.specs.Attributes.{kind_at}
 use Rattle.stun_types_wire.specs.Shape.{rank, may_follow, fingerprint_kind, integrity_kind, sha256_kind}
 use Rattle.stun_types_wire.specs.Grammar.{body_refusal}
 use Rattle.stun_types_grammar.proofs.Scan.{Continues, refuses_cut, refuses_fingerprint, ends_other, goes_on_at}

@@ -1,3 +1,4 @@
 pub mod Parsed
 pub mod Stages
 pub mod Fronts
+pub mod Validation

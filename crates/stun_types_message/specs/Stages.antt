@@ -1,5 +1,5 @@
 -- How far the shape of a message has come (RFC 8489, sections 14.5 to 14.7).
-use Rattle.std.specs.Prelude.{◌≡◌, ℕ, Bool, true, false, Option, MatchOption}
+use Rattle.std.specs.Prelude.{◌≡◌, ℕ, true, false, Option, MatchOption}
 use Rattle.stun_types_wire.specs.Shape.{rank, may_follow}
 use Rattle.stun_types_message.specs.declared.stage.Stage.{Stage}
 use Rattle.stun_types_message.specs.declared.stage.Stage.TheVariants.{Ordinary, Integrity, Sha256, Fingerprint}

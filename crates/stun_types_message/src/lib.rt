@@ -6,3 +6,4 @@ mod front;
 pub mod iter;
 pub mod message;
 mod stage;
+pub mod validate;

@@ -1,6 +1,6 @@
 //! Messages over borrowed bytes.
 
-ghost use Rattle.std.specs.Prelude.{◌≡◌, ◌==◌, ◌<◌, ◌^◌, ◌↔◌, IsTrue, None, Some, MatchResult, find, is_some};
+ghost use Rattle.std.specs.Prelude.{◌≡◌, ◌==◌, ◌+◌, ◌<◌, ◌≤◌, ◌^◌, ◌↔◌, IsTrue, None, Some, MatchResult, find, is_some, length};
 ghost use Rattle.stun_types_wire.specs.Attributes.{kind_at, numbered};
 ghost use Rattle.stun_types_wire.specs.Types.{class_of, method_of, is_response_class};
 ghost use Rattle.stun_types_wire.specs.Grammar.{body_refusal, refusal, shown, number_at};
@@ -77,6 +77,17 @@ impl<'a> Message<'a> {
         ensures message { refusal result.now ≡ None }
     {
         self.data
+    }
+
+    /// What the header would tell as the length if the message ended at this offset.
+    #[tactic(auto, using(crate::proofs::Validating::told_length))]
+    pub(crate) fn length_up_to(&self, end: usize) -> u16
+        requires behind_header { 20 ≤ end }
+        requires within { end ≤ length self.now }
+        ensures { result + 20 ≡ end }
+    {
+        let behind = self.data.len() - end;
+        self.header.data_length() - behind as u16
     }
 
     /// The type.

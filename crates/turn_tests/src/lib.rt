@@ -11,4 +11,6 @@ mod tracing;
 #[cfg(test)]
 mod types;
 #[cfg(test)]
+mod validating;
+#[cfg(test)]
 mod writing;

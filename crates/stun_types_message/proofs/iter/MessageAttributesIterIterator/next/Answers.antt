@@ -1,4 +1,4 @@
-use Rattle.std.proofs.Common.{take, ap, sym, refl, ◌∙◌, ◌≡◌, [], List, ℕ}
+use Rattle.std.proofs.Common.{take, ap, sym, refl, ◌∙◌, List, ℕ}
 use Rattle.stun_types_message.specs.Stages.{stage_rank}
 use Rattle.stun_types_wire.specs.Shape.{may_follow}
 use Rattle.stun_types_grammar.proofs.Left.{none_past, none_short, none_cut, none_stops, left_step, goes_from_step}

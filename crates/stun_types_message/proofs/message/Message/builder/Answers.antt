@@ -1,6 +1,5 @@
-use Rattle.std.proofs.Common.{rules, arith, ◌≡◌, [], ◌<◌, ◌^◌, length, List, ℕ, ◌∙◌, ap, ◌++◌}
-use Rattle.stun_types_wire.specs.Text.{message_text, body_text, header_text}
-use Rattle.stun_types_write.specs.Adding.{IsBegun}
+use Rattle.std.proofs.Common.{rules, arith, ◌≡◌, [], ◌<◌, ◌^◌}
+use Rattle.stun_types_wire.specs.Text.{message_text, body_text}
 use Rattle.stun_types_build.proofs.Adds.{text_begun}
 use Rattle.stun_types_message.proofs.message.Message.builder.Goals as goal
 

@@ -1,0 +1,62 @@
+-- Message integrity: which text is covered, by which digest, and when a message validates (RFC 8489, sections 14.5 and 14.6).
+use Rattle.std.specs.Prelude.{◌≡◌, ℕ, ◌+◌, ◌-◌, ◌%◌, Bool, ◌==◌, ◌&&◌, nat_le, Option, Some, None, if◌then◌else◌, IsTrue, List, ◌∷◌, ◌++◌, length, take, drop}
+use Rattle.std.specs.List.{AllByRecursion}
+use Rattle.sha1.specs.Sha1.{sha1}
+use Rattle.sha2.specs.Sha256.{sha256}
+use Rattle.stun_types_digest.specs.Hmac.{hmac}
+use Rattle.stun_types_wire.specs.declared.algorithm.IntegrityAlgorithm.{IntegrityAlgorithm}
+use Rattle.stun_types_wire.specs.declared.algorithm.IntegrityAlgorithm.TheVariants.{Sha1, Sha256}
+use Rattle.stun_types_wire.specs.Attributes.{Attr, size_at, numbered}
+use Rattle.stun_types_wire.specs.Shape.{integrity_kind, sha256_kind}
+use Rattle.stun_types_wire.specs.Grammar.{IsMessage, shown}
+use Rattle.stun_types_write.specs.Adding.{with_length}
+
+-- ---- what an algorithm stands for
+
+-- the type of its attribute
+abbrev pub attribute_kind : IntegrityAlgorithm → ℕ
+attribute_kind Sha1 = integrity_kind
+attribute_kind Sha256 = sha256_kind
+
+-- the HMAC of a text under a key: both digests work in blocks of 64 bytes
+abbrev pub integrity_hmac : IntegrityAlgorithm → List ℕ → List ℕ → List ℕ
+integrity_hmac Sha1 key text = hmac sha1 64 key text
+integrity_hmac Sha256 key text = hmac sha256 64 key text
+
+-- bytes at the front of others
+pub record IsFront (front whole : List ℕ) : Type 0 where
+  pub rest : List ℕ
+  pub parts : whole ≡ front ++ rest
+
+-- the lengths that the value of its attribute may have: that of the HMAC, or for SHA-256 a front of 16 bytes or more, in fours
+abbrev pub is_lawful_length : IntegrityAlgorithm → ℕ → Bool
+is_lawful_length Sha1 len = len == 20
+is_lawful_length Sha256 len = nat_le 16 len && (nat_le len 32 && len % 4 == 0)
+
+-- the algorithm of an attribute's type, where it is an integrity attribute
+abbrev pub algorithm_of : ℕ → Option IntegrityAlgorithm
+algorithm_of kind = if kind == integrity_kind then Some Sha1 else if kind == sha256_kind then Some Sha256 else None
+
+-- ---- validation
+
+-- the bytes before the attribute at this offset, as if the message ended with that attribute
+unfoldable pub covered_text : List ℕ → ℕ → List ℕ
+covered_text bytes offset = with_length (take offset bytes) (offset - 20 + size_at (drop offset bytes))
+
+-- bytes are a message that shows an attribute of the algorithm, this is the text that it covers, and its value is of a lawful length and the HMAC of that text, or a front of it
+pub record IsSigned (bytes key : List ℕ) (algorithm : IntegrityAlgorithm) (text : List ℕ) : Type 0 where
+  pub message : IsMessage bytes
+  pub before : List (ℕ × Attr)
+  pub offset : ℕ
+  pub attribute : Attr
+  pub behind : List (ℕ × Attr)
+  pub shows : numbered 20 (shown bytes) ≡ before ++ (offset, attribute) ∷ behind
+  pub kind : attribute.kind ≡ attribute_kind algorithm
+  pub covered : text ≡ covered_text bytes offset
+  pub lawful : IsTrue (is_lawful_length algorithm (length attribute.value))
+  pub digest : IsFront attribute.value (integrity_hmac algorithm key text)
+
+-- the same, and no integrity attribute is shown behind that attribute
+pub record Validates (bytes key : List ℕ) (algorithm : IntegrityAlgorithm) (text : List ℕ) : Type 0 where
+  pub signed : IsSigned bytes key algorithm text
+  pub last : AllByRecursion (λ entry. algorithm_of entry.1.kind ≡ None) signed.behind

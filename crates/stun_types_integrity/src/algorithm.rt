@@ -1,0 +1,45 @@
+//! What an algorithm stands for in a message.
+
+ghost use Rattle.std.specs.Prelude.{◌≡◌};
+ghost use Rattle.stun_types_integrity.specs.Integrity.{algorithm_of as algorithm_of_kind, attribute_kind, is_lawful_length as is_lawful};
+
+use stun_types_wire::algorithm::IntegrityAlgorithm;
+use stun_types_wire::attribute::AttributeType;
+
+/// The type of MESSAGE-INTEGRITY (RFC 8489, section 14.5).
+pub const MESSAGE_INTEGRITY: AttributeType = AttributeType(0x0008);
+
+/// The type of MESSAGE-INTEGRITY-SHA256 (RFC 8489, section 14.6).
+pub const MESSAGE_INTEGRITY_SHA256: AttributeType = AttributeType(0x001C);
+
+/// The type of the attribute that holds the HMAC of an algorithm.
+pub fn attribute_type(algorithm: IntegrityAlgorithm) -> AttributeType
+    ensures { result.0 ≡ attribute_kind algorithm }
+{
+    match algorithm {
+        IntegrityAlgorithm::Sha1 => MESSAGE_INTEGRITY,
+        IntegrityAlgorithm::Sha256 => MESSAGE_INTEGRITY_SHA256,
+    }
+}
+
+/// The algorithm whose HMAC an attribute of this type holds, where it is an integrity attribute.
+pub fn algorithm_of(atype: AttributeType) -> Option<IntegrityAlgorithm>
+    ensures { result ≡ algorithm_of_kind atype.0 }
+{
+    match atype.value() {
+        0x0008 => Some(IntegrityAlgorithm::Sha1),
+        0x001C => Some(IntegrityAlgorithm::Sha256),
+        _ => None,
+    }
+}
+
+/// Whether an integrity attribute may have a value of this length in bytes: 20 for `Sha1`; 16, 20,
+/// 24, 28 or 32 for `Sha256`.
+pub fn is_lawful_length(algorithm: IntegrityAlgorithm, len: usize) -> bool
+    ensures { result ≡ is_lawful algorithm len }
+{
+    match algorithm {
+        IntegrityAlgorithm::Sha1 => len == 20,
+        IntegrityAlgorithm::Sha256 => len >= 16 && len <= 32 && len % 4 == 0,
+    }
+}

@@ -1,0 +1,146 @@
+//! Keys of message integrity.
+
+ghost use Rattle.std.specs.Prelude.{◌≡◌, ◌↔◌, ◌++◌, IfOk, IsTrue, codes};
+ghost use Rattle.md5.specs.Md5.{md5};
+ghost use Rattle.sha2.specs.Sha256.{sha256};
+ghost use Rattle.stun_types_integrity.specs.Integrity.{IsFront, integrity_hmac};
+
+use md5::{Digest, Md5};
+use sha2::Sha256;
+use std::alloc::Global;
+use std::fmt;
+use std::marker::Model;
+use stun_types_base::memory::NoMemory;
+use stun_types_digest::hmac::{BlockDigest, HmacSha1, HmacSha256};
+use stun_types_wire::algorithm::IntegrityAlgorithm;
+
+/// The key of an HMAC, and the algorithm for which it was made. Keys are equal where their bytes
+/// are: the algorithm isn't looked at. Contracts see the bytes and the algorithm.
+#[derive(Drop)]
+pub struct IntegrityKey {
+    bytes: Vec<u8>,
+    algorithm: IntegrityAlgorithm,
+}
+
+impl Model for IntegrityKey {
+    ghost use Rattle.stun_types_integrity.specs.Credentials.{Key};
+
+    ghost Value = { Key };
+
+    ghost view = { λ key. record { bytes = key.bytes.items; algorithm = key.algorithm } };
+}
+
+impl IntegrityKey {
+    /// The key of these bytes. Where memory is refused, `NoMemory`.
+    pub(crate) fn new(
+        alloc: Global,
+        bytes: &[u8],
+        algorithm: IntegrityAlgorithm,
+    ) -> Result<IntegrityKey, NoMemory>
+        ensures { IfOk result (λ key. key ≡ record { bytes = bytes.now; algorithm = algorithm }) }
+    {
+        Ok(IntegrityKey {
+            bytes: Vec::from_slice(alloc, bytes)?,
+            algorithm,
+        })
+    }
+
+    /// The bytes of the key.
+    pub(crate) fn bytes(&self) -> &[u8]
+        ensures { result.now ≡ self.now.bytes }
+    {
+        self.bytes.as_slice()
+    }
+
+    /// The algorithm for which the key was made.
+    pub fn algorithm(&self) -> IntegrityAlgorithm
+        ensures { result ≡ self.now.algorithm }
+    {
+        self.algorithm
+    }
+
+    /// Whether a value is the HMAC of a text under this key, or a front of it, by the algorithm for
+    /// which the key was made. The text comes in three pieces, as a message does whose length field
+    /// is to read otherwise: what stands before the field, the field, and what stands behind it.
+    pub fn signs(&self, head: &[u8], middle: &[u8], tail: &[u8], value: &[u8]) -> bool
+        ensures { IsTrue result ↔ IsFront value.now (integrity_hmac self.now.algorithm self.now.bytes (head.now ++ middle.now ++ tail.now)) }
+    {
+        match self.algorithm() {
+            IntegrityAlgorithm::Sha1 => {
+                is_front(
+                    value,
+                    &HmacSha1::of_pieces(self.bytes(), head, middle, tail),
+                )
+            }
+            IntegrityAlgorithm::Sha256 => {
+                is_front(
+                    value,
+                    &HmacSha256::of_pieces(self.bytes(), head, middle, tail),
+                )
+            }
+        }
+    }
+}
+
+/// Whether some bytes are those at the front of others.
+fn is_front(front: &[u8], whole: &[u8]) -> bool
+    ensures { IsTrue result ↔ IsFront front.now whole.now }
+{
+    whole.starts_with(front)
+}
+
+impl PartialEq for IntegrityKey {
+    ghost use Rattle.std.specs.Prelude.{nat_eq};
+    ghost use Rattle.std.specs.Cmp.Lexicographic.{pointwise, nat_list_eq_equiv};
+    ghost use Rattle.std.specs.Cmp.{on_per, partial_equiv_from_equiv};
+    ghost use Rattle.stun_types_integrity.specs.Credentials.{key_bytes};
+
+    ghost eq = { λ a b. pointwise nat_eq a.bytes b.bytes };
+
+    ghost laws = { on_per key_bytes (partial_equiv_from_equiv nat_list_eq_equiv) };
+
+    fn eq(&self, other: &Self) -> bool {
+        self.bytes() == other.bytes()
+    }
+}
+
+impl Eq for IntegrityKey {
+    ghost use Rattle.std.specs.Cmp.{on_equiv};
+    ghost use Rattle.std.specs.Cmp.Lexicographic.{nat_list_eq_equiv};
+    ghost use Rattle.stun_types_integrity.specs.Credentials.{key_bytes};
+
+    ghost laws = { on_equiv key_bytes nat_list_eq_equiv };
+}
+
+impl fmt::Debug for IntegrityKey {
+    /// Shows no byte of the key.
+    fn fmt<W: fmt::Write>(&self, f: &mut fmt::Formatter<W>) -> fmt::Result {
+        f.write_str("IntegrityKey { .. }")
+    }
+}
+
+/// The MD5 of a key's text, which comes in three parts with a colon between them.
+pub(crate) fn md5_of_parts(first: &[u8], second: &[u8], third: &[u8]) -> [u8; 16]
+    ensures { result ≡ md5 (first.now ++ codes ":" ++ second.now ++ codes ":" ++ third.now) }
+{
+    let mut hasher = Md5::new();
+    hasher.update(first);
+    hasher.update(b":");
+    hasher.update(second);
+    hasher.update(b":");
+    hasher.update(third);
+    hasher.finalize()
+}
+
+/// The SHA-256 of the same text.
+pub(crate) fn sha256_of_parts(first: &[u8], second: &[u8], third: &[u8]) -> [u8; 32]
+    ensures { result ≡ sha256 (first.now ++ codes ":" ++ second.now ++ codes ":" ++ third.now) }
+{
+    let mut hasher = Sha256::start();
+    hasher.take(first);
+    hasher.take(b":");
+    hasher.take(second);
+    hasher.take(b":");
+    hasher.take(third);
+    hasher.finish()
+}

@@ -1,0 +1,61 @@
+//! Worked values.
+
+use crate::credentials::{LongTermCredentials, MessageIntegrityCredentials, ShortTermCredentials};
+use crate::integrity::MessageIntegrity;
+use crate::key::IntegrityKey;
+use std::test::Fail;
+use stun_types_wire::algorithm::IntegrityAlgorithm;
+
+const HMAC_OF_TENS: [u8; 20] = [
+    0x5c, 0x5b, 0x94, 0xf3, 0x1c, 0xa8, 0x10, 0x9a, 0x89, 0xb3, 0xfa, 0xa9, 0x99, 0xde, 0x25, 0x7f,
+    0xd2, 0x94, 0xde, 0x77,
+];
+
+#[test]
+fn short_term_key_signs(rt: HostRuntime) -> Result<(), Fail> {
+    let credentials = ShortTermCredentials::new(String::from_str(rt.alloc(), "pass")?);
+    assert_eq!(rt; credentials.password(), "pass");
+    let credentials = MessageIntegrityCredentials::from(credentials);
+    let key = credentials.make_key(rt.alloc(), IntegrityAlgorithm::Sha1)?;
+    let text = [10; 30];
+    assert_eq!(rt; MessageIntegrity::compute(&text, &key)?, HMAC_OF_TENS);
+    MessageIntegrity::verify(&text, &key, &HMAC_OF_TENS)?;
+    assert!(rt; MessageIntegrity::verify(&text[1..], &key, &HMAC_OF_TENS).is_err());
+    let (head, rest) = text.split_at(2);
+    let (middle, tail) = rest.split_at(2);
+    assert!(rt; key.signs(head, middle, tail, &HMAC_OF_TENS));
+    assert!(rt; !key.signs(head, tail, &[], &HMAC_OF_TENS));
+    Ok(())
+}
+
+#[test]
+fn long_term_key_is_a_digest(rt: HostRuntime) -> Result<(), Fail> {
+    let username = String::from_str(rt.alloc(), "user")?;
+    let password = String::from_str(rt.alloc(), "pass")?;
+    let credentials = LongTermCredentials::new(username, password);
+    assert_eq!(rt; credentials.username(), "user");
+    assert_eq!(rt; credentials.password(), "pass");
+    let credentials = credentials.to_key(rt.alloc(), String::from_str(rt.alloc(), "realm")?)?;
+    assert_eq!(rt; credentials.username(), "user");
+    assert_eq!(rt; credentials.password(), "pass");
+    assert_eq!(rt; credentials.realm(), "realm");
+    let key = credentials.make_key(rt.alloc(), IntegrityAlgorithm::Sha1)?;
+    let expected = [
+        0x84, 0x93, 0xfb, 0xc5, 0x3b, 0xa5, 0x82, 0xfb, 0x4c, 0x04, 0x4c, 0x45, 0x6b, 0xdc, 0x40,
+        0xeb,
+    ];
+    assert_eq!(rt; key.bytes(), expected.as_slice());
+    assert_eq!(rt; key.algorithm(), IntegrityAlgorithm::Sha1);
+    Ok(())
+}
+
+#[test]
+fn keys_are_equal_by_their_bytes(rt: HostRuntime) -> Result<(), Fail> {
+    let first = IntegrityKey::new(rt.alloc(), b"pass", IntegrityAlgorithm::Sha1)?;
+    let second = IntegrityKey::new(rt.alloc(), b"pass", IntegrityAlgorithm::Sha256)?;
+    assert_eq!(rt; first, second);
+    let other = IntegrityKey::new(rt.alloc(), b"past", IntegrityAlgorithm::Sha1)?;
+    assert_ne!(rt; first, other);
+    assert!(rt; MessageIntegrity::compute(b"", &second).is_err());
+    Ok(())
+}

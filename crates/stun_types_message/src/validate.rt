@@ -1,0 +1,126 @@
+//! Whether a message is what a holder of a key has sent.
+
+ghost use Rattle.std.specs.Prelude.{◌≡◌, ◌≢◌, ◌↔◌, ◌-◌, ◌≤◌, ℕ, List, Ok, Some, None, IsTrue, IsSomeAnd, IfOk, IfErr, IfSome, OnOk, MatchOption, MatchResult, length};
+ghost use Rattle.stun_types_wire.specs.declared.algorithm.IntegrityAlgorithm.{IntegrityAlgorithm as Algorithm};
+ghost use Rattle.stun_types_wire.specs.Attributes.{Attr};
+ghost use Rattle.stun_types_wire.specs.Grammar.{IsMessage, shown};
+ghost use Rattle.stun_types_integrity.specs.Integrity.{IsSigned, Validates, attribute_kind};
+ghost use Rattle.stun_types_integrity.specs.Keys.{key_of};
+ghost use Rattle.stun_types_message.specs.Validation.{HasDigest, IsNotValid, IsRefused, IsRight, StandsAt, first_of_kind, last_algorithm};
+
+use crate::iter::MessageAttributesIter;
+use crate::message::Message;
+use std::alloc::Global;
+use stun_types_integrity::algorithm::{
+    MESSAGE_INTEGRITY, algorithm_of, attribute_type, is_lawful_length,
+};
+use stun_types_integrity::credentials::MessageIntegrityCredentials;
+use stun_types_integrity::key::IntegrityKey;
+use stun_types_wire::algorithm::IntegrityAlgorithm;
+use stun_types_wire::attribute::{AttributeType, RawAttribute, pad_attribute_len};
+use stun_types_wire::error::{StunParseError, ValidateError};
+
+impl<'a> Message<'a> {
+    /// The algorithm of the last integrity attribute that the message shows, where it shows one.
+    #[tactic(auto, using(stun_types_grammar::proofs::Left::map_numbered, crate::proofs::Validating::last_step), unfolding(crate::specs::Validation::last_algorithm))]
+    pub fn last_integrity(&self) -> Option<IntegrityAlgorithm>
+        ensures { result ≡ last_algorithm (shown self.now) }
+    {
+        let mut last = None;
+        for (_, attribute) in self.iter_attributes() {
+            if let Some(algorithm) = algorithm_of(attribute.get_type()) {
+                last = Some(algorithm);
+            }
+        }
+        last
+    }
+
+    /// Validates the message by the last integrity attribute that it shows, under the key that the
+    /// credentials make for that attribute's algorithm, and answers the algorithm. Refused with
+    /// `Parse(MissingAttribute)` of MESSAGE-INTEGRITY where the message shows no integrity
+    /// attribute, and else as `validate_integrity_with_key` is; where memory is refused for the key,
+    /// with `NoMemory`.
+    pub fn validate_integrity(
+        &self,
+        alloc: Global,
+        credentials: &MessageIntegrityCredentials,
+    ) -> Result<IntegrityAlgorithm, ValidateError>
+        ensures valid { IfOk result (λ algorithm. (text : List ℕ) × Validates self.now (key_of credentials.now algorithm).bytes algorithm text) }
+        ensures accepted { (algorithm : Algorithm) (text : List ℕ) → Validates self.now (key_of credentials.now algorithm).bytes algorithm text → MatchResult result (λ answered. answered ≡ algorithm) (λ error. error ≡ ValidateError.NoMemory) }
+        ensures refused { IfErr result (λ error. error ≢ ValidateError.NoMemory → IsNotValid self.now credentials.now error) }
+    {
+        let Some(algorithm) = self.last_integrity() else {
+            return Err(ValidateError::Parse(StunParseError::MissingAttribute(MESSAGE_INTEGRITY)));
+        };
+        let key = credentials.make_key(alloc, algorithm)?;
+        self.validate_integrity_with_key(&key)
+    }
+
+    /// Validates the message by the integrity attribute of the algorithm for which a key was made,
+    /// and answers that algorithm. Refused with `Parse(MissingAttribute)` of that attribute's type
+    /// where the message shows none, with `Parse(InvalidAttributeData)` where its length is
+    /// unlawful, and with `IntegrityFailed` where its value is not the HMAC of the text that it
+    /// covers (RFC 8489, sections 14.5 and 14.6).
+    pub fn validate_integrity_with_key(
+        &self,
+        key: &IntegrityKey,
+    ) -> Result<IntegrityAlgorithm, ValidateError>
+        ensures valid { IfOk result (λ algorithm. (algorithm ≡ key.now.algorithm) × ((text : List ℕ) × IsSigned self.now key.now.bytes algorithm text)) }
+        ensures accepted { (text : List ℕ) → IsSigned self.now key.now.bytes key.now.algorithm text → result ≡ Ok key.now.algorithm }
+        ensures refused { IfErr result (λ error. IsRefused self.now key.now.bytes key.now.algorithm error) }
+    {
+        self.judge_by(key)
+    }
+
+    /// Whether the attribute of a key's algorithm is of a lawful length and has the right digest.
+    fn judge_by(&self, key: &IntegrityKey) -> Result<IntegrityAlgorithm, ValidateError>
+        ensures message { IsMessage self.now }
+        ensures algorithm { IfOk result (λ algorithm. algorithm ≡ key.now.algorithm) }
+        ensures passed { OnOk result (IsSomeAnd (first_of_kind (attribute_kind key.now.algorithm) self.now) (IsRight self.now key.now.bytes key.now.algorithm)) }
+        ensures refused { IfErr result (λ error. IsRefused self.now key.now.bytes key.now.algorithm error) }
+    {
+        let algorithm = key.algorithm();
+        let atype = attribute_type(algorithm);
+        match self.first_of_type(atype) {
+            None => Err(ValidateError::Parse(StunParseError::MissingAttribute(atype))),
+            Some((offset, attribute)) => {
+                if !is_lawful_length(algorithm, attribute.value().len()) {
+                    Err(ValidateError::Parse(StunParseError::InvalidAttributeData))
+                } else if !self.has_digest(offset, attribute.value(), key) {
+                    Err(ValidateError::IntegrityFailed)
+                } else {
+                    Ok(algorithm)
+                }
+            }
+        }
+    }
+
+    /// The first attribute of a type, with the offset at which it stands.
+    #[tactic(auto, using(crate::proofs::Validating::stands))]
+    fn first_of_type(&self, atype: AttributeType) -> Option<(usize, RawAttribute<'a>)>
+        ensures message { IsMessage self.now }
+        ensures found { result ≡ first_of_kind atype.0 self.now }
+        ensures stands { IfSome result (λ entry. StandsAt self.now entry.0 entry.1.value) }
+    {
+        for (offset, attribute) in MessageAttributesIter::new(self.as_ref()) {
+            if attribute.get_type() == atype {
+                return Some((offset, attribute));
+            }
+        }
+        None
+    }
+
+    /// Whether the value at an offset is the digest of what it covers, or a front of it.
+    #[tactic(auto, using(crate::proofs::Validating::covered_pieces))]
+    fn has_digest(&self, offset: usize, value: &[u8], key: &IntegrityKey) -> bool
+        requires { StandsAt self.now offset value.now }
+        ensures { IsTrue result ↔ HasDigest self.now key.now.bytes key.now.algorithm offset value.now }
+    {
+        let (front, _) = self.as_ref().split_at(offset);
+        let end = offset + 4 + pad_attribute_len(value.len());
+        let (head, behind_type) = front.split_at(2);
+        let (_, tail) = behind_type.split_at(2);
+        let len = self.length_up_to(end).to_be_bytes();
+        key.signs(head, &len, tail, value)
+    }
+}
