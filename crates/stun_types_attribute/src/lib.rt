@@ -4,3 +4,4 @@
 pub mod error_code;
 pub mod nonce;
 pub mod realm;
+mod text;

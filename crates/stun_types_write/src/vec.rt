@@ -134,7 +134,10 @@ pub(crate) fn has_type(atypes: &[AttributeType], atype: AttributeType) -> bool
 }
 
 /// The first of these types that is among those asked for.
-pub(crate) fn first_among(atypes: &[AttributeType], asked: &[AttributeType]) -> Option<AttributeType>
+pub(crate) fn first_among(
+    atypes: &[AttributeType],
+    asked: &[AttributeType],
+) -> Option<AttributeType>
     ensures { result ≡ find (λ t. list_any (λ a. a.0 == t.0) asked.now) atypes.now }
 {
     atypes.iter().copied().find(|t| has_type(asked, *t))
