@@ -1,1 +1,1 @@
-pub mod Utf8
+pub mod Codes

@@ -4,4 +4,4 @@
 pub mod error_code;
 pub mod nonce;
 pub mod realm;
-mod text;
+pub mod username;
