@@ -1,12 +1,12 @@
 -- Addresses, and the values that tell them.
-use Rattle.std.proofs.Common.{◌≡◌, ℕ, zero, suc, ◌+◌, ◌-◌, ◌*◌, ◌/◌, ◌%◌, ◌^◌, ◌<◌, ◌≤◌, List, [], ◌∷◌, ◌++◌, length, drop, slice_index, refl, sym, ap, ◌∙◌, arith}
+use Rattle.std.proofs.Common.{◌≡◌, ℕ, suc, ◌+◌, ◌-◌, ◌*◌, ◌/◌, ◌%◌, ◌<◌, ◌≤◌, List, [], ◌∷◌, ◌++◌, length, drop, slice_index, refl, sym, ap, ◌∙◌, arith}
+use Rattle.std.specs.declared.net.socket_addr.SocketAddr.{SocketAddr}
+use Rattle.std.specs.declared.net.socket_addr.SocketAddr.TheVariants.{V4, V6}
 use Rattle.std.specs.Net.Addr.{segments_of, octets_of}
-use Rattle.std.proofs.lemmas.Nat.{div-mul-add}
 use Rattle.std.specs.Prelude.{None}
 use Rattle.byteorder.specs.Endian.{big_bytes, big_number}
 use Rattle.byteorder.specs.Numbers.{big_number-reads_back}
-use Rattle.stun_types_address.specs.Addresses.{value_of_parts, address_refusal, address_again}
-use Rattle.std.proofs.lemmas.Grind.{common_steps}
+use Rattle.stun_types_address.specs.Addresses.{value_of_parts, address_value, address_refusal, address_again}
 
 -- the octets of segments that were made of octets
 pub octets_again : (n : ℕ) (xs : List ℕ) → length xs ≡ 2 * n → ((k : ℕ) → slice_index xs k < 256) → octets_of (segments_of xs) ≡ xs
@@ -59,3 +59,8 @@ parts_again (a ∷ b ∷ []) family port four small f p = absurd (omega arith)
 parts_again (a ∷ b ∷ c ∷ []) family port four small f p = absurd (omega arith)
 parts_again (a ∷ b ∷ c ∷ d ∷ rest) family port four small f p =
     ap (λ x. 0 ∷ family ∷ (big_bytes 2 x ++ rest)) p ∙ (ap (λ (l : List ℕ). 0 ∷ family ∷ (l ++ rest)) (port_bytes c d (small 2) (small 3)) ∙ ap (λ x. 0 ∷ x ∷ c ∷ d ∷ rest) (sym f))
+
+-- the first byte of an address's value is zero
+pub value_kept : (addr : SocketAddr) → address_again (address_value addr) ≡ address_value addr
+value_kept (V4 a) = refl
+value_kept (V6 a) = refl

@@ -1,9 +1,9 @@
 -- Bytes xored, and xored again.
-use Rattle.std.proofs.Common.{◌≡◌, ℕ, zero, suc, ◌+◌, ◌/◌, ◌%◌, ◌^◌, ◌<◌, ◌≤◌, List, [], ◌∷◌, ◌++◌, length, bit_xor, take, drop, slice_set, slice_index, refl, sym, ap, ◌∙◌, arith}
+use Rattle.std.proofs.Common.{◌≡◌, ℕ, zero, suc, ◌+◌, ◌/◌, ◌%◌, ◌<◌, ◌≤◌, List, [], ◌∷◌, ◌++◌, length, bit_xor, take, drop, slice_set, slice_index, refl, ap, ◌∙◌, arith}
 use Rattle.std.specs.Int.Bits.{xor_self, xor_assoc, xor_zero_r}
 use Rattle.std.proofs.lemmas.Nat.{xor_shr, xor_mod}
 use Rattle.byteorder.specs.Endian.{big_bytes}
-use Rattle.stun_types_address.specs.Xor.{xor_bytes}
+use Rattle.stun_types_address.specs.Xor.{xor_bytes, octets_mask, xored}
 
 xor_again : (b m : ℕ) → bit_xor (bit_xor b m) m ≡ b
 xor_again b m = xor_assoc b m m ∙ ap (λ x. bit_xor b x) (xor_self m) ∙ xor_zero_r b
@@ -38,3 +38,8 @@ pub xor_one_more : (i : ℕ) (bytes mask now : List ℕ) → i < length bytes �
 xor_one_more i bytes mask now below enough e =
     let next : i + 1 ≡ suc i = omega arith in
     rw (e, next) (one_more i bytes mask below enough)
+
+-- a value of an address, xored twice under one number
+pub xored_again : (number : ℕ) (value : List ℕ) → length value ≤ 20 → xored number (xored number value) ≡ value
+unfolding octets_mask
+xored_again number value short = xor_bytes_again value (0 ∷ 0 ∷ 0x21 ∷ 0x12 ∷ octets_mask number) short

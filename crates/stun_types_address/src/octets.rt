@@ -3,6 +3,7 @@
 ghost use Rattle.std.specs.Prelude.{◌≡◌, ◌∷◌, [], ◌+◌, ◌*◌, ◌++◌, ◌≤◌, length, slice_index, None, Some, MatchResult};
 ghost use Rattle.byteorder.specs.Endian.{big_bytes};
 ghost use Rattle.stun_types_address.specs.Addresses.{address_again, address_of, address_refusal, address_value, length_refusal, value_of_parts};
+ghost use Rattle.std.specs.Net.Addr.{octets_of, segments_of};
 ghost use Rattle.stun_types_address.specs.Xor.{octets_mask, xor_bytes, xored};
 
 use std::net::{Ipv4Addr, Ipv6Addr, SocketAddr, SocketAddrV4, SocketAddrV6};
@@ -26,12 +27,7 @@ pub(crate) fn v6_address(port: u16, octets: &[u8; 16]) -> SocketAddr
     ensures told { result ≡ address_of (value_of_parts 2 port octets.now) }
     ensures accepted { address_refusal (value_of_parts 2 port octets.now) ≡ None }
 {
-    SocketAddr::V6(SocketAddrV6::new(
-        Ipv6Addr::from_octets(*octets),
-        port,
-        0,
-        0,
-    ))
+    SocketAddr::V6(SocketAddrV6::new(Ipv6Addr::from_octets(*octets), port, 0, 0))
 }
 
 /// The same address without flow information and scope.
@@ -144,6 +140,11 @@ pub(crate) fn xor_address(addr: SocketAddr, number: TransactionId) -> SocketAddr
     }
 }
 
+/// Says that the octets of an IPv6 address tell its segments. It does nothing.
+pub(crate) fn segments_are_told(segments: &[u16])
+    ensures { segments_of (octets_of segments.now) ≡ segments.now }
+{}
+
 /// What octets are xored with under a number: the cookie, and the number.
 #[tactic(auto, unfolding(crate::specs::Xor::octets_mask))]
 pub(crate) fn mask_of(number: TransactionId) -> [u8; 16]
@@ -152,7 +153,9 @@ pub(crate) fn mask_of(number: TransactionId) -> [u8; 16]
     let [c0, c1, c2, c3] = MAGIC_COOKIE.to_be_bytes();
     let word = u128::from(number);
     let [_, _, _, _, n0, n1, n2, n3, n4, n5, n6, n7, n8, n9, n10, n11] = word.to_be_bytes();
-    [c0, c1, c2, c3, n0, n1, n2, n3, n4, n5, n6, n7, n8, n9, n10, n11]
+    [
+        c0, c1, c2, c3, n0, n1, n2, n3, n4, n5, n6, n7, n8, n9, n10, n11,
+    ]
 }
 
 /// Xors bytes with a mask that is no shorter.
