@@ -6,7 +6,9 @@ use Rattle.std.specs.Net.Addr.{segments_of, octets_of}
 use Rattle.std.specs.Prelude.{None}
 use Rattle.byteorder.specs.Endian.{big_bytes, big_number}
 use Rattle.byteorder.specs.Numbers.{big_number-reads_back}
-use Rattle.stun_types_address.specs.Addresses.{value_of_parts, address_value, address_refusal, address_again}
+use Rattle.std.proofs.lemmas.Grind.{common_steps}
+use Rattle.stun_types_write.specs.Adding.{attr_of}
+use Rattle.stun_types_address.specs.Addresses.{value_of_parts, address_value, address_refusal, address_read_refusal, address_again}
 
 -- the octets of segments that were made of octets
 pub octets_again : (n : ℕ) (xs : List ℕ) → length xs ≡ 2 * n → ((k : ℕ) → slice_index xs k < 256) → octets_of (segments_of xs) ≡ xs
@@ -64,3 +66,8 @@ parts_again (a ∷ b ∷ c ∷ d ∷ rest) family port four small f p =
 pub value_kept : (addr : SocketAddr) → address_again (address_value addr) ≡ address_value addr
 value_kept (V4 a) = refl
 value_kept (V6 a) = refl
+
+-- a value that is not refused is not refused under its own type
+pub value_accepted : (kind : ℕ) (value : List ℕ) → address_refusal value ≡ None → address_read_refusal kind (attr_of kind value) ≡ None
+unfolding address_read_refusal
+value_accepted kind value h = grind (arith, common_steps, h)

@@ -1,12 +1,13 @@
 -- Addresses in bytes (RFC 8489, section 14.1).
-use Rattle.std.specs.Prelude.{ℕ, ◌==◌, nat_lt, List, ◌∷◌, ◌++◌, length, drop, slice_index, Option, Some, None, if◌then◌else◌}
+use Rattle.std.specs.Prelude.{ℕ, ◌==◌, not, nat_lt, List, ◌∷◌, ◌++◌, length, drop, slice_index, Option, Some, None, if◌then◌else◌}
 use Rattle.std.specs.declared.net.socket_addr.SocketAddr.{SocketAddr}
 use Rattle.std.specs.declared.net.socket_addr.SocketAddr.TheVariants.{V4, V6}
 use Rattle.std.specs.Net.Addr.{ipv4_octets, ipv6_octets, segments_of}
 use Rattle.std.specs.Net.Socket.{v4_ip, v4_port, v6_ip, v6_port}
 use Rattle.byteorder.specs.Endian.{big_bytes, big_number}
 use Rattle.stun_types_wire.specs.declared.error.StunParseError.{StunParseError}
-use Rattle.stun_types_wire.specs.declared.error.StunParseError.TheVariants.{Truncated, TooLarge, InvalidAttributeData}
+use Rattle.stun_types_wire.specs.declared.error.StunParseError.TheVariants.{Truncated, TooLarge, WrongAttributeImplementation, InvalidAttributeData}
+use Rattle.stun_types_wire.specs.Attributes.{Attr}
 
 -- a zero, the family, the port, the octets of the address
 abbrev pub value_of_parts : ℕ → ℕ → List ℕ → List ℕ
@@ -42,6 +43,10 @@ address_refusal value =
     else if slice_index value 1 == 1 then length_refusal 8 value
     else if slice_index value 1 == 2 then length_refusal 20 value
     else Some InvalidAttributeData
+
+-- why a type and a value are not an address of this type
+unfoldable pub address_read_refusal : ℕ → Attr → Option StunParseError
+address_read_refusal kind a = if not (a.kind == kind) then Some WrongAttributeImplementation else address_refusal a.value
 
 -- a value as it is written again: the first byte is not looked at
 abbrev pub address_again : List ℕ → List ℕ

@@ -1,10 +1,10 @@
 //! Plain and xored addresses.
 
-ghost use Rattle.std.specs.Prelude.{◌≡◌, ◌+◌, ◌≤◌, ◌++◌, length, drop, None, Some, IfOk, MatchResult};
+ghost use Rattle.std.specs.Prelude.{◌≡◌, ◌+◌, ◌≤◌, ◌++◌, ℕ, length, drop, None, Some, IfOk, MatchResult};
 ghost use Rattle.stun_types_wire.specs.Attributes.{padded};
 ghost use Rattle.stun_types_wire.specs.Text.{attribute_text};
 ghost use Rattle.stun_types_write.specs.Adding.{attr_of};
-ghost use Rattle.stun_types_address.specs.Addresses.{address_again, address_of, address_refusal, address_value, on_the_wire};
+ghost use Rattle.stun_types_address.specs.Addresses.{address_again, address_of, address_read_refusal, address_refusal, address_value, on_the_wire};
 ghost use Rattle.stun_types_address.specs.Xor.{xored};
 
 use crate::octets::{front_of, read_address, segments_are_told, without_scope, xor_address};
@@ -55,6 +55,21 @@ impl MappedSocketAddr {
     {
         let addr = read_address(raw.value())?;
         Ok(MappedSocketAddr { addr })
+    }
+
+    /// The address in the value of an attribute of this type. Refused with
+    /// `WrongAttributeImplementation` where it has another type, and then as `from_raw` is.
+    #[tactic(auto, unfolding(crate::specs::Addresses::address_read_refusal))]
+    pub fn from_raw_of_type(
+        raw: &RawAttribute<'_>,
+        atype: AttributeType,
+    ) -> Result<MappedSocketAddr, StunParseError>
+        ensures { MatchResult result (λ read. (address_read_refusal atype.0 raw.now ≡ None) × (raw.now.kind ≡ atype.0) × (read ≡ address_again raw.now.value)) (λ error. address_read_refusal atype.0 raw.now ≡ Some error) }
+    {
+        if raw.get_type() != atype {
+            return Err(StunParseError::WrongAttributeImplementation);
+        }
+        MappedSocketAddr::from_raw(raw)
     }
 
     /// The address, with no flow information and no scope.
@@ -114,9 +129,10 @@ impl MappedSocketAddr {
     }
 
     /// Says that the value is read as itself. It does nothing.
-    #[tactic(auto, using(crate::proofs::Bytes::value_kept))]
+    #[tactic(auto, using(crate::proofs::Bytes::value_kept, crate::proofs::Bytes::value_accepted))]
     pub fn is_read_back(&self)
-        ensures accepted { address_refusal self.now ≡ None }
+        ensures value { address_refusal self.now ≡ None }
+        ensures accepted { (kind : ℕ) → address_read_refusal kind (attr_of kind self.now) ≡ None }
         ensures kept { address_again self.now ≡ self.now }
     {
         let _ = &self.addr;
@@ -178,6 +194,18 @@ impl XorSocketAddr {
         Ok(XorSocketAddr { masked })
     }
 
+    /// The xored address in the value of an attribute of this type. Refused as
+    /// `MappedSocketAddr::from_raw_of_type` is.
+    pub fn from_raw_of_type(
+        raw: &RawAttribute<'_>,
+        atype: AttributeType,
+    ) -> Result<XorSocketAddr, StunParseError>
+        ensures { MatchResult result (λ read. (address_read_refusal atype.0 raw.now ≡ None) × (raw.now.kind ≡ atype.0) × (read ≡ address_again raw.now.value)) (λ error. address_read_refusal atype.0 raw.now ≡ Some error) }
+    {
+        let masked = MappedSocketAddr::from_raw_of_type(raw, atype)?;
+        Ok(XorSocketAddr { masked })
+    }
+
     /// The length of the value in bytes, 8 or 20.
     pub fn length(&self) -> u16
         ensures { result ≡ length self.now }
@@ -207,7 +235,8 @@ impl XorSocketAddr {
 
     /// Says that the value is read as itself. It does nothing.
     pub fn is_read_back(&self)
-        ensures accepted { address_refusal self.now ≡ None }
+        ensures value { address_refusal self.now ≡ None }
+        ensures accepted { (kind : ℕ) → address_read_refusal kind (attr_of kind self.now) ≡ None }
         ensures kept { address_again self.now ≡ self.now }
     {
         self.masked.is_read_back();

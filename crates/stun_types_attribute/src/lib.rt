@@ -5,3 +5,4 @@ pub mod error_code;
 pub mod nonce;
 pub mod realm;
 pub mod username;
+pub mod xor_mapped_address;
