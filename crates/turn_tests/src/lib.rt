@@ -7,6 +7,8 @@ mod attributes;
 #[cfg(test)]
 mod parsing;
 #[cfg(test)]
+mod reading;
+#[cfg(test)]
 mod types;
 #[cfg(test)]
 mod writing;
