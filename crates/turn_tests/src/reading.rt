@@ -1,5 +1,7 @@
 //! Typed attributes read from types and values.
 
+ghost use Rattle.std.specs.Prelude.{◌<◌, ◌^◌, length};
+
 use std::convert::TryFrom;
 use std::net::SocketAddr;
 use std::test::Fail;
@@ -58,8 +60,8 @@ fn texts_that_are_none(rt: HostRuntime) -> Result<(), Fail> {
 
 #[test]
 fn error_codes_are_read(rt: HostRuntime) -> Result<(), Fail> {
-    let value = hex::decode(rt.alloc(), "00000403466f7262696464656e")?;
-    let error = ErrorCode::from_raw(RawAttribute::new(ERROR_CODE, &value), rt.alloc())?;
+    let value = b"\x00\x00\x04\x03Forbidden";
+    let error = ErrorCode::from_raw(RawAttribute::new(ERROR_CODE, value), rt.alloc())?;
     assert_eq!(rt; error.code(), 403);
     assert_eq!(rt; error.reason(), "Forbidden");
     assert_eq!(rt; error.to_raw(rt.alloc())?.value(), value.as_slice());
@@ -123,9 +125,6 @@ fn plain_addresses_are_written_and_read(rt: HostRuntime) -> Result<(), Fail> {
 #[test]
 fn addresses_that_are_none(rt: HostRuntime) -> Result<(), Fail> {
     let number = TransactionId::from(NUMBER);
-    let refused = |atype: AttributeType, value: &[u8]| -> Option<StunParseError>
-        requires { length value.now < 2 ^ 16 }
-    { XorMappedAddress::try_from(&RawAttribute::new(atype, value)).err() };
     let v4 = [0, 1, 0x22, 0xFA, 0xE1, 0xBA, 0xA4, 0x43, 0];
     let other = refused(USERNAME, &v4[..8]);
     assert_eq!(rt; other, Some(StunParseError::WrongAttributeImplementation));
@@ -147,6 +146,13 @@ fn addresses_that_are_none(rt: HostRuntime) -> Result<(), Fail> {
     let addr = XorMappedAddress::from_raw(right, rt.alloc())?.addr(number);
     assert_eq!(rt; addr, "192.168.0.1:1000".parse::<SocketAddr>()?);
     Ok(())
+}
+
+/// Why a type and a value are no XOR-MAPPED-ADDRESS.
+fn refused(atype: AttributeType, value: &[u8]) -> Option<StunParseError>
+    requires { length value.now < 2 ^ 16 }
+{
+    XorMappedAddress::try_from(&RawAttribute::new(atype, value)).err()
 }
 
 fn truncated(expected: usize, actual: usize) -> StunParseError {
