@@ -1,4 +1,6 @@
 -- The definitions that this crate's contracts cite.
+pub use Rattle.stun_types_address.specs.Addresses
+pub use Rattle.stun_types_address.specs.Xor
 pub use Rattle.stun_types_wire.specs.Attributes
 pub use Rattle.stun_types_wire.specs.Grammar
 pub use Rattle.stun_types_wire.specs.Shape

@@ -1,10 +1,15 @@
 //! Attributes (RFC 8489, section 14).
 
+pub use stun_types_address::address::{MappedSocketAddr, XorSocketAddr};
 pub use stun_types_attribute::error_code::{ErrorCode, ErrorCodeBuilder};
 pub use stun_types_attribute::nonce::Nonce;
 pub use stun_types_attribute::realm::Realm;
+pub use stun_types_attribute::username::Username;
+pub use stun_types_attribute::xor_mapped_address::XorMappedAddress;
 pub use stun_types_integrity::integrity::MessageIntegrity;
 pub use stun_types_wire::attribute::{
     AttributeHeader, AttributeType, RawAttribute, pad_attribute_len,
 };
-pub use stun_types_write::attribute::{Attribute, AttributeStaticType, AttributeWrite};
+pub use stun_types_write::attribute::{
+    Attribute, AttributeFromRaw, AttributeStaticType, AttributeWrite,
+};

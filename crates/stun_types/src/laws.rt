@@ -1,5 +1,8 @@
-//! What the definitions of the contracts mean, in the words of RFC 8489. The functions do nothing.
+//! What the definitions of the contracts mean, in the words of RFC 8489. The functions do nothing,
+//! but for `written_and_read`, which writes an attribute and reads it.
 
+pub use stun_types_address::address::{value_is_told, xor_is_undone};
 pub use stun_types_grammar::{
     header_refusals, message_is_text, shown_is_longest_front, text_is_read, written_is_read,
 };
+pub use stun_types_write::attribute::written_and_read;

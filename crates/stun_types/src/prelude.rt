@@ -1,5 +1,7 @@
 //! The traits that a caller of this crate wants in scope.
 
 pub use stun_types_build::ext::MessageWriteExt;
-pub use stun_types_write::attribute::{Attribute, AttributeStaticType, AttributeWrite};
+pub use stun_types_write::attribute::{
+    Attribute, AttributeFromRaw, AttributeStaticType, AttributeWrite,
+};
 pub use stun_types_write::writer::MessageWrite;

@@ -1,5 +1,5 @@
 -- Error codes and their reasons (RFC 8489, section 14.8; RFC 8656, section 19).
-use Rattle.std.specs.Prelude.{ℕ, ◌+◌, ◌/◌, ◌%◌, ◌==◌, ◌||◌, nat_lt, List, [], ◌∷◌, ◌++◌, length, codes, Option, Some, None, unwrap_or, if◌then◌else◌}
+use Rattle.std.specs.Prelude.{ℕ, ◌/◌, ◌%◌, ◌==◌, ◌||◌, nat_lt, List, ◌∷◌, codes, Option, Some, unwrap_or, if◌then◌else◌}
 use Rattle.stun_types_wire.specs.declared.error.StunWriteError.{StunWriteError}
 use Rattle.stun_types_wire.specs.declared.error.StunWriteError.TheVariants.{OutOfRange}
 use Rattle.stun_types_attribute.specs.Texts.{longest_text, text_refusal}

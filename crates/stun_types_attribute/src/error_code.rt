@@ -1,15 +1,21 @@
 //! ERROR-CODE (RFC 8489, section 14.8).
 
-ghost use Rattle.std.specs.Prelude.{◌≡◌, ◌≢◌, ◌≤◌, ◌/◌, ◌%◌, ◌∷◌, [], IfOk, IfErr, None, Some, length, MatchOption};
+ghost use Rattle.std.specs.Prelude.{◌≡◌, ◌≢◌, ◌≤◌, ◌/◌, ◌%◌, ◌∷◌, [], IfOk, IfErr, None, Some, length, drop, MatchOption, MatchResult};
+ghost use Rattle.stun_types_wire.specs.Grammar.{or_else};
 ghost use Rattle.stun_types_attribute.specs.Texts.{longest_text};
 ghost use Rattle.stun_types_attribute.specs.Errors.{CodeAndReason, error_refusal, reason_for, reason_of};
+ghost use Rattle.stun_types_attribute.specs.Reading.{code_refusal, error_told};
+ghost use Rattle.stun_types_write.specs.Reading.{utf8_refusal};
 
 use std::alloc::Global;
 use std::marker::Model;
 use stun_types_base::memory::NoMemory;
 use stun_types_wire::attribute::{AttributeType, RawAttribute};
-use stun_types_wire::error::StunWriteError;
-use stun_types_write::attribute::{Attribute, AttributeStaticType, AttributeWrite};
+use stun_types_wire::error::{StunParseError, StunWriteError};
+use stun_types_write::attribute::{
+    Attribute, AttributeFromRaw, AttributeStaticType, AttributeWrite,
+};
+use stun_types_write::reading::{read_text, text_is_read, value_of};
 use stun_types_write::text::write_attribute_in_two;
 
 /// Why a request is refused: a code from 300 to 699, and a reason of at most 763 bytes.
@@ -233,6 +239,53 @@ impl AttributeWrite for ErrorCode {
         value.extend_from_slice(self.reason().as_bytes())?;
         Ok(RawAttribute::new_owned(ErrorCode::TYPE, value.into_boxed_slice()))
     }
+}
+
+/// A code and a reason. The first two bytes are not looked at; the third is the hundreds of the code,
+/// whole. A value of fewer than 4 bytes is `Truncated`, one of more than 767 `TooLarge`, and a code
+/// outside its range or a reason that is not UTF-8 `InvalidAttributeData`.
+impl<'a> AttributeFromRaw<'a> for ErrorCode {
+    ghost use Rattle.stun_types_attribute.specs.Errors.{error_value};
+    ghost use Rattle.stun_types_attribute.specs.Reading.{error_read_refusal, error_told};
+
+    ghost read_refusal = { error_read_refusal };
+
+    ghost read_value = { λ value. error_value (error_told value) };
+
+    #[tactic(auto, unfolding(crate::specs::Reading::error_read_refusal))]
+    fn from_raw_ref(raw: &RawAttribute<'_>, alloc: Global) -> Result<ErrorCode, StunParseError> {
+        let value = value_of(raw, ErrorCode::TYPE, 4, 4 + ErrorCode::MAX_REASON_LEN)?;
+        let (code, reason) = read_code(value)?;
+        Ok(ErrorCode {
+            code,
+            reason: String::from_str(alloc, reason)?,
+        })
+    }
+
+    fn from_raw(raw: RawAttribute<'a>, alloc: Global) -> Result<ErrorCode, StunParseError> {
+        ErrorCode::from_raw_ref(&raw, alloc)
+    }
+
+    #[tactic(auto, using(crate::proofs::Codes::error_is_accepted, crate::proofs::Codes::told_again, crate::proofs::Codes::same_error))]
+    fn is_read_back(&self, _read: &ErrorCode) {
+        text_is_read(self.reason(), ErrorCode::MAX_REASON_LEN);
+        let _ = self.code();
+    }
+}
+
+/// The code and the reason in a value of at least four bytes. Refused with `InvalidAttributeData` where
+/// the code is outside its range or the reason is not UTF-8.
+#[tactic(auto, unfolding(crate::specs::Reading::code_refusal))]
+fn read_code(value: &[u8]) -> Result<(u16, &str), StunParseError>
+    requires { 4 ≤ length value.now }
+    ensures { MatchResult result (λ told. (code_refusal value.now ≡ None) × (utf8_refusal (drop 4 value.now) ≡ None) × (told.0 ≡ (error_told value.now).code) × (told.1.now ≡ (error_told value.now).reason) × (300 ≤ told.0) × (told.0 ≤ 699)) (λ error. or_else (code_refusal value.now) (utf8_refusal (drop 4 value.now)) ≡ Some error) }
+{
+    let (hundreds, rest) = (value[2], value[3]);
+    if hundreds < 3 || hundreds > 6 || rest > 99 {
+        return Err(StunParseError::InvalidAttributeData);
+    }
+    let reason = read_text(&value[4..])?;
+    Ok((100 * u16::from(hundreds) + u16::from(rest), reason))
 }
 
 impl ErrorCode {

@@ -4,3 +4,5 @@
 pub mod error_code;
 pub mod nonce;
 pub mod realm;
+pub mod username;
+pub mod xor_mapped_address;

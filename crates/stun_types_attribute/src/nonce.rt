@@ -7,8 +7,11 @@ use std::alloc::Global;
 use std::marker::Model;
 use stun_types_base::memory::NoMemory;
 use stun_types_wire::attribute::{AttributeType, RawAttribute};
-use stun_types_wire::error::StunWriteError;
-use stun_types_write::attribute::{Attribute, AttributeStaticType, AttributeWrite};
+use stun_types_wire::error::{StunParseError, StunWriteError};
+use stun_types_write::attribute::{
+    Attribute, AttributeFromRaw, AttributeStaticType, AttributeWrite,
+};
+use stun_types_write::reading::{text_is_read, text_of};
 use stun_types_write::text::write_attribute;
 
 /// The nonce of a challenge, which a request repeats. It has at most 763 bytes. Contracts see the bytes
@@ -87,5 +90,31 @@ impl AttributeWrite for Nonce {
 
     fn to_raw(&self, _alloc: Global) -> Result<RawAttribute<'_>, NoMemory> {
         Ok(RawAttribute::new(Nonce::TYPE, self.nonce().as_bytes()))
+    }
+}
+
+/// A text of at most 763 bytes. A longer value is `TooLarge`, one that is not UTF-8
+/// `InvalidAttributeData`.
+impl<'a> AttributeFromRaw<'a> for Nonce {
+    ghost use Rattle.stun_types_attribute.specs.Texts.{longest_text};
+    ghost use Rattle.stun_types_write.specs.Reading.{text_read_refusal};
+
+    ghost read_refusal = { text_read_refusal 0x0015 longest_text };
+
+    ghost read_value = { λ value. value };
+
+    fn from_raw_ref(raw: &RawAttribute<'_>, alloc: Global) -> Result<Nonce, StunParseError> {
+        let text = text_of(raw, Nonce::TYPE, Nonce::MAX_LEN)?;
+        Ok(Nonce {
+            nonce: String::from_str(alloc, text)?,
+        })
+    }
+
+    fn from_raw(raw: RawAttribute<'a>, alloc: Global) -> Result<Nonce, StunParseError> {
+        Nonce::from_raw_ref(&raw, alloc)
+    }
+
+    fn is_read_back(&self, _read: &Nonce) {
+        text_is_read(self.nonce(), Nonce::MAX_LEN);
     }
 }

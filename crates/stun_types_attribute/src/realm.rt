@@ -7,8 +7,11 @@ use std::alloc::Global;
 use std::marker::Model;
 use stun_types_base::memory::NoMemory;
 use stun_types_wire::attribute::{AttributeType, RawAttribute};
-use stun_types_wire::error::StunWriteError;
-use stun_types_write::attribute::{Attribute, AttributeStaticType, AttributeWrite};
+use stun_types_wire::error::{StunParseError, StunWriteError};
+use stun_types_write::attribute::{
+    Attribute, AttributeFromRaw, AttributeStaticType, AttributeWrite,
+};
+use stun_types_write::reading::{text_is_read, text_of};
 use stun_types_write::text::write_attribute;
 
 /// The realm in which a user name and a password count. It has at most 763 bytes. Contracts see the bytes
@@ -87,5 +90,31 @@ impl AttributeWrite for Realm {
 
     fn to_raw(&self, _alloc: Global) -> Result<RawAttribute<'_>, NoMemory> {
         Ok(RawAttribute::new(Realm::TYPE, self.realm().as_bytes()))
+    }
+}
+
+/// A text of at most 763 bytes. A longer value is `TooLarge`, one that is not UTF-8
+/// `InvalidAttributeData`.
+impl<'a> AttributeFromRaw<'a> for Realm {
+    ghost use Rattle.stun_types_attribute.specs.Texts.{longest_text};
+    ghost use Rattle.stun_types_write.specs.Reading.{text_read_refusal};
+
+    ghost read_refusal = { text_read_refusal 0x0014 longest_text };
+
+    ghost read_value = { λ value. value };
+
+    fn from_raw_ref(raw: &RawAttribute<'_>, alloc: Global) -> Result<Realm, StunParseError> {
+        let text = text_of(raw, Realm::TYPE, Realm::MAX_LEN)?;
+        Ok(Realm {
+            realm: String::from_str(alloc, text)?,
+        })
+    }
+
+    fn from_raw(raw: RawAttribute<'a>, alloc: Global) -> Result<Realm, StunParseError> {
+        Realm::from_raw_ref(&raw, alloc)
+    }
+
+    fn is_read_back(&self, _read: &Realm) {
+        text_is_read(self.realm(), Realm::MAX_LEN);
     }
 }

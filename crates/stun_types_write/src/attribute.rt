@@ -1,10 +1,11 @@
 //! What can be added to a message: a type and a value, however they are held.
 
-ghost use Rattle.std.specs.Prelude.{◌≡◌, ◌+◌, ◌<◌, ◌≤◌, ◌^◌, ◌++◌, length, drop, ℕ, List, IfOk, OnOk, OnErr, MatchResult, IfErr};
+ghost use Rattle.std.specs.Prelude.{◌≡◌, ◌≢◌, ◌+◌, ◌<◌, ◌≤◌, ◌^◌, ◌++◌, length, drop, ℕ, List, Option, None, Some, IfOk, OnOk, OnErr, MatchResult, IfErr};
 ghost use Rattle.byteorder.specs.Endian.{big_bytes};
 ghost use Rattle.stun_types_wire.specs.declared.attribute.AttributeType.{AttributeType};
 ghost use Rattle.stun_types_wire.specs.declared.error.StunWriteError.TheVariants.{TooSmall};
-ghost use Rattle.stun_types_wire.specs.Attributes.{padded};
+ghost use Rattle.stun_types_wire.specs.declared.error.StunParseError.{StunParseError as ParseError};
+ghost use Rattle.stun_types_wire.specs.Attributes.{Attr, padded};
 ghost use Rattle.stun_types_wire.specs.Text.{attribute_text};
 ghost use Rattle.stun_types_write.specs.Adding.{attr_of};
 
@@ -13,7 +14,7 @@ use std::alloc::Global;
 use std::fmt::Debug;
 use stun_types_base::memory::NoMemory;
 use stun_types_wire::attribute::{AttributeType as Kind, RawAttribute, pad_attribute_len};
-use stun_types_wire::error::StunWriteError;
+use stun_types_wire::error::{StunParseError, StunWriteError};
 
 /// An attribute whose type is known without a value.
 pub trait AttributeStaticType {
@@ -103,6 +104,51 @@ pub trait AttributeWrite: Attribute {
         self.write_into_unchecked(dest);
         Ok(size)
     }
+}
+
+/// An attribute that can be read from a type and a value.
+pub trait AttributeFromRaw<'a>: Attribute {
+    // Why a type and a value are not this attribute: the first cause in the order.
+    ghost read_refusal: { Attr → Option ParseError };
+
+    // A value as this attribute writes it again: what is not looked at is zero.
+    ghost read_value: { List ℕ → List ℕ };
+
+    /// The attribute of a type and a value. Refused, in this order: `WrongAttributeImplementation`
+    /// where it is another type, `Truncated` where the value is too short, `TooLarge` where it is too
+    /// long, `InvalidAttributeData` where it is no value of this type; where memory is refused,
+    /// `NoMemory`.
+    fn from_raw_ref(raw: &RawAttribute<'_>, alloc: Global) -> Result<Self, StunParseError>
+        ensures ok { IfOk result (λ read. (read_refusal raw.now ≡ None) × (Self.kind read ≡ raw.now.kind) × (Self.value read ≡ read_value raw.now.value)) }
+        ensures refused { IfErr result (λ error. error ≢ StunParseError.NoMemory → read_refusal raw.now ≡ Some error) };
+
+    /// The same, of an attribute that is given away.
+    fn from_raw(raw: RawAttribute<'a>, alloc: Global) -> Result<Self, StunParseError>
+        ensures ok { IfOk result (λ read. (read_refusal raw.entry ≡ None) × (Self.kind read ≡ raw.entry.kind) × (Self.value read ≡ read_value raw.entry.value)) }
+        ensures refused { IfErr result (λ error. error ≢ StunParseError.NoMemory → read_refusal raw.entry ≡ Some error) };
+
+    /// Says that what an attribute writes is read, and that what is read of it is that attribute. It
+    /// does nothing.
+    fn is_read_back(&self, read: &Self)
+        ensures accepted { read_refusal (attr_of (Self.kind self.now) (Self.value self.now)) ≡ None }
+        ensures kept { read_value (Self.value self.now) ≡ Self.value self.now }
+        ensures same { Self.value read.now ≡ Self.value self.now → read.now ≡ self.now };
+}
+
+/// What an attribute writes, read again: the same attribute. Refused where memory is, with `NoMemory`,
+/// and for no other cause.
+pub fn written_and_read<'a, A: AttributeWrite + AttributeFromRaw<'a>>(
+    attribute: &A,
+    alloc: Global,
+) -> Result<A, StunParseError>
+    ensures ok { IfOk result (λ read. read ≡ attribute.now) }
+    ensures refused { IfErr result (λ error. error ≡ StunParseError.NoMemory) }
+{
+    attribute.is_read_back(attribute);
+    let raw = attribute.to_raw(alloc)?;
+    let read = A::from_raw_ref(&raw, alloc)?;
+    attribute.is_read_back(&read);
+    Ok(read)
 }
 
 impl<'a> Attribute for RawAttribute<'a> {

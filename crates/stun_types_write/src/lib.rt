@@ -2,6 +2,7 @@
 #![tactic(auto)]
 
 pub mod attribute;
+pub mod reading;
 pub mod text;
 pub mod vec;
 pub mod writer;

@@ -6,6 +6,7 @@
 mod attributes;
 #[cfg(test)]
 mod parsing;
+mod reading;
 #[cfg(test)]
 mod tracing;
 #[cfg(test)]

@@ -1,0 +1,53 @@
+-- Addresses in bytes (RFC 8489, section 14.1).
+use Rattle.std.specs.Prelude.{ℕ, ◌==◌, not, nat_lt, List, ◌∷◌, ◌++◌, length, drop, slice_index, Option, Some, None, if◌then◌else◌}
+use Rattle.std.specs.declared.net.socket_addr.SocketAddr.{SocketAddr}
+use Rattle.std.specs.declared.net.socket_addr.SocketAddr.TheVariants.{V4, V6}
+use Rattle.std.specs.Net.Addr.{ipv4_octets, ipv6_octets, segments_of}
+use Rattle.std.specs.Net.Socket.{v4_ip, v4_port, v6_ip, v6_port}
+use Rattle.byteorder.specs.Endian.{big_bytes, big_number}
+use Rattle.stun_types_wire.specs.declared.error.StunParseError.{StunParseError}
+use Rattle.stun_types_wire.specs.declared.error.StunParseError.TheVariants.{Truncated, TooLarge, WrongAttributeImplementation, InvalidAttributeData}
+use Rattle.stun_types_wire.specs.Attributes.{Attr}
+
+-- a zero, the family, the port, the octets of the address
+abbrev pub value_of_parts : ℕ → ℕ → List ℕ → List ℕ
+value_of_parts family port octets = 0 ∷ family ∷ (big_bytes 2 port ++ octets)
+
+-- the value of an address: family 1 is IPv4, family 2 is IPv6
+abbrev pub address_value : SocketAddr → List ℕ
+address_value (V4 a) = value_of_parts 1 (v4_port a) (ipv4_octets (v4_ip a))
+address_value (V6 a) = value_of_parts 2 (v6_port a) (ipv6_octets (v6_ip a))
+
+-- the address that a value tells, with no flow information and no scope
+abbrev pub address_of : List ℕ → SocketAddr
+address_of value =
+    if slice_index value 1 == 1 then V4 (record { ip = record { octets = drop 4 value }; port = big_number 2 (drop 2 value) })
+    else V6 (record { ip = record { segments = segments_of (drop 4 value) }; port = big_number 2 (drop 2 value); flowinfo = 0; scope_id = 0 })
+
+-- an address without the flow information and the scope, which have no bytes
+abbrev pub on_the_wire : SocketAddr → SocketAddr
+on_the_wire (V4 a) = V4 a
+on_the_wire (V6 a) = V6 (record { ip = v6_ip a; port = v6_port a; flowinfo = 0; scope_id = 0 })
+
+-- why a value has not exactly so many bytes
+abbrev pub length_refusal : ℕ → List ℕ → Option StunParseError
+length_refusal n value =
+    if nat_lt (length value) n then Some (Truncated n (length value))
+    else if nat_lt n (length value) then Some (TooLarge n (length value))
+    else None
+
+-- why a value is no address: the family, which stands in the first four bytes, tells the length
+unfoldable pub address_refusal : List ℕ → Option StunParseError
+address_refusal value =
+    if nat_lt (length value) 4 then Some (Truncated 4 (length value))
+    else if slice_index value 1 == 1 then length_refusal 8 value
+    else if slice_index value 1 == 2 then length_refusal 20 value
+    else Some InvalidAttributeData
+
+-- why a type and a value are not an address of this type
+unfoldable pub address_read_refusal : ℕ → Attr → Option StunParseError
+address_read_refusal kind a = if not (a.kind == kind) then Some WrongAttributeImplementation else address_refusal a.value
+
+-- a value as it is written again: the first byte is not looked at
+abbrev pub address_again : List ℕ → List ℕ
+address_again value = 0 ∷ drop 1 value

@@ -1,0 +1,177 @@
+//! Addresses in parts: a port and the octets of the address.
+
+ghost use Rattle.std.specs.Prelude.{◌≡◌, ◌∷◌, [], ◌+◌, ◌*◌, ◌++◌, ◌≤◌, length, slice_index, None, Some, MatchResult};
+ghost use Rattle.byteorder.specs.Endian.{big_bytes};
+ghost use Rattle.stun_types_address.specs.Addresses.{address_again, address_of, address_refusal, address_value, length_refusal, value_of_parts};
+ghost use Rattle.std.specs.Net.Addr.{octets_of, segments_of};
+ghost use Rattle.stun_types_address.specs.Xor.{octets_mask, xor_bytes, xored};
+
+use std::net::{Ipv4Addr, Ipv6Addr, SocketAddr, SocketAddrV4, SocketAddrV6};
+use stun_types_wire::error::StunParseError;
+use stun_types_wire::transaction::{MAGIC_COOKIE, TransactionId};
+
+/// The IPv4 address of a port and octets.
+#[tactic(auto, using(crate::proofs::Bytes::v4_is_accepted))]
+pub(crate) fn v4_address(port: u16, octets: [u8; 4]) -> SocketAddr
+    ensures value { address_value result ≡ value_of_parts 1 port octets }
+    ensures told { result ≡ address_of (value_of_parts 1 port octets) }
+    ensures accepted { address_refusal (value_of_parts 1 port octets) ≡ None }
+{
+    SocketAddr::V4(SocketAddrV4::new(Ipv4Addr::from_octets(octets), port))
+}
+
+/// The IPv6 address of a port and octets, with no flow information and no scope.
+#[tactic(auto, using(crate::proofs::Bytes::v6_is_accepted, crate::proofs::Bytes::sixteen_again))]
+pub(crate) fn v6_address(port: u16, octets: &[u8; 16]) -> SocketAddr
+    ensures value { address_value result ≡ value_of_parts 2 port octets.now }
+    ensures told { result ≡ address_of (value_of_parts 2 port octets.now) }
+    ensures accepted { address_refusal (value_of_parts 2 port octets.now) ≡ None }
+{
+    SocketAddr::V6(SocketAddrV6::new(Ipv6Addr::from_octets(*octets), port, 0, 0))
+}
+
+/// The same address without flow information and scope.
+pub(crate) fn without_scope(addr: SocketAddr) -> SocketAddr
+    ensures value { address_value result ≡ address_value addr }
+    ensures told { result ≡ address_of (address_value addr) }
+    ensures accepted { address_refusal (address_value addr) ≡ None }
+{
+    match addr {
+        SocketAddr::V4(v4) => v4_address(v4.port(), v4.ip().octets()),
+        SocketAddr::V6(v6) => v6_address(v6.port(), &v6.ip().octets()),
+    }
+}
+
+/// The value of an address before its octets: a zero, the family, the port.
+pub(crate) fn front_of(family: u8, port: u16) -> [u8; 4]
+    ensures { result ≡ 0 ∷ family ∷ big_bytes 2 port }
+{
+    let [high, low] = port.to_be_bytes();
+    [0, family, high, low]
+}
+
+/// The address that a value tells. Refused, in this order: `Truncated` where there are fewer than four
+/// bytes, `InvalidAttributeData` where the family is unknown, `Truncated` or `TooLarge` where the value
+/// has not the length of its family.
+#[tactic(auto, unfolding(crate::specs::Addresses::address_refusal))]
+pub(crate) fn read_address(value: &[u8]) -> Result<SocketAddr, StunParseError>
+    ensures { MatchResult result (λ addr. (address_refusal value.now ≡ None) × (address_value addr ≡ address_again value.now) × (addr ≡ address_of (address_again value.now)) × (address_refusal (address_again value.now) ≡ None)) (λ error. address_refusal value.now ≡ Some error) }
+{
+    if value.len() < 4 {
+        return Err(StunParseError::Truncated {
+            expected: 4,
+            actual: value.len(),
+        });
+    }
+    match value[1] {
+        1 => read_v4(value),
+        2 => read_v6(value),
+        _ => Err(StunParseError::InvalidAttributeData),
+    }
+}
+
+/// The IPv4 address that a value tells, which has eight bytes.
+#[tactic(auto, using(crate::proofs::Bytes::parts_again))]
+fn read_v4(value: &[u8]) -> Result<SocketAddr, StunParseError>
+    requires front { 4 ≤ length value.now }
+    requires family { slice_index value.now 1 ≡ 1 }
+    ensures { MatchResult result (λ addr. (length_refusal 8 value.now ≡ None) × (address_value addr ≡ address_again value.now) × (addr ≡ address_of (address_again value.now)) × (address_refusal (address_again value.now) ≡ None)) (λ error. length_refusal 8 value.now ≡ Some error) }
+{
+    check_length(value, 8)?;
+    let mut octets = [0; 4];
+    octets.copy_from_slice(&value[4..]);
+    Ok(v4_address(port_in(value), octets))
+}
+
+/// The IPv6 address that a value tells, which has twenty bytes.
+#[tactic(auto, using(crate::proofs::Bytes::parts_again))]
+fn read_v6(value: &[u8]) -> Result<SocketAddr, StunParseError>
+    requires front { 4 ≤ length value.now }
+    requires family { slice_index value.now 1 ≡ 2 }
+    ensures { MatchResult result (λ addr. (length_refusal 20 value.now ≡ None) × (address_value addr ≡ address_again value.now) × (addr ≡ address_of (address_again value.now)) × (address_refusal (address_again value.now) ≡ None)) (λ error. length_refusal 20 value.now ≡ Some error) }
+{
+    check_length(value, 20)?;
+    let mut octets = [0; 16];
+    octets.copy_from_slice(&value[4..]);
+    Ok(v6_address(port_in(value), &octets))
+}
+
+/// The port in the third and fourth byte of a value.
+fn port_in(value: &[u8]) -> u16
+    requires { 4 ≤ length value.now }
+    ensures { result ≡ slice_index value.now 2 * 256 + slice_index value.now 3 }
+{
+    u16::from(value[2]) * 256 + u16::from(value[3])
+}
+
+/// Whether a value has exactly this length.
+fn check_length(value: &[u8], expected: usize) -> Result<(), StunParseError>
+    ensures { MatchResult result (λ _. (length_refusal expected value.now ≡ None) × (length value.now ≡ expected)) (λ error. length_refusal expected value.now ≡ Some error) }
+{
+    let actual = value.len();
+    if actual < expected {
+        return Err(StunParseError::Truncated { expected, actual });
+    }
+    if expected < actual {
+        return Err(StunParseError::TooLarge { expected, actual });
+    }
+    Ok(())
+}
+
+/// An address xored under a number, its port with the top half of the cookie.
+#[tactic(auto, unfolding(crate::specs::Xor::octets_mask))]
+pub(crate) fn xor_address(addr: SocketAddr, number: TransactionId) -> SocketAddr
+    ensures value { address_value result ≡ xored number (address_value addr) }
+    ensures told { result ≡ address_of (xored number (address_value addr)) }
+    ensures accepted { address_refusal (xored number (address_value addr)) ≡ None }
+{
+    let mask = mask_of(number);
+    match addr {
+        SocketAddr::V4(v4) => {
+            let mut octets = v4.ip().octets();
+            xor_in_place(&mut octets, &mask);
+            v4_address(xor_port(v4.port()), octets)
+        }
+        SocketAddr::V6(v6) => {
+            let mut octets = v6.ip().octets();
+            xor_in_place(&mut octets, &mask);
+            v6_address(xor_port(v6.port()), &octets)
+        }
+    }
+}
+
+/// Says that the octets of an IPv6 address tell its segments. It does nothing.
+pub(crate) fn segments_are_told(segments: &[u16])
+    ensures { segments_of (octets_of segments.now) ≡ segments.now }
+{}
+
+/// What octets are xored with under a number: the cookie, and the number.
+#[tactic(auto, unfolding(crate::specs::Xor::octets_mask))]
+pub(crate) fn mask_of(number: TransactionId) -> [u8; 16]
+    ensures { result ≡ octets_mask number }
+{
+    let [c0, c1, c2, c3] = MAGIC_COOKIE.to_be_bytes();
+    let word = u128::from(number);
+    let [_, _, _, _, n0, n1, n2, n3, n4, n5, n6, n7, n8, n9, n10, n11] = word.to_be_bytes();
+    [
+        c0, c1, c2, c3, n0, n1, n2, n3, n4, n5, n6, n7, n8, n9, n10, n11,
+    ]
+}
+
+/// Xors bytes with a mask that is no shorter.
+pub(crate) fn xor_in_place(bytes: &mut [u8], mask: &[u8])
+    requires { length bytes.old ≤ length mask.now }
+    ensures { bytes.new ≡ xor_bytes bytes.old mask.now }
+{
+    for i in 0..bytes.len() {
+        bytes[i] ^= mask[i];
+    }
+}
+
+/// A port xored with the top half of the cookie.
+#[tactic(auto, using(crate::proofs::Masks::port_xored))]
+pub(crate) fn xor_port(port: u16) -> u16
+    ensures { big_bytes 2 result ≡ xor_bytes (big_bytes 2 port) (0x21 ∷ 0x12 ∷ []) }
+{
+    port ^ 0x2112
+}

@@ -1,0 +1,21 @@
+-- Which types and values are read as an attribute of one type.
+use Rattle.std.specs.Prelude.{ℕ, List, Option, Some, None, if◌then◌else◌}
+use Rattle.std.specs.Str.{is_utf8}
+use Rattle.std.specs.declared.ops.Bound.TheVariants.{Included}
+use Rattle.stun_types_wire.specs.declared.error.StunParseError.{StunParseError}
+use Rattle.stun_types_wire.specs.declared.error.StunParseError.TheVariants.{InvalidAttributeData}
+use Rattle.stun_types_wire.specs.Attributes.{Attr}
+use Rattle.stun_types_wire.specs.RawBytes.{type_and_len_refusal}
+use Rattle.stun_types_wire.specs.Grammar.{or_else}
+
+-- why a type and a value are not of this type, or not of a length from the least to the greatest
+abbrev pub value_refusal : ℕ → ℕ → ℕ → Attr → Option StunParseError
+value_refusal kind least most a = type_and_len_refusal kind (Included least) (Included most) a
+
+-- bytes that are no text in UTF-8
+unfoldable pub utf8_refusal : List ℕ → Option StunParseError
+utf8_refusal bytes = if is_utf8 bytes then None else Some InvalidAttributeData
+
+-- why a type and a value are not a text of this type, with at most so many bytes
+unfoldable pub text_read_refusal : ℕ → ℕ → Attr → Option StunParseError
+text_read_refusal kind most a = or_else (value_refusal kind 0 most a) (utf8_refusal a.value)

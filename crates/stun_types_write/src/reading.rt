@@ -1,0 +1,60 @@
+//! What typed attributes share in reading a type and a value.
+
+ghost use Rattle.std.specs.Prelude.{◌≡◌, ◌≤◌, ℕ, length, MatchResult, None, Some};
+ghost use Rattle.stun_types_write.specs.Adding.{attr_of};
+ghost use Rattle.stun_types_write.specs.Reading.{value_refusal, text_read_refusal, utf8_refusal};
+
+use std::ops::Bound;
+use stun_types_wire::attribute::{AttributeType, RawAttribute};
+use stun_types_wire::error::StunParseError;
+
+/// The value of an attribute of this type, with a length from the least to the greatest. Refused, in
+/// this order: `WrongAttributeImplementation` where it has another type, `Truncated` with the least
+/// length where it is shorter, `TooLarge` with the greatest where it is longer.
+#[tactic(auto, using(crate::proofs::Values::kind_told, crate::proofs::Values::least_told, crate::proofs::Values::most_told))]
+pub fn value_of<'raw>(
+    raw: &'raw RawAttribute<'_>,
+    atype: AttributeType,
+    least: usize,
+    most: usize,
+) -> Result<&'raw [u8], StunParseError>
+    ensures { MatchResult result (λ value. (value_refusal atype.0 least most raw.now ≡ None) × (raw.now.kind ≡ atype.0) × (value.now ≡ raw.now.value) × (least ≤ length value.now) × (length value.now ≤ most)) (λ error. value_refusal atype.0 least most raw.now ≡ Some error) }
+{
+    raw.check_type_and_len(atype, Bound::Included(least), Bound::Included(most))?;
+    Ok(raw.value())
+}
+
+/// The text of an attribute of this type, with at most so many bytes. Refused, in this order:
+/// `WrongAttributeImplementation` where it has another type, `TooLarge` where it has more bytes,
+/// `InvalidAttributeData` where they are not UTF-8.
+#[tactic(auto, unfolding(crate::specs::Reading::text_read_refusal))]
+pub fn text_of<'raw>(
+    raw: &'raw RawAttribute<'_>,
+    atype: AttributeType,
+    most: usize,
+) -> Result<&'raw str, StunParseError>
+    ensures { MatchResult result (λ text. (text_read_refusal atype.0 most raw.now ≡ None) × (raw.now.kind ≡ atype.0) × (text.now ≡ raw.now.value) × (length text.now ≤ most)) (λ error. text_read_refusal atype.0 most raw.now ≡ Some error) }
+{
+    let value = value_of(raw, atype, 0, most)?;
+    let text = read_text(value)?;
+    Ok(text)
+}
+
+/// The text of some bytes. Refused with `InvalidAttributeData` where they are not UTF-8.
+#[tactic(auto, using(crate::proofs::Values::utf8_is_accepted, crate::proofs::Values::not_utf8_is_refused))]
+pub fn read_text(bytes: &[u8]) -> Result<&str, StunParseError>
+    ensures { MatchResult result (λ text. (utf8_refusal bytes.now ≡ None) × (text.now ≡ bytes.now)) (λ error. utf8_refusal bytes.now ≡ Some error) }
+{
+    match str::from_utf8(bytes) {
+        Ok(text) => Ok(text),
+        Err(_) => Err(StunParseError::InvalidAttributeData),
+    }
+}
+
+/// Says that a text of at most so many bytes is read as the value of any type. It does nothing.
+#[tactic(auto, using(crate::proofs::Values::text_is_accepted))]
+pub fn text_is_read(text: &str, most: usize)
+    requires { length text.now ≤ most }
+    ensures utf8 { utf8_refusal text.now ≡ None }
+    ensures accepted { (kind : ℕ) → text_read_refusal kind most (attr_of kind text.now) ≡ None }
+{}

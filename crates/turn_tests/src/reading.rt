@@ -1,0 +1,164 @@
+//! Typed attributes read from types and values.
+
+ghost use Rattle.std.specs.Prelude.{◌<◌, ◌^◌, length};
+
+use std::convert::TryFrom;
+use std::net::SocketAddr;
+use std::test::Fail;
+use stun_types::attribute::{
+    AttributeType, ErrorCode, MappedSocketAddr, Nonce, RawAttribute, Realm, Username,
+    XorMappedAddress, XorSocketAddr,
+};
+use stun_types::laws::written_and_read;
+use stun_types::message::{StunParseError, TransactionId};
+use stun_types::prelude::{AttributeFromRaw, AttributeWrite};
+
+const USERNAME: AttributeType = AttributeType(0x0006);
+
+const ERROR_CODE: AttributeType = AttributeType(0x0009);
+
+const REALM: AttributeType = AttributeType(0x0014);
+
+const NONCE: AttributeType = AttributeType(0x0015);
+
+const XOR_MAPPED_ADDRESS: AttributeType = AttributeType(0x0020);
+
+const NUMBER: u128 = 0xade0_b876_903d_f1a0_e56a_5d40;
+
+#[test]
+fn texts_are_read(rt: HostRuntime) -> Result<(), Fail> {
+    let user = Username::from_raw(RawAttribute::new(USERNAME, b"user"), rt.alloc())?;
+    assert_eq!(rt; user.username(), "user");
+    assert_eq!(rt; user.to_raw(rt.alloc())?.value(), b"user".as_slice());
+    let realm = Realm::from_raw(RawAttribute::new(REALM, b"realm"), rt.alloc())?;
+    assert_eq!(rt; realm.realm(), "realm");
+    let nonce = Nonce::from_raw(RawAttribute::new(NONCE, b"nonce"), rt.alloc())?;
+    assert_eq!(rt; nonce.nonce(), "nonce");
+    assert_eq!(rt; written_and_read(&nonce, rt.alloc())?.nonce(), "nonce");
+    Ok(())
+}
+
+#[test]
+fn texts_that_are_none(rt: HostRuntime) -> Result<(), Fail> {
+    let other = Realm::from_raw(RawAttribute::new(NONCE, b"realm"), rt.alloc()).err();
+    assert_eq!(rt; other, Some(StunParseError::WrongAttributeImplementation));
+    let latin = Username::from_raw(RawAttribute::new(USERNAME, b"us\xE9r"), rt.alloc()).err();
+    assert_eq!(rt; latin, Some(StunParseError::InvalidAttributeData));
+    let bytes = [b'a'; 764];
+    let (most, _) = bytes.split_at(513);
+    assert!(rt; Username::from_raw(RawAttribute::new(USERNAME, most), rt.alloc()).is_ok());
+    let (more, _) = bytes.split_at(514);
+    let long = Username::from_raw(RawAttribute::new(USERNAME, more), rt.alloc()).err();
+    assert_eq!(rt; long, Some(too_large(513, 514)));
+    let (most, _) = bytes.split_at(763);
+    assert!(rt; Realm::from_raw(RawAttribute::new(REALM, most), rt.alloc()).is_ok());
+    assert!(rt; Nonce::from_raw(RawAttribute::new(NONCE, most), rt.alloc()).is_ok());
+    let long = Nonce::from_raw(RawAttribute::new(NONCE, &bytes), rt.alloc()).err();
+    assert_eq!(rt; long, Some(too_large(763, 764)));
+    Ok(())
+}
+
+#[test]
+fn error_codes_are_read(rt: HostRuntime) -> Result<(), Fail> {
+    let value = b"\x00\x00\x04\x03Forbidden";
+    let error = ErrorCode::from_raw(RawAttribute::new(ERROR_CODE, value), rt.alloc())?;
+    assert_eq!(rt; error.code(), 403);
+    assert_eq!(rt; error.reason(), "Forbidden");
+    assert_eq!(rt; error.to_raw(rt.alloc())?.value(), value.as_slice());
+    let reserved = RawAttribute::new(ERROR_CODE, &[0xFF, 0xFF, 6, 99]);
+    let error = ErrorCode::from_raw_ref(&reserved, rt.alloc())?;
+    assert_eq!(rt; error.code(), 699);
+    assert_eq!(rt; error.to_raw(rt.alloc())?.value(), [0, 0, 6, 99].as_slice());
+    Ok(())
+}
+
+#[test]
+fn error_codes_that_are_none(rt: HostRuntime) {
+    let short = ErrorCode::from_raw(RawAttribute::new(ERROR_CODE, &[0, 0, 4]), rt.alloc()).err();
+    assert_eq!(rt; short, Some(truncated(4, 3)));
+    let long = ErrorCode::from_raw(RawAttribute::new(ERROR_CODE, &[0; 768]), rt.alloc()).err();
+    assert_eq!(rt; long, Some(too_large(767, 768)));
+    let invalid = Some(StunParseError::InvalidAttributeData);
+    for value in [[0, 0, 2, 99], [0, 0, 7, 0], [0, 0, 0x0C, 0], [0, 0, 4, 100]] {
+        let raw = RawAttribute::new(ERROR_CODE, &value);
+        assert_eq!(rt; ErrorCode::from_raw_ref(&raw, rt.alloc()).err(), invalid);
+    }
+    let reason = RawAttribute::new(ERROR_CODE, &[0, 0, 4, 3, 0xE9]);
+    assert_eq!(rt; ErrorCode::from_raw_ref(&reason, rt.alloc()).err(), invalid);
+}
+
+#[test]
+fn xored_addresses_are_written_and_read(rt: HostRuntime) -> Result<(), Fail> {
+    let number = TransactionId::from(NUMBER);
+    let samples = [
+        ("192.168.0.1:1000", "000122fae1baa443"),
+        ("203.0.113.5:50000", "0001e242ea12d547"),
+        ("[::1]:40000", "0002bd522112a442ade0b876903df1a0e56a5d41"),
+    ];
+    for (text, expected) in samples {
+        let addr = text.parse::<SocketAddr>()?;
+        let mapped = XorMappedAddress::new(addr, number);
+        let raw = mapped.to_raw(rt.alloc())?;
+        let bytes = hex::decode(rt.alloc(), expected)?;
+        assert_eq!(rt; raw.value(), bytes.as_slice());
+        assert_eq!(rt; XorMappedAddress::try_from(&raw)?.addr(number), addr);
+        assert_eq!(rt; written_and_read(&mapped, rt.alloc())?.addr(number), addr);
+        let xored = XorSocketAddr::xor_addr(addr, number);
+        assert_eq!(rt; XorSocketAddr::xor_addr(xored, number), addr);
+    }
+    Ok(())
+}
+
+#[test]
+fn plain_addresses_are_written_and_read(rt: HostRuntime) -> Result<(), Fail> {
+    let addr = "10.0.0.2:2000".parse::<SocketAddr>()?;
+    let plain = MappedSocketAddr::new(addr);
+    let raw = plain.to_raw(AttributeType(0x8023), rt.alloc())?;
+    let bytes = hex::decode(rt.alloc(), "000107d00a000002")?;
+    assert_eq!(rt; raw.value(), bytes.as_slice());
+    assert_eq!(rt; MappedSocketAddr::from_raw(&raw)?.addr(), addr);
+    let first_byte = RawAttribute::new(AttributeType(0x8023), &[9, 1, 7, 0xD0, 10, 0, 0, 2]);
+    assert_eq!(rt; MappedSocketAddr::from_raw(&first_byte)?.addr(), addr);
+    Ok(())
+}
+
+#[test]
+fn addresses_that_are_none(rt: HostRuntime) -> Result<(), Fail> {
+    let number = TransactionId::from(NUMBER);
+    let v4 = [0, 1, 0x22, 0xFA, 0xE1, 0xBA, 0xA4, 0x43, 0];
+    let other = refused(USERNAME, &v4[..8]);
+    assert_eq!(rt; other, Some(StunParseError::WrongAttributeImplementation));
+    assert_eq!(rt;
+        refused(XOR_MAPPED_ADDRESS, &v4[..3]),
+        Some(truncated(4, 3))
+    );
+    assert_eq!(rt;
+        refused(XOR_MAPPED_ADDRESS, &v4[..7]),
+        Some(truncated(8, 7))
+    );
+    assert_eq!(rt; refused(XOR_MAPPED_ADDRESS, &v4), Some(too_large(8, 9)));
+    let v6 = [0, 2, 0, 0, 0, 0, 0, 0];
+    assert_eq!(rt; refused(XOR_MAPPED_ADDRESS, &v6), Some(truncated(20, 8)));
+    let family = [0, 3, 0, 0, 0, 0, 0, 0];
+    let invalid = Some(StunParseError::InvalidAttributeData);
+    assert_eq!(rt; refused(XOR_MAPPED_ADDRESS, &family), invalid);
+    let right = RawAttribute::new(XOR_MAPPED_ADDRESS, &v4[..8]);
+    let addr = XorMappedAddress::from_raw(right, rt.alloc())?.addr(number);
+    assert_eq!(rt; addr, "192.168.0.1:1000".parse::<SocketAddr>()?);
+    Ok(())
+}
+
+/// Why a type and a value are no XOR-MAPPED-ADDRESS.
+fn refused(atype: AttributeType, value: &[u8]) -> Option<StunParseError>
+    requires { length value.now < 2 ^ 16 }
+{
+    XorMappedAddress::try_from(&RawAttribute::new(atype, value)).err()
+}
+
+fn truncated(expected: usize, actual: usize) -> StunParseError {
+    StunParseError::Truncated { expected, actual }
+}
+
+fn too_large(expected: usize, actual: usize) -> StunParseError {
+    StunParseError::TooLarge { expected, actual }
+}
