@@ -6,6 +6,7 @@
 mod attributes;
 #[cfg(test)]
 mod parsing;
+#[cfg(test)]
 mod reading;
 #[cfg(test)]
 mod tracing;
