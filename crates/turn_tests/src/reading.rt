@@ -44,13 +44,14 @@ fn texts_that_are_none(rt: HostRuntime) -> Result<(), Fail> {
     assert_eq!(rt; other, Some(StunParseError::WrongAttributeImplementation));
     let latin = Username::from_raw(RawAttribute::new(USERNAME, b"us\xE9r"), rt.alloc()).err();
     assert_eq!(rt; latin, Some(StunParseError::InvalidAttributeData));
-    let bytes = [b'a'; 764];
-    let (most, _) = bytes.split_at(513);
+    let mut bytes = Vec::new(rt.alloc());
+    bytes.resize(764, b'a')?;
+    let (most, _) = bytes.as_slice().split_at(513);
     assert!(rt; Username::from_raw(RawAttribute::new(USERNAME, most), rt.alloc()).is_ok());
-    let (more, _) = bytes.split_at(514);
+    let (more, _) = bytes.as_slice().split_at(514);
     let long = Username::from_raw(RawAttribute::new(USERNAME, more), rt.alloc()).err();
     assert_eq!(rt; long, Some(too_large(513, 514)));
-    let (most, _) = bytes.split_at(763);
+    let (most, _) = bytes.as_slice().split_at(763);
     assert!(rt; Realm::from_raw(RawAttribute::new(REALM, most), rt.alloc()).is_ok());
     assert!(rt; Nonce::from_raw(RawAttribute::new(NONCE, most), rt.alloc()).is_ok());
     let long = Nonce::from_raw(RawAttribute::new(NONCE, &bytes), rt.alloc()).err();
@@ -73,10 +74,15 @@ fn error_codes_are_read(rt: HostRuntime) -> Result<(), Fail> {
 }
 
 #[test]
-fn error_codes_that_are_none(rt: HostRuntime) {
+fn error_codes_that_are_none(rt: HostRuntime) -> Result<(), Fail> {
+    let mut bytes = Vec::new(rt.alloc());
+    bytes.resize(768, 0)?;
     let short = ErrorCode::from_raw(RawAttribute::new(ERROR_CODE, &[0, 0, 4]), rt.alloc()).err();
     assert_eq!(rt; short, Some(truncated(4, 3)));
-    let long = ErrorCode::from_raw(RawAttribute::new(ERROR_CODE, &[0; 768]), rt.alloc()).err();
+    let long = ErrorCode::from_raw(
+        RawAttribute::new(ERROR_CODE, bytes.as_slice()),
+        rt.alloc(),
+    ).err();
     assert_eq!(rt; long, Some(too_large(767, 768)));
     let invalid = Some(StunParseError::InvalidAttributeData);
     for value in [[0, 0, 2, 99], [0, 0, 7, 0], [0, 0, 0x0C, 0], [0, 0, 4, 100]] {
@@ -85,6 +91,7 @@ fn error_codes_that_are_none(rt: HostRuntime) {
     }
     let reason = RawAttribute::new(ERROR_CODE, &[0, 0, 4, 3, 0xE9]);
     assert_eq!(rt; ErrorCode::from_raw_ref(&reason, rt.alloc()).err(), invalid);
+    Ok(())
 }
 
 #[test]
@@ -102,10 +109,19 @@ fn xored_addresses_are_written_and_read(rt: HostRuntime) -> Result<(), Fail> {
         let bytes = hex::decode(rt.alloc(), expected)?;
         assert_eq!(rt; raw.value(), bytes.as_slice());
         assert_eq!(rt; XorMappedAddress::try_from(&raw)?.addr(number), addr);
-        assert_eq!(rt; written_and_read(&mapped, rt.alloc())?.addr(number), addr);
-        let xored = XorSocketAddr::xor_addr(addr, number);
-        assert_eq!(rt; XorSocketAddr::xor_addr(xored, number), addr);
     }
+    Ok(())
+}
+
+#[test]
+fn xor_is_undone(rt: HostRuntime) -> Result<(), Fail> {
+    let number = TransactionId::from(NUMBER);
+    let addr = "[::1]:40000".parse::<SocketAddr>()?;
+    let xored = XorSocketAddr::xor_addr(addr, number);
+    assert_ne!(rt; xored, addr);
+    assert_eq!(rt; XorSocketAddr::xor_addr(xored, number), addr);
+    let mapped = XorMappedAddress::new(addr, number);
+    assert_eq!(rt; written_and_read(&mapped, rt.alloc())?.addr(number), addr);
     Ok(())
 }
 
