@@ -2,6 +2,7 @@ pub mod Attributes
 pub mod Data
 pub mod Family
 pub mod Grammar
+pub mod Number
 pub mod RawBytes
 pub mod Shape
 pub mod Text

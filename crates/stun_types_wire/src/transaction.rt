@@ -28,6 +28,11 @@ impl Model for TransactionId {
 
 /// Prints `0x` and 24 hex digits.
 impl fmt::Display for TransactionId {
+    ghost use Rattle.std.specs.Prelude.{Some};
+    ghost use Rattle.stun_types_wire.specs.Number.{number_text};
+
+    ghost output = { λ number. Some (number_text number) };
+
     fn fmt<W: fmt::Write>(&self, f: &mut fmt::Formatter<W>) -> fmt::Result {
         let high = (self.id >> 64) as u32;
         let low = (self.id % (1 << 64)) as u64;
