@@ -2,6 +2,7 @@
 
 ghost use Rattle.std.specs.Prelude.{◌≡◌};
 ghost use Rattle.stun_types_integrity.specs.Integrity.{algorithm_of as algorithm_of_kind, attribute_kind, is_lawful_length as is_lawful};
+ghost use Rattle.stun_types_integrity.specs.Signing.{hmac_length as length_of_hmac};
 
 use stun_types_wire::algorithm::IntegrityAlgorithm;
 use stun_types_wire::attribute::AttributeType;
@@ -41,5 +42,15 @@ pub fn is_lawful_length(algorithm: IntegrityAlgorithm, len: usize) -> bool
     match algorithm {
         IntegrityAlgorithm::Sha1 => len == 20,
         IntegrityAlgorithm::Sha256 => len >= 16 && len <= 32 && len % 4 == 0,
+    }
+}
+
+/// How many bytes the HMAC of an algorithm has: 20 or 32.
+pub fn hmac_length(algorithm: IntegrityAlgorithm) -> usize
+    ensures { result ≡ length_of_hmac algorithm }
+{
+    match algorithm {
+        IntegrityAlgorithm::Sha1 => 20,
+        IntegrityAlgorithm::Sha256 => 32,
     }
 }

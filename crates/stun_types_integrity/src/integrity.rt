@@ -7,13 +7,17 @@ ghost use Rattle.stun_types_integrity.specs.Integrity.{integrity_hmac};
 use crate::algorithm::MESSAGE_INTEGRITY;
 use crate::key::IntegrityKey;
 use std::alloc::Global;
+use std::convert::TryFrom;
 use std::marker::Model;
 use stun_types_base::memory::NoMemory;
 use stun_types_digest::hmac::HmacSha1;
 use stun_types_wire::algorithm::IntegrityAlgorithm;
 use stun_types_wire::attribute::{AttributeType, RawAttribute};
-use stun_types_wire::error::{StunWriteError, ValidateError};
-use stun_types_write::attribute::{Attribute, AttributeStaticType, AttributeWrite};
+use stun_types_wire::error::{StunParseError, StunWriteError, ValidateError};
+use stun_types_write::attribute::{
+    Attribute, AttributeFromRaw, AttributeStaticType, AttributeWrite,
+};
+use stun_types_write::reading::value_of;
 use stun_types_write::text::write_attribute;
 
 /// The HMAC-SHA1 of a message under a key. Contracts see its twenty bytes.
@@ -127,5 +131,47 @@ impl AttributeWrite for MessageIntegrity {
 
     fn to_raw(&self, _alloc: Global) -> Result<RawAttribute<'_>, NoMemory> {
         Ok(RawAttribute::new(MessageIntegrity::TYPE, self.hmac()))
+    }
+}
+
+/// The twenty bytes of an HMAC. `WrongAttributeImplementation` where it is another type, `Truncated`
+/// where the value is shorter, `TooLarge` where it is longer.
+impl<'a, 'raw> TryFrom<&'raw RawAttribute<'a>> for MessageIntegrity {
+    ghost use Rattle.std.specs.Prelude.{◌≡◌, MatchResult, Some, None};
+    ghost use Rattle.stun_types_write.specs.Reading.{value_refusal};
+
+    type Error = StunParseError;
+
+    ghost try_from_gives = { λ raw result. MatchResult result (λ read. (value_refusal 0x0008 20 20 raw.now ≡ None) × (raw.now.kind ≡ 0x0008) × (read ≡ raw.now.value)) (λ error. value_refusal 0x0008 20 20 raw.now ≡ Some error) };
+
+    fn try_from(raw: &'raw RawAttribute<'a>) -> Result<MessageIntegrity, StunParseError> {
+        let value = value_of(raw, MessageIntegrity::TYPE, 20, 20)?;
+        let mut hmac = [0; 20];
+        hmac.copy_from_slice(value);
+        Ok(MessageIntegrity { hmac })
+    }
+}
+
+/// Refused as `try_from` is; no memory is taken.
+impl<'a> AttributeFromRaw<'a> for MessageIntegrity {
+    ghost use Rattle.stun_types_write.specs.Reading.{value_refusal};
+
+    ghost read_refusal = { value_refusal 0x0008 20 20 };
+
+    ghost read_value = { λ value. value };
+
+    fn from_raw_ref(
+        raw: &RawAttribute<'_>,
+        _alloc: Global,
+    ) -> Result<MessageIntegrity, StunParseError> {
+        MessageIntegrity::try_from(raw)
+    }
+
+    fn from_raw(raw: RawAttribute<'a>, alloc: Global) -> Result<MessageIntegrity, StunParseError> {
+        MessageIntegrity::from_raw_ref(&raw, alloc)
+    }
+
+    fn is_read_back(&self, _read: &MessageIntegrity) {
+        let _ = &self.hmac;
     }
 }

@@ -1,10 +1,13 @@
 //! Keys of message integrity.
 
-ghost use Rattle.std.specs.Prelude.{◌≡◌, ◌↔◌, ◌++◌, IfOk, IsTrue, codes};
+ghost use Rattle.std.specs.Prelude.{◌≡◌, ◌↔◌, ◌++◌, length, IfOk, IsTrue, codes};
 ghost use Rattle.md5.specs.Md5.{md5};
 ghost use Rattle.sha2.specs.Sha256.{sha256};
+ghost use Rattle.stun_types_integrity.specs.Hmacs.{hmac_bytes};
 ghost use Rattle.stun_types_integrity.specs.Integrity.{IsFront, integrity_hmac};
+ghost use Rattle.stun_types_integrity.specs.Signing.{hmac_length};
 
+use crate::hmac::IntegrityHmac;
 use md5::{Digest, Md5};
 use sha2::Sha256;
 use std::alloc::Global;
@@ -59,26 +62,29 @@ impl IntegrityKey {
         self.algorithm
     }
 
-    /// Whether a value is the HMAC of a text under this key, or a front of it, by the algorithm for
-    /// which the key was made. The text comes in three pieces, as a message does whose length field
-    /// is to read otherwise: what stands before the field, the field, and what stands behind it.
-    pub fn signs(&self, head: &[u8], middle: &[u8], tail: &[u8], value: &[u8]) -> bool
-        ensures { IsTrue result ↔ IsFront value.now (integrity_hmac self.now.algorithm self.now.bytes (head.now ++ middle.now ++ tail.now)) }
+    /// The HMAC of a text under this key, by the algorithm for which the key was made. The text comes
+    /// in three pieces, as a message does whose length field is to read otherwise: what stands before
+    /// the field, the field, and what stands behind it.
+    pub fn hmac(&self, head: &[u8], middle: &[u8], tail: &[u8]) -> IntegrityHmac
+        ensures bytes { hmac_bytes result ≡ integrity_hmac self.now.algorithm self.now.bytes (head.now ++ middle.now ++ tail.now) }
+        ensures size { length (hmac_bytes result) ≡ hmac_length self.now.algorithm }
     {
         match self.algorithm() {
             IntegrityAlgorithm::Sha1 => {
-                is_front(
-                    value,
-                    &HmacSha1::of_pieces(self.bytes(), head, middle, tail),
-                )
+                IntegrityHmac::Sha1(HmacSha1::of_pieces(self.bytes(), head, middle, tail))
             }
             IntegrityAlgorithm::Sha256 => {
-                is_front(
-                    value,
-                    &HmacSha256::of_pieces(self.bytes(), head, middle, tail),
-                )
+                IntegrityHmac::Sha256(HmacSha256::of_pieces(self.bytes(), head, middle, tail))
             }
         }
+    }
+
+    /// Whether a value is the HMAC of a text under this key, or a front of it. The text comes in
+    /// three pieces, as for `hmac`.
+    pub fn signs(&self, head: &[u8], middle: &[u8], tail: &[u8], value: &[u8]) -> bool
+        ensures { IsTrue result ↔ IsFront value.now (integrity_hmac self.now.algorithm self.now.bytes (head.now ++ middle.now ++ tail.now)) }
+    {
+        is_front(value, self.hmac(head, middle, tail).as_slice())
     }
 }
 

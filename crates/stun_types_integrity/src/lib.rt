@@ -4,6 +4,7 @@
 
 pub mod algorithm;
 pub mod credentials;
+pub mod hmac;
 pub mod integrity;
 pub mod key;
 #[cfg(test)]

@@ -38,13 +38,16 @@ abbrev pub room_refusal : Option ℕ → ℕ → Option StunWriteError
 room_refusal None end = None
 room_refusal (Some most) end = if nat_lt most end then Some (TooSmall end most) else None
 
+-- a message that would end here is longer than its length field can tell, or doesn't fit into the room
+abbrev pub size_refusal : Option ℕ → ℕ → Option StunWriteError
+size_refusal limit end = if nat_lt greatest_size end then Some (TooLarge 65_535 (end - 20)) else room_refusal limit end
+
 -- why an attribute of this size is not added to a message of these types, this greatest size and this length: the first cause in the order
 unfoldable pub add_refusal : List ℕ → Option ℕ → ℕ → ℕ → Option StunWriteError
 add_refusal kinds limit len size =
     if has_kind fingerprint_kind kinds then Some FingerprintExists
     else if has_kind integrity_kind kinds || has_kind sha256_kind kinds then Some MessageIntegrityExists
-    else if nat_lt greatest_size (len + size) then Some (TooLarge 65_535 (len + size - 20))
-    else room_refusal limit (len + size)
+    else size_refusal limit (len + size)
 
 -- a message that was begun, and can be added to: its header is there, and its length fits
 pub record IsBegun (bytes : List ℕ) : Type 0 where
