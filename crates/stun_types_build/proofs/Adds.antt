@@ -1,12 +1,9 @@
 -- What an add makes of the bytes of a message.
-use Rattle.std.proofs.Common.{◌≡◌, ℕ, ◌+◌, ◌-◌, ◌/◌, ◌%◌, ◌^◌, ◌<◌, ◌≤◌, Bool, true, false, not, ltb, eqb, ◌&&◌, cond, List, [], ◌∷◌, ◌++◌, length, take, drop, replicate, Some, None, refl, sym, ap, subst, ◌∙◌, append_assoc, arith, inl, inr}
-use Rattle.std.specs.List.{flat_map, starts_with}
+use Rattle.std.proofs.Common.{◌≡◌, ℕ, ◌+◌, ◌-◌, ◌/◌, ◌%◌, ◌^◌, ◌<◌, ◌≤◌, true, not, ltb, List, [], ◌∷◌, ◌++◌, length, replicate, None, refl, sym, ap, ◌∙◌, append_assoc, arith, inl, inr}
 use Rattle.std.proofs.lemmas.Bool.{cases_Bool, ltb-false, le-ltb, lt-ltb}
 use Rattle.std.proofs.lemmas.List.{length-append, length-replicate, append-nil}
-use Rattle.byteorder.specs.Endian.{big_bytes}
-use Rattle.stun_types_wire.specs.declared.error.StunParseError.TheVariants.{NotStun, Truncated}
 use Rattle.stun_types_wire.specs.Attributes.{Attr, padded, padding_len, attr_size}
-use Rattle.stun_types_wire.specs.Grammar.{cookie, may_begin, header_refusal}
+use Rattle.stun_types_wire.specs.Grammar.{may_begin, header_refusal}
 use Rattle.stun_types_wire.specs.Text.{header_text, padded_text, attribute_text, body_text, message_text}
 use Rattle.stun_types_write.specs.Adding.{attr_of, with_length, after_add, greatest_size, IsBegun}
 

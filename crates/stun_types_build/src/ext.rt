@@ -7,27 +7,23 @@ ghost use Rattle.stun_types_wire.specs.Types.{class_of, method_of, is_response_c
 ghost use Rattle.stun_types_wire.specs.Grammar.{header_at, header_refusal, number_at};
 ghost use Rattle.stun_types_wire.specs.Text.{message_text};
 ghost use Rattle.stun_types_write.specs.Adding.{attr_of, after_add, add_refusal, IsBegun};
+ghost use Rattle.stun_types_integrity.specs.Integrity.{attribute_kind};
+ghost use Rattle.stun_types_integrity.specs.Keys.{key_of};
+ghost use Rattle.stun_types_integrity.specs.Signing.{signature, signing_refusal};
 
-use stun_types_wire::attribute::AttributeType;
+use crate::room::{FINGERPRINT, end_of_add};
+use crate::signing::sign;
+use std::alloc::Global;
+use stun_types_integrity::algorithm::{MESSAGE_INTEGRITY, MESSAGE_INTEGRITY_SHA256};
+use stun_types_integrity::credentials::MessageIntegrityCredentials;
+use stun_types_integrity::key::IntegrityKey;
+use stun_types_wire::algorithm::IntegrityAlgorithm;
 use stun_types_wire::class::{MessageClass, MessageType, Method};
 use stun_types_wire::error::StunWriteError;
 use stun_types_wire::header::MessageHeader;
 use stun_types_wire::transaction::TransactionId;
 use stun_types_write::attribute::{Attribute, AttributeWrite};
 use stun_types_write::writer::MessageWrite;
-
-/// The greatest length that a header tells, in sixteen bits.
-const MAX_DATA_LENGTH: usize = 65_535;
-
-/// The greatest size of a message, its header included.
-const MAX_MESSAGE_LENGTH: usize = 65_555;
-
-/// The three attributes that end a message, which are added by calls of their own.
-const MESSAGE_INTEGRITY: AttributeType = AttributeType(0x0008);
-
-const MESSAGE_INTEGRITY_SHA256: AttributeType = AttributeType(0x001C);
-
-const FINGERPRINT: AttributeType = AttributeType(0x8028);
 
 /// The header and the adds of a message that was begun. Every writer has them.
 pub trait MessageWriteExt: MessageWrite {
@@ -82,6 +78,47 @@ pub trait MessageWriteExt: MessageWrite {
         ensures unchanged { OnErr result ((Self.written self.new ≡ Self.written self.old) × (Self.kinds self.new ≡ Self.kinds self.old)) }
         ensures limit { Self.limit self.new ≡ Self.limit self.old }
         ensures begun { IsBegun (Self.written self.new) };
+
+    /// Adds the integrity attribute of an algorithm: the HMAC of all that is written under a key
+    /// (RFC 8489, sections 14.5 and 14.6). Refused, in this order: `FingerprintExists`;
+    /// `AttributeExists` where the message has that attribute; `MessageIntegrityExists` where it has
+    /// MESSAGE-INTEGRITY-SHA256 and `Sha1` is asked for; `IntegrityFailed` where the key was made for
+    /// another algorithm; `TooLarge` and `TooSmall` as for `add_attribute`; where memory is refused,
+    /// `NoMemory`. A refused add changes nothing.
+    fn add_message_integrity_with_key(
+        &mut self,
+        key: &IntegrityKey,
+        algorithm: IntegrityAlgorithm,
+    ) -> Result<(), StunWriteError>
+        requires begun { IsBegun (Self.written self.old) }
+        ensures ok { OnOk result (Self.written self.new ≡ after_add (Self.written self.old) (signature algorithm key.now.bytes (Self.written self.old))) }
+        ensures kinds { OnOk result (Self.kinds self.new ≡ Self.kinds self.old ++ attribute_kind algorithm ∷ []) }
+        // A message text becomes that text signed.
+        ensures text { OnOk result ((mtype number : ℕ) (adds : List Attr) → Self.written self.old ≡ message_text mtype number adds → Self.written self.new ≡ message_text mtype number (adds ++ signature algorithm key.now.bytes (message_text mtype number adds) ∷ [])) }
+        ensures accepted { OnOk result (signing_refusal (Self.kinds self.old) (Self.limit self.old) (length (Self.written self.old)) key.now.algorithm algorithm ≡ None) }
+        ensures refused { IfErr result (λ error. error ≢ StunWriteError.NoMemory → signing_refusal (Self.kinds self.old) (Self.limit self.old) (length (Self.written self.old)) key.now.algorithm algorithm ≡ Some error) }
+        ensures unchanged { OnErr result ((Self.written self.new ≡ Self.written self.old) × (Self.kinds self.new ≡ Self.kinds self.old)) }
+        ensures limit { Self.limit self.new ≡ Self.limit self.old }
+        ensures begun { IsBegun (Self.written self.new) };
+
+    /// The same, under the key that credentials make for the algorithm. It is never refused with
+    /// `IntegrityFailed`; `NoMemory`, where memory is refused for the key, may come before the other
+    /// refusals.
+    fn add_message_integrity(
+        &mut self,
+        alloc: Global,
+        credentials: &MessageIntegrityCredentials,
+        algorithm: IntegrityAlgorithm,
+    ) -> Result<(), StunWriteError>
+        requires begun { IsBegun (Self.written self.old) }
+        ensures ok { OnOk result (Self.written self.new ≡ after_add (Self.written self.old) (signature algorithm (key_of credentials.now algorithm).bytes (Self.written self.old))) }
+        ensures kinds { OnOk result (Self.kinds self.new ≡ Self.kinds self.old ++ attribute_kind algorithm ∷ []) }
+        ensures text { OnOk result ((mtype number : ℕ) (adds : List Attr) → Self.written self.old ≡ message_text mtype number adds → Self.written self.new ≡ message_text mtype number (adds ++ signature algorithm (key_of credentials.now algorithm).bytes (message_text mtype number adds) ∷ [])) }
+        ensures accepted { OnOk result (signing_refusal (Self.kinds self.old) (Self.limit self.old) (length (Self.written self.old)) algorithm algorithm ≡ None) }
+        ensures refused { IfErr result (λ error. error ≢ StunWriteError.NoMemory → signing_refusal (Self.kinds self.old) (Self.limit self.old) (length (Self.written self.old)) algorithm algorithm ≡ Some error) }
+        ensures unchanged { OnErr result ((Self.written self.new ≡ Self.written self.old) × (Self.kinds self.new ≡ Self.kinds self.old)) }
+        ensures limit { Self.limit self.new ≡ Self.limit self.old }
+        ensures begun { IsBegun (Self.written self.new) };
 }
 
 impl<W: MessageWrite> MessageWriteExt for W {
@@ -121,24 +158,29 @@ impl<W: MessageWrite> MessageWriteExt for W {
         if self.has_attribute(MESSAGE_INTEGRITY) || self.has_attribute(MESSAGE_INTEGRITY_SHA256) {
             return Err(StunWriteError::MessageIntegrityExists);
         }
-        let end = self.len() + attribute.padded_len();
-        if end > MAX_MESSAGE_LENGTH {
-            return Err(StunWriteError::TooLarge {
-                expected: MAX_DATA_LENGTH,
-                actual: end - MessageHeader::LENGTH,
-            });
-        }
-        if let Some(most) = self.max_size() {
-            if most < end {
-                return Err(StunWriteError::TooSmall {
-                    expected: end,
-                    actual: most,
-                });
-            }
-        }
+        let end = end_of_add(&*self, attribute.padded_len())?;
         self.push_attribute_unchecked(attribute)?;
         self.set_length((end - MessageHeader::LENGTH) as u16);
         Ok(())
+    }
+
+    fn add_message_integrity_with_key(
+        &mut self,
+        key: &IntegrityKey,
+        algorithm: IntegrityAlgorithm,
+    ) -> Result<(), StunWriteError> {
+        sign(self, key, algorithm)
+    }
+
+    #[tactic(auto, using(crate::proofs::Signs::key_for))]
+    fn add_message_integrity(
+        &mut self,
+        alloc: Global,
+        credentials: &MessageIntegrityCredentials,
+        algorithm: IntegrityAlgorithm,
+    ) -> Result<(), StunWriteError> {
+        let key = credentials.make_key(alloc, algorithm)?;
+        sign(self, &key, algorithm)
     }
 }
 
