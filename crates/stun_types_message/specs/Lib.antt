@@ -2,3 +2,4 @@ pub mod Parsed
 pub mod Stages
 pub mod Fronts
 pub mod Validation
+pub mod Reading

@@ -6,4 +6,5 @@ mod front;
 pub mod iter;
 pub mod message;
 mod stage;
+pub mod typed;
 pub mod validate;
