@@ -1,0 +1,3 @@
+pub mod Splits
+pub mod Covered
+pub mod Signed

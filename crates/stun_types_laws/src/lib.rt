@@ -1,0 +1,40 @@
+//! Laws of integrity: what a covered text fixes, and that what is signed validates. The functions
+//! do nothing; each contract is a law.
+#![tactic(auto)]
+
+ghost use Rattle.std.specs.Prelude.{◌≡◌, ◌<◌, ◌^◌, ◌++◌, ◌∷◌, [], List, ℕ, None, length};
+ghost use Rattle.std.specs.List.{AllByRecursion};
+ghost use Rattle.stun_types_wire.specs.declared.algorithm.IntegrityAlgorithm.{IntegrityAlgorithm as Algorithm};
+ghost use Rattle.stun_types_wire.specs.Attributes.{Attr};
+ghost use Rattle.stun_types_wire.specs.Shape.{IsShape, kinds_of};
+ghost use Rattle.stun_types_wire.specs.Grammar.{fingerprint_refusal};
+ghost use Rattle.stun_types_wire.specs.Text.{FitsAttribute, body_text, message_text};
+ghost use Rattle.stun_types_grammar.specs.Headers.{AreBytes};
+ghost use Rattle.stun_types_integrity.specs.Integrity.{Validates};
+ghost use Rattle.stun_types_integrity.specs.Signing.{signature, text_to_sign};
+ghost use Rattle.stun_types_laws.specs.Same.{ShowSame};
+
+/// Two messages that validate under one key, by one algorithm, over one covered text, have one type
+/// and one number and show the same, a FINGERPRINT aside (RFC 8489, sections 14.5 and 14.6).
+pub fn covered_text_fixes_message()
+    ensures { (first second key : List ℕ) (algorithm : Algorithm) (text : List ℕ)
+        → AreBytes first
+        → AreBytes second
+        → Validates first key algorithm text
+        → Validates second key algorithm text
+        → ShowSame first second }
+{}
+
+/// A message as a writer writes it, with the integrity attribute that signs it at its end, validates
+/// under the key by which it is signed (RFC 8489, sections 14.5 and 14.6).
+pub fn signed_validates()
+    ensures { (kind number : ℕ) (adds : List Attr) (key : List ℕ) (algorithm : Algorithm) (all : List Attr)
+        → all ≡ adds ++ signature algorithm key (message_text kind number adds) ∷ []
+        → kind < 2 ^ 14
+        → number < 2 ^ 96
+        → AllByRecursion FitsAttribute adds
+        → IsShape (kinds_of all)
+        → length (body_text all) < 2 ^ 16
+        → fingerprint_refusal all ≡ None
+        → Validates (message_text kind number all) key algorithm (text_to_sign algorithm (message_text kind number adds)) }
+{}
