@@ -19,6 +19,4 @@ pub mod replay;
 pub mod setup;
 pub mod status;
 pub mod stop;
-#[cfg(test)]
-mod tests;
 pub mod word;

@@ -1,18 +1,17 @@
 //! Tests that cross crates: worked messages, vectors of RFCs, and each refusal once. Expected bytes
-//! come from outside: from RFCs, from recorded messages, or worked by hand.
+//! come from outside: from RFCs, from recorded messages, or worked by hand. What reads attributes and
+//! validates messages is tested in `turn_tests_integrity`.
 #![tactic(auto)]
 
 #[cfg(test)]
 mod attributes;
 #[cfg(test)]
-mod parsing;
+mod errors;
 #[cfg(test)]
-mod reading;
+mod parsing;
 #[cfg(test)]
 mod tracing;
 #[cfg(test)]
 mod types;
-#[cfg(test)]
-mod validating;
 #[cfg(test)]
 mod writing;

@@ -10,7 +10,7 @@ use stun_types::attribute::{
     XorMappedAddress, XorSocketAddr,
 };
 use stun_types::laws::written_and_read;
-use stun_types::message::{StunParseError, TransactionId};
+use stun_types::message::{StunParseError, StunWriteError, TransactionId};
 use stun_types::prelude::{AttributeFromRaw, AttributeWrite};
 
 const USERNAME: AttributeType = AttributeType(0x0006);
@@ -25,6 +25,9 @@ const XOR_MAPPED_ADDRESS: AttributeType = AttributeType(0x0020);
 
 const NUMBER: u128 = 0xade0_b876_903d_f1a0_e56a_5d40;
 
+/// The number of the samples of RFC 5769, sections 2.1 to 2.3.
+const NUMBER_OF_SAMPLES: u128 = 0xb7e7_a701_bc34_d686_fa87_dfae;
+
 #[test]
 fn texts_are_read(rt: HostRuntime) -> Result<(), Fail> {
     let user = Username::from_raw(RawAttribute::new(USERNAME, b"user"), rt.alloc())?;
@@ -32,10 +35,46 @@ fn texts_are_read(rt: HostRuntime) -> Result<(), Fail> {
     assert_eq!(rt; user.to_raw(rt.alloc())?.value(), b"user".as_slice());
     let realm = Realm::from_raw(RawAttribute::new(REALM, b"realm"), rt.alloc())?;
     assert_eq!(rt; realm.realm(), "realm");
+    assert_eq!(rt; realm.to_raw(rt.alloc())?.value(), b"realm".as_slice());
     let nonce = Nonce::from_raw(RawAttribute::new(NONCE, b"nonce"), rt.alloc())?;
     assert_eq!(rt; nonce.nonce(), "nonce");
+    assert_eq!(rt; nonce.to_raw(rt.alloc())?.value(), b"nonce".as_slice());
     assert_eq!(rt; written_and_read(&nonce, rt.alloc())?.nonce(), "nonce");
     Ok(())
+}
+
+#[test]
+fn names_in_bytes(rt: HostRuntime) -> Result<(), Fail> {
+    let user = Username::new(rt.alloc(), "user")?;
+    let written = user.to_raw(rt.alloc())?.to_bytes(rt.alloc())?;
+    assert_eq!(rt; written.as_slice(), b"\x00\x06\x00\x04user".as_slice());
+    let mut text = String::new(rt.alloc());
+    for _ in 0..513 {
+        text.push('a')?;
+    }
+    assert!(rt; Username::new(rt.alloc(), text.as_str()).is_ok());
+    text.push('a')?;
+    let long = Username::new(rt.alloc(), text.as_str()).err();
+    let expected = StunWriteError::TooLarge {
+        expected: 513,
+        actual: 514,
+    };
+    assert_eq!(rt; long, Some(expected));
+    Ok(())
+}
+
+#[test]
+fn texts_of_other_types(rt: HostRuntime) {
+    let raw = RawAttribute::new(XOR_MAPPED_ADDRESS, b"\x00\x01\x04\x03name");
+    let wrong = Some(StunParseError::WrongAttributeImplementation);
+    assert_eq!(rt; Username::from_raw_ref(&raw, rt.alloc()).err(), wrong);
+    assert_eq!(rt; Nonce::from_raw_ref(&raw, rt.alloc()).err(), wrong);
+    assert_eq!(rt; ErrorCode::from_raw_ref(&raw, rt.alloc()).err(), wrong);
+    let invalid = Some(StunParseError::InvalidAttributeData);
+    let realm = RawAttribute::new(REALM, b"\xC3");
+    assert_eq!(rt; Realm::from_raw_ref(&realm, rt.alloc()).err(), invalid);
+    let nonce = RawAttribute::new(NONCE, b"\xC3");
+    assert_eq!(rt; Nonce::from_raw_ref(&nonce, rt.alloc()).err(), invalid);
 }
 
 #[test]
@@ -55,6 +94,8 @@ fn texts_that_are_none(rt: HostRuntime) -> Result<(), Fail> {
     assert!(rt; Realm::from_raw(RawAttribute::new(REALM, most), rt.alloc()).is_ok());
     assert!(rt; Nonce::from_raw(RawAttribute::new(NONCE, most), rt.alloc()).is_ok());
     let long = Nonce::from_raw(RawAttribute::new(NONCE, &bytes), rt.alloc()).err();
+    assert_eq!(rt; long, Some(too_large(763, 764)));
+    let long = Realm::from_raw(RawAttribute::new(REALM, &bytes), rt.alloc()).err();
     assert_eq!(rt; long, Some(too_large(763, 764)));
     Ok(())
 }
@@ -96,13 +137,26 @@ fn error_codes_that_are_none(rt: HostRuntime) -> Result<(), Fail> {
 
 #[test]
 fn xored_addresses_are_written_and_read(rt: HostRuntime) -> Result<(), Fail> {
-    let number = TransactionId::from(NUMBER);
+    // the addresses of port 32853 are those of RFC 5769, sections 2.2 and 2.3
     let samples = [
-        ("192.168.0.1:1000", "000122fae1baa443"),
-        ("203.0.113.5:50000", "0001e242ea12d547"),
-        ("[::1]:40000", "0002bd522112a442ade0b876903df1a0e56a5d41"),
+        (NUMBER, "192.168.0.1:1000", "000122fae1baa443"),
+        (NUMBER, "203.0.113.5:50000", "0001e242ea12d547"),
+        (0, "203.0.113.5:50000", "0001e242ea12d547"),
+        (u128::MAX, "203.0.113.5:50000", "0001e242ea12d547"),
+        (
+            NUMBER,
+            "[::1]:40000",
+            "0002bd522112a442ade0b876903df1a0e56a5d41",
+        ),
+        (NUMBER_OF_SAMPLES, "192.0.2.1:32853", "0001a147e112a643"),
+        (
+            NUMBER_OF_SAMPLES,
+            "[2001:db8:1234:5678:11:2233:4455:6677]:32853",
+            "0002a1470113a9faa5d3f179bc25f4b5bed2b9d9",
+        ),
     ];
-    for (text, expected) in samples {
+    for (number, text, expected) in samples {
+        let number = TransactionId::from(number);
         let addr = text.parse::<SocketAddr>()?;
         let mapped = XorMappedAddress::new(addr, number);
         let raw = mapped.to_raw(rt.alloc())?;

@@ -1,14 +1,14 @@
 //! Traces from outside, whole.
 
-use crate::answer::{Answer, reply_line};
-use crate::bytes::read_bytes;
-use crate::input::MAX_TRACE;
-use crate::refusal::LineError;
-use crate::replay::replay;
-use crate::status::Status;
 use std::io;
 use std::io::{Error, ErrorKind, Read, Write};
 use std::process::Abort;
+use turn_desk_replay::answer::{Answer, reply_line};
+use turn_desk_replay::bytes::read_bytes;
+use turn_desk_replay::input::MAX_TRACE;
+use turn_desk_replay::refusal::LineError;
+use turn_desk_replay::replay::replay;
+use turn_desk_replay::status::Status;
 
 fn replayed(rt: &(impl Abort + AllocGlobal), trace: &[u8]) -> (Status, String) {
     let mut input = trace;

@@ -1,0 +1,252 @@
+//! Messages that are signed, attributes that are asked for by their type, and success responses.
+
+ghost use Rattle.std.specs.Prelude.{◌≡◌, ◌+◌, ◌≤◌, [], length, IfOk, OnOk};
+ghost use Rattle.stun_types_wire.specs.Attributes.{attr_size};
+ghost use Rattle.stun_types_wire.specs.Text.{message_text};
+ghost use Rattle.stun_types_write.specs.Adding.{attr_of, IsBegun};
+
+use crate::samples::{SIGNED_BY_BOTH, SIGNED_BY_SHA1, SIGNED_BY_SHA256, credentials_of_user};
+use std::alloc::Global;
+use std::process::Abort;
+use std::test::Fail;
+use stun_types::attribute::{
+    AttributeType, ErrorCode, Nonce, RawAttribute, Realm, Username, XorMappedAddress,
+};
+use stun_types::message::{
+    BINDING, IntegrityAlgorithm, IntegrityKey, Message, MessageClass, MessageType, MessageWriteVec,
+    StunParseError, StunWriteError, TransactionId, ValidateError, add_as,
+};
+use stun_types::prelude::{Attribute, AttributeWrite, MessageWrite, MessageWriteExt};
+
+/// A BINDING request with a USERNAME of the one byte `ff`, REALM `realm` and `other`, NONCE `nonce`
+/// and one of the one byte `c3`, and an ERROR-CODE of three bytes.
+const REPEATED: &str =
+    "0001003c2112a44200000000000000000000739200060001ff000000001400057265616c6d000000001400056f74686572000000001500056e6f6e636500000000150001c30000000009000300000400";
+
+/// A BINDING request that is begun, of the number of the signed samples.
+fn begun(rt: &HostRuntime) -> Result<MessageWriteVec, StunWriteError>
+    ensures text { IfOk result (λ writer. writer.bytes ≡ message_text 1 0x7392 []) }
+    ensures kinds { IfOk result (λ writer. writer.kinds ≡ []) }
+    ensures begun { IfOk result (λ writer. IsBegun writer.bytes) }
+    ensures short { IfOk result (λ writer. length writer.bytes ≡ 20) }
+{
+    let mtype = MessageType::from_class_method(MessageClass::Request, BINDING);
+    let number = TransactionId::from(0x7392u128);
+    let writer = Message::builder(mtype, number, MessageWriteVec::new(rt.alloc()))?;
+    Ok(writer)
+}
+
+/// The request of the signed samples, before it is signed.
+fn unsigned(rt: &HostRuntime) -> Result<MessageWriteVec, StunWriteError>
+    ensures { IfOk result (λ writer. IsBegun writer.bytes) }
+{
+    let mut writer = begun(rt)?;
+    let username = Username::new(rt.alloc(), "user")?;
+    let realm = Realm::new(rt.alloc(), "realm")?;
+    writer.add_attribute(&username)?;
+    writer.add_attribute(&realm)?;
+    Ok(writer)
+}
+
+#[test]
+fn signed_messages_are_validated(rt: HostRuntime) -> Result<(), Fail> {
+    let right = credentials_of_user(rt.alloc(), "pass")?;
+    let wrong = credentials_of_user(rt.alloc(), "past")?;
+    for (algorithm, text) in [
+        (IntegrityAlgorithm::Sha1, SIGNED_BY_SHA1),
+        (IntegrityAlgorithm::Sha256, SIGNED_BY_SHA256),
+    ] {
+        let expected = hex::decode(rt.alloc(), text)?;
+        let mut by_key = unsigned(&rt)?;
+        let key = right.make_key(rt.alloc(), algorithm)?;
+        by_key.add_message_integrity_with_key(&key, algorithm)?;
+        assert_eq!(rt; by_key.as_slice(), expected.as_slice());
+        let mut writer = unsigned(&rt)?;
+        writer.add_message_integrity(rt.alloc(), &right, algorithm)?;
+        let written = writer.finish();
+        assert_eq!(rt; written.as_slice(), expected.as_slice());
+        let message = Message::from_bytes(written.as_slice())?;
+        let answer = message.validate_integrity(rt.alloc(), &right);
+        assert_eq!(rt; answer, Ok(algorithm));
+        let answer = message.validate_integrity(rt.alloc(), &wrong);
+        assert_eq!(rt; answer, Err(ValidateError::IntegrityFailed));
+    }
+    Ok(())
+}
+
+#[test]
+fn sha256_is_added_after_sha1(rt: HostRuntime) -> Result<(), Fail> {
+    let credentials = credentials_of_user(rt.alloc(), "pass")?;
+    let mut writer = unsigned(&rt)?;
+    writer.add_message_integrity(rt.alloc(), &credentials, IntegrityAlgorithm::Sha1)?;
+    writer.add_message_integrity(rt.alloc(), &credentials, IntegrityAlgorithm::Sha256)?;
+    let expected = hex::decode(rt.alloc(), SIGNED_BY_BOTH)?;
+    assert_eq!(rt; writer.as_slice(), expected.as_slice());
+    Ok(())
+}
+
+/// Why an integrity attribute is not added. What is written stays as it is.
+fn refusal(
+    rt: &impl Abort,
+    alloc: Global,
+    writer: &mut MessageWriteVec,
+    key: &IntegrityKey,
+    algorithm: IntegrityAlgorithm,
+) -> Result<Option<StunWriteError>, Fail>
+    requires { IsBegun writer.old.bytes }
+    ensures { OnOk result (IsBegun writer.new.bytes) }
+{
+    let before = writer.as_slice().to_vec(alloc)?;
+    let answer = writer.add_message_integrity_with_key(key, algorithm);
+    assert_eq!(rt; writer.as_slice(), before.as_slice());
+    Ok(answer.err())
+}
+
+#[test]
+fn second_integrity_attributes_are_refused(rt: HostRuntime) -> Result<(), Fail> {
+    let (sha1, sha256) = (IntegrityAlgorithm::Sha1, IntegrityAlgorithm::Sha256);
+    let credentials = credentials_of_user(rt.alloc(), "pass")?;
+    let short_key = credentials.make_key(rt.alloc(), sha1)?;
+    let long_key = credentials.make_key(rt.alloc(), sha256)?;
+    let exists = |atype: u16| Some(StunWriteError::AttributeExists(AttributeType(atype)));
+    let mut writer = unsigned(&rt)?;
+    writer.add_message_integrity_with_key(&short_key, sha1)?;
+    let again = refusal(&rt, rt.alloc(), &mut writer, &short_key, sha1)?;
+    assert_eq!(rt; again, exists(0x0008));
+    writer.add_message_integrity_with_key(&long_key, sha256)?;
+    // each is there, which is told before the order and before the key
+    let again = refusal(&rt, rt.alloc(), &mut writer, &long_key, sha1)?;
+    assert_eq!(rt; again, exists(0x0008));
+    let again = refusal(&rt, rt.alloc(), &mut writer, &short_key, sha256)?;
+    assert_eq!(rt; again, exists(0x001C));
+    let mut reversed = unsigned(&rt)?;
+    reversed.add_message_integrity_with_key(&long_key, sha256)?;
+    let behind = refusal(&rt, rt.alloc(), &mut reversed, &short_key, sha1)?;
+    assert_eq!(rt; behind, Some(StunWriteError::MessageIntegrityExists));
+    Ok(())
+}
+
+#[test]
+fn keys_of_the_other_algorithm_are_refused(rt: HostRuntime) -> Result<(), Fail> {
+    let (sha1, sha256) = (IntegrityAlgorithm::Sha1, IntegrityAlgorithm::Sha256);
+    let credentials = credentials_of_user(rt.alloc(), "pass")?;
+    for (made_for, asked) in [(sha1, sha256), (sha256, sha1)] {
+        let key = credentials.make_key(rt.alloc(), made_for)?;
+        let mut writer = unsigned(&rt)?;
+        let refused = refusal(&rt, rt.alloc(), &mut writer, &key, asked)?;
+        assert_eq!(rt; refused, Some(StunWriteError::IntegrityFailed));
+    }
+    Ok(())
+}
+
+#[test]
+fn integrity_past_the_length_field_is_refused(rt: HostRuntime) -> Result<(), Fail> {
+    let (sha1, sha256) = (IntegrityAlgorithm::Sha1, IntegrityAlgorithm::Sha256);
+    let credentials = credentials_of_user(rt.alloc(), "pass")?;
+    let short_key = credentials.make_key(rt.alloc(), sha1)?;
+    let long_key = credentials.make_key(rt.alloc(), sha256)?;
+    let most = [0; 65_504];
+    let large = RawAttribute::new(AttributeType(0x0022), &most);
+    let mut writer = begun(&rt)?;
+    add_as(&mut writer, &large, &large)?;
+    // 65,508 bytes behind the header, and 36 more
+    let refused = refusal(&rt, rt.alloc(), &mut writer, &long_key, sha256)?;
+    let too_large = StunWriteError::TooLarge {
+        expected: 65_535,
+        actual: 65_544,
+    };
+    assert_eq!(rt; refused, Some(too_large));
+    writer.add_message_integrity_with_key(&short_key, sha1)?;
+    assert_eq!(rt; writer.len(), 20 + 65_532);
+    Ok(())
+}
+
+/// Pushes an attribute, which may be one that ends a message, to a message that is short.
+fn push_as<A: AttributeWrite>(
+    writer: &mut MessageWriteVec,
+    attribute: &dyn AttributeWrite,
+    same: &A,
+) -> Result<(), StunWriteError>
+    requires begun { IsBegun writer.old.bytes }
+    requires short { length writer.old.bytes + attr_size (attr_of (A.kind same.now) (A.value same.now)) ≤ 65_555 }
+    requires kind { (⟦<dyn AttributeWrite as Attribute>⟧ attribute.now.0).kind attribute.now.1 ≡ A.kind same.now }
+    requires value { (⟦<dyn AttributeWrite as Attribute>⟧ attribute.now.0).value attribute.now.1 ≡ A.value same.now }
+    ensures { OnOk result (IsBegun writer.new.bytes) }
+{
+    writer.push_attribute_unchecked(attribute)?;
+    Ok(())
+}
+
+#[test]
+fn integrity_after_a_fingerprint_is_refused(rt: HostRuntime) -> Result<(), Fail> {
+    let credentials = credentials_of_user(rt.alloc(), "pass")?;
+    let algorithm = IntegrityAlgorithm::Sha1;
+    let key = credentials.make_key(rt.alloc(), algorithm)?;
+    let mut writer = begun(&rt)?;
+    let fingerprint = RawAttribute::new(AttributeType(0x8028), &[0; 4]);
+    push_as(&mut writer, &fingerprint, &fingerprint)?;
+    let refused = refusal(&rt, rt.alloc(), &mut writer, &key, algorithm)?;
+    assert_eq!(rt; refused, Some(StunWriteError::FingerprintExists));
+    let before = writer.as_slice().to_vec(rt.alloc())?;
+    let answer = writer.add_message_integrity(rt.alloc(), &credentials, algorithm);
+    assert_eq!(rt; answer.err(), Some(StunWriteError::FingerprintExists));
+    assert_eq!(rt; writer.as_slice(), before.as_slice());
+    Ok(())
+}
+
+#[test]
+fn attributes_are_found_by_their_type(rt: HostRuntime) -> Result<(), Fail> {
+    let bytes = hex::decode(rt.alloc(), REPEATED)?;
+    let message = Message::from_bytes(bytes.as_slice())?;
+    let first = message.attribute::<Realm>(rt.alloc())?;
+    assert_eq!(rt; first.realm(), "realm");
+    for (n, text) in [(0, "realm"), (1, "other")] {
+        let realm = message.nth_attribute::<Realm>(rt.alloc(), n)?;
+        assert_eq!(rt; realm.realm(), text);
+    }
+    let missing = |atype: u16| Some(StunParseError::MissingAttribute(AttributeType(atype)));
+    let third = message.nth_attribute::<Realm>(rt.alloc(), 2).err();
+    assert_eq!(rt; third, missing(0x0014));
+    let address = message.attribute::<XorMappedAddress>(rt.alloc()).err();
+    assert_eq!(rt; address, missing(0x0020));
+    let nonce = message.attribute::<Nonce>(rt.alloc())?;
+    assert_eq!(rt; nonce.nonce(), "nonce");
+    let invalid = Some(StunParseError::InvalidAttributeData);
+    let second = message.nth_attribute::<Nonce>(rt.alloc(), 1).err();
+    assert_eq!(rt; second, invalid);
+    let name = message.attribute::<Username>(rt.alloc()).err();
+    assert_eq!(rt; name, invalid);
+    let error = message.attribute::<ErrorCode>(rt.alloc()).err();
+    let truncated = StunParseError::Truncated {
+        expected: 4,
+        actual: 3,
+    };
+    assert_eq!(rt; error, Some(truncated));
+    Ok(())
+}
+
+#[test]
+fn successes_have_number_and_method_of_their_request(rt: HostRuntime) -> Result<(), Fail> {
+    for (request, header) in [
+        (
+            "000100002112a442000000000000000000007392",
+            "010100002112a442000000000000000000007392",
+        ),
+        (
+            "000300002112a442ade0b876903df1a0e56a5d40",
+            "010300002112a442ade0b876903df1a0e56a5d40",
+        ),
+        (
+            "000900002112a442c800004b2ddc8654d8959222",
+            "010900002112a442c800004b2ddc8654d8959222",
+        ),
+    ] {
+        let bytes = hex::decode(rt.alloc(), request)?;
+        let message = Message::from_bytes(bytes.as_slice())?;
+        assert!(rt; message.class() == MessageClass::Request);
+        let writer = Message::builder_success(&message, MessageWriteVec::new(rt.alloc()))?;
+        let expected = hex::decode(rt.alloc(), header)?;
+        assert_eq!(rt; writer.finish().as_slice(), expected.as_slice());
+    }
+    Ok(())
+}

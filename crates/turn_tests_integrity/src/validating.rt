@@ -1,0 +1,174 @@
+//! Messages validated under credentials.
+
+use crate::samples::{
+    SIGNED_BY_BOTH, SIGNED_BY_SHA1, SIGNED_BY_SHA256, credentials_of_user, long_term, short_term,
+};
+use std::alloc::Global;
+use std::test::Fail;
+use stun_types::attribute::AttributeType;
+use stun_types::message::{
+    IntegrityAlgorithm, Message, MessageIntegrityCredentials, StunParseError, ValidateError,
+};
+
+/// The sample request with long-term authentication of RFC 5769, section 2.4.
+const LONG_TERM_REQUEST: &str =
+    "000100602112a44278ad3433c6ad72c029da412e00060012e3839ee38388e383aae38383e382afe382b900000015001c662f2f3439396b39353464364f4c33346f4c394653547679363473410014000b6578616d706c652e6f72670000080014f67024656dd64a3e02b8e0712e85c9a28ca89666";
+
+/// The sample request and responses with short-term authentication of RFC 5769, sections 2.1 to 2.3,
+/// padded with spaces. Their FINGERPRINT is cut off, and the length in the header doesn't count it.
+const SHORT_TERM_SAMPLES: [&str; 3] = [
+    "000100502112a442b7e7a701bc34d686fa87dfae802200105354554e207465737420636c69656e74002400046e0001ff80290008932ff9b151263b36000600096576746a3a68367659202020000800149aeaa70cbfd8cb56781ef2b5b2d3f249c1b571a2",
+    "010100342112a442b7e7a701bc34d686fa87dfae8022000b7465737420766563746f7220002000080001a147e112a643000800142b91f599fd9e90c38c7489f92af9ba53f06be7d7",
+    "010100402112a442b7e7a701bc34d686fa87dfae8022000b7465737420766563746f7220002000140002a1470113a9faa5d3f179bc25f4b5bed2b9d900080014a382954e4be67bf11784c97c8292c275bfe3ed41",
+];
+
+#[test]
+fn messages_are_validated(rt: HostRuntime) -> Result<(), Fail> {
+    let none_shown = "000100082112a442000000000000000000007392001d000400020000";
+    let four_bytes = "000100082112a44200000000000000000000739200080004f6702465";
+    let missing = StunParseError::MissingAttribute(AttributeType(0x0008));
+    let invalid = StunParseError::InvalidAttributeData;
+    let right = "TheMatrIX";
+    for (text, password, expected) in [
+        (LONG_TERM_REQUEST, right, Ok(IntegrityAlgorithm::Sha1)),
+        (
+            LONG_TERM_REQUEST,
+            "TheMatrix",
+            Err(ValidateError::IntegrityFailed),
+        ),
+        (none_shown, right, Err(ValidateError::Parse(missing))),
+        (four_bytes, right, Err(ValidateError::Parse(invalid))),
+    ] {
+        let bytes = hex::decode(rt.alloc(), text)?;
+        let message = Message::from_bytes(bytes.as_slice())?;
+        let credentials = long_term(rt.alloc(), "マトリックス", "example.org", password)?;
+        assert_eq!(rt;
+            message.validate_integrity(rt.alloc(), &credentials),
+            expected,
+            "{text}"
+        );
+        let key = credentials.make_key(rt.alloc(), IntegrityAlgorithm::Sha1)?;
+        assert_eq!(rt;
+            message.validate_integrity_with_key(&key),
+            expected,
+            "{text}"
+        );
+    }
+    Ok(())
+}
+
+#[test]
+fn messages_padded_with_spaces_are_validated(rt: HostRuntime) -> Result<(), Fail> {
+    let right = short_term(rt.alloc(), "VOkJxbRl1RmTxUk/WvJxBt")?;
+    let wrong = short_term(rt.alloc(), "VOkJxbRl1RmTxUk/WvJxBT")?;
+    for text in SHORT_TERM_SAMPLES {
+        let bytes = hex::decode(rt.alloc(), text)?;
+        let message = Message::from_bytes(bytes.as_slice())?;
+        assert_eq!(rt;
+            message.validate_integrity(rt.alloc(), &right),
+            Ok(IntegrityAlgorithm::Sha1),
+            "{text}"
+        );
+        assert_eq!(rt;
+            message.validate_integrity(rt.alloc(), &wrong),
+            Err(ValidateError::IntegrityFailed),
+            "{text}"
+        );
+    }
+    Ok(())
+}
+
+#[test]
+fn keys_name_the_attribute_and_credentials_the_last_one(rt: HostRuntime) -> Result<(), Fail> {
+    let credentials = credentials_of_user(rt.alloc(), "pass")?;
+    let (sha1, sha256) = (IntegrityAlgorithm::Sha1, IntegrityAlgorithm::Sha256);
+    let short_key = credentials.make_key(rt.alloc(), sha1)?;
+    let long_key = credentials.make_key(rt.alloc(), sha256)?;
+    for (text, last, by_short_key, by_long_key) in [
+        (SIGNED_BY_SHA1, sha1, Ok(sha1), Err(missing(0x001C))),
+        (SIGNED_BY_SHA256, sha256, Err(missing(0x0008)), Ok(sha256)),
+        (SIGNED_BY_BOTH, sha256, Ok(sha1), Ok(sha256)),
+    ] {
+        let bytes = hex::decode(rt.alloc(), text)?;
+        let message = Message::from_bytes(bytes.as_slice())?;
+        let answer = message.validate_integrity(rt.alloc(), &credentials);
+        assert_eq!(rt; answer, Ok(last), "{text}");
+        let answer = message.validate_integrity_with_key(&short_key);
+        assert_eq!(rt; answer, by_short_key, "{text}");
+        let answer = message.validate_integrity_with_key(&long_key);
+        assert_eq!(rt; answer, by_long_key, "{text}");
+    }
+    Ok(())
+}
+
+/// Why a message is not validated that shows no attribute of a type.
+fn missing(atype: u16) -> ValidateError {
+    ValidateError::Parse(StunParseError::MissingAttribute(AttributeType(atype)))
+}
+
+/// BINDING requests, each with a front of its HMAC-SHA256 and nothing else: of 16, 20, 24, 28 and 32
+/// bytes.
+const LAWFUL_FRONTS: [&str; 5] = [
+    "000100142112a442000000000000000000007392001c001065ea125ede020626a3f6b0d02160927d",
+    "000100182112a442000000000000000000007392001c00146113a9a6f86cce049adb11d647064e7f987e8e2c",
+    "0001001c2112a442000000000000000000007392001c0018b58f1b66d1aa0a48ae603a02f909df7d4e83cb3114ade4ab",
+    "000100202112a442000000000000000000007392001c001c0a176a49a78d661ed132f671701bc5a1c154228c02a010ab16015ce3",
+    "000100242112a442000000000000000000007392001c0020cf3a512b5dda29aeb13a7dcf3e4d2017a79e437b1d430f554b2a2c923fd9a733",
+];
+
+/// The same, of 12 and 18 bytes, and of the whole HMAC with four zeros behind it.
+const UNLAWFUL_FRONTS: [&str; 3] = [
+    "000100102112a442000000000000000000007392001c000c9dc990f777ec57644a84de3c",
+    "000100182112a442000000000000000000007392001c00126113a9a6f86cce049adb11d647064e7f987e0000",
+    "000100282112a442000000000000000000007392001c0024d23c6a344d8be65728d73d893f27798ad6d841d8fc690cf6524f32185c5549fd00000000",
+];
+
+#[test]
+fn fronts_of_an_hmac_sha256(rt: HostRuntime) -> Result<(), Fail> {
+    let credentials = credentials_of_user(rt.alloc(), "pass")?;
+    for text in LAWFUL_FRONTS {
+        let bytes = hex::decode(rt.alloc(), text)?;
+        let message = Message::from_bytes(bytes.as_slice())?;
+        let answer = message.validate_integrity(rt.alloc(), &credentials);
+        assert_eq!(rt; answer, Ok(IntegrityAlgorithm::Sha256), "{text}");
+    }
+    let invalid = ValidateError::Parse(StunParseError::InvalidAttributeData);
+    for text in UNLAWFUL_FRONTS {
+        let bytes = hex::decode(rt.alloc(), text)?;
+        let message = Message::from_bytes(bytes.as_slice())?;
+        let answer = message.validate_integrity(rt.alloc(), &credentials);
+        assert_eq!(rt; answer, Err(invalid), "{text}");
+    }
+    Ok(())
+}
+
+#[test]
+fn no_changed_byte_is_accepted(rt: HostRuntime) -> Result<(), Fail> {
+    let credentials = credentials_of_user(rt.alloc(), "pass")?;
+    for text in [SIGNED_BY_SHA1, SIGNED_BY_SHA256] {
+        let bytes = hex::decode(rt.alloc(), text)?;
+        assert!(rt;
+            is_accepted(rt.alloc(), bytes.as_slice(), &credentials),
+            "{text}"
+        );
+        for i in 0..bytes.len() {
+            let mut changed = bytes.as_slice().to_vec(rt.alloc())?;
+            if let Some(byte) = changed.get_mut(i) {
+                *byte ^= 1;
+            }
+            assert!(rt;
+                !is_accepted(rt.alloc(), changed.as_slice(), &credentials),
+                "at {i}"
+            );
+        }
+    }
+    Ok(())
+}
+
+/// Whether some bytes are a message that validates under credentials.
+fn is_accepted(alloc: Global, bytes: &[u8], credentials: &MessageIntegrityCredentials) -> bool {
+    match Message::from_bytes(bytes) {
+        Err(_) => false,
+        Ok(message) => message.validate_integrity(alloc, credentials).is_ok(),
+    }
+}
