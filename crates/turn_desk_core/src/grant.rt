@@ -14,7 +14,7 @@ pub struct Grant {
     pub number: TransactionId,
     /// The address that the request came from.
     pub from: SocketAddr,
-    /// The transport that was asked for (RFC 8656, section 18.7).
+    /// The transport that was asked for (RFC 8656, section 18.8).
     pub transport: Option<TransportType>,
     /// The relayed transport addresses that were given.
     pub relayed: ListOf<SocketAddr>,

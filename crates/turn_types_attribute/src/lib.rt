@@ -1,0 +1,8 @@
+//! The attributes of TURN that ALLOCATE needs, each with a type of its own (RFC 8656, section 18).
+#![tactic(auto)]
+
+pub mod lifetime;
+pub mod requested_transport;
+#[cfg(test)]
+mod tests;
+pub mod xor_relayed_address;

@@ -1,0 +1,140 @@
+//! LIFETIME (RFC 8656, section 18.2).
+
+ghost use Rattle.std.specs.Prelude.{◌≡◌, None, Some, length, MatchResult};
+ghost use Rattle.byteorder.specs.Endian.{big_bytes, big_number};
+ghost use Rattle.stun_types_write.specs.Reading.{value_refusal};
+
+use byteorder::{BigEndian, ByteOrder};
+use std::alloc::Global;
+use std::convert::TryFrom;
+use std::marker::Model;
+use stun_types_base::memory::NoMemory;
+use stun_types_wire::attribute::{AttributeType, RawAttribute};
+use stun_types_wire::error::StunParseError;
+use stun_types_write::attribute::{
+    Attribute, AttributeFromRaw, AttributeStaticType, AttributeWrite,
+};
+use stun_types_write::reading::value_of;
+use stun_types_write::text::write_attribute;
+
+/// For how many seconds an allocation stands without a refresh (RFC 8656, section 18.2). Any number
+/// of 32 bits is lawful. Contracts see the number.
+#[derive(Debug, Drop)]
+pub struct Lifetime {
+    seconds: u32,
+}
+
+impl Model for Lifetime {
+    ghost use Rattle.std.specs.Prelude.{ℕ};
+
+    ghost Value = { ℕ };
+
+    ghost view = { λ a. a.seconds };
+}
+
+impl Lifetime {
+    /// The LIFETIME of so many seconds.
+    pub fn new(seconds: u32) -> Lifetime
+        ensures { result ≡ seconds }
+    {
+        Lifetime { seconds }
+    }
+
+    /// How many seconds.
+    pub fn seconds(&self) -> u32
+        ensures { result ≡ self.now }
+    {
+        self.seconds
+    }
+}
+
+impl AttributeStaticType for Lifetime {
+    ghost TYPE = { record { 0 = 0x000D } };
+
+    const TYPE: AttributeType = AttributeType(0x000D);
+}
+
+impl Attribute for Lifetime {
+    ghost use Rattle.byteorder.specs.Endian.{big_bytes};
+
+    ghost kind = { λ _. 0x000D };
+
+    ghost value = { big_bytes 4 };
+
+    fn get_type(&self) -> AttributeType {
+        Lifetime::TYPE
+    }
+
+    fn length(&self) -> u16 {
+        4
+    }
+}
+
+impl AttributeWrite for Lifetime {
+    fn write_into_unchecked(&self, dest: &mut [u8]) {
+        write_attribute(Lifetime::TYPE, &self.seconds().to_be_bytes(), dest);
+    }
+
+    fn to_raw(&self, alloc: Global) -> Result<RawAttribute<'_>, NoMemory> {
+        let value = Vec::from_slice(alloc, &self.seconds().to_be_bytes())?;
+        Ok(RawAttribute::new_owned(Lifetime::TYPE, value.into_boxed_slice()))
+    }
+}
+
+/// The number in four bytes, the highest first. Refused, in this order: `WrongAttributeImplementation`
+/// where it is another type, `Truncated` where the value is shorter, `TooLarge` where it is longer.
+impl<'a, 'raw> TryFrom<&'raw RawAttribute<'a>> for Lifetime {
+    ghost use Rattle.std.specs.Prelude.{◌≡◌, MatchResult, Some, None};
+    ghost use Rattle.byteorder.specs.Endian.{big_number};
+    ghost use Rattle.stun_types_write.specs.Reading.{value_refusal};
+
+    type Error = StunParseError;
+
+    ghost try_from_gives = { λ raw result. MatchResult result (λ read. (value_refusal 0x000D 4 4 raw.now ≡ None) × (read ≡ big_number 4 raw.now.value)) (λ error. value_refusal 0x000D 4 4 raw.now ≡ Some error) };
+
+    fn try_from(raw: &'raw RawAttribute<'a>) -> Result<Lifetime, StunParseError> {
+        let seconds = seconds_of(raw)?;
+        Ok(Lifetime { seconds })
+    }
+}
+
+/// Refused as `try_from` is; no memory is taken.
+impl<'a> AttributeFromRaw<'a> for Lifetime {
+    ghost use Rattle.stun_types_write.specs.Reading.{value_refusal};
+
+    ghost read_refusal = { value_refusal 0x000D 4 4 };
+
+    ghost read_value = { λ value. value };
+
+    fn from_raw_ref(raw: &RawAttribute<'_>, _alloc: Global) -> Result<Lifetime, StunParseError> {
+        let seconds = seconds_of(raw)?;
+        Ok(Lifetime { seconds })
+    }
+
+    fn from_raw(raw: RawAttribute<'a>, alloc: Global) -> Result<Lifetime, StunParseError> {
+        Lifetime::from_raw_ref(&raw, alloc)
+    }
+
+    #[tactic(auto, using(crate::proofs::Numbers::number_is_accepted, crate::proofs::Numbers::same_number))]
+    fn is_read_back(&self, read: &Lifetime) {
+        let _ = (self.seconds(), read.seconds());
+    }
+}
+
+/// The number in the value of a LIFETIME. Refused as `try_from` is.
+fn seconds_of(raw: &RawAttribute<'_>) -> Result<u32, StunParseError>
+    ensures { MatchResult result (λ seconds. (value_refusal 0x000D 4 4 raw.now ≡ None) × (raw.now.kind ≡ 0x000D) × (seconds ≡ big_number 4 raw.now.value) × (big_bytes 4 seconds ≡ raw.now.value)) (λ error. value_refusal 0x000D 4 4 raw.now ≡ Some error) }
+{
+    let value = value_of(raw, Lifetime::TYPE, 4, 4)?;
+    Ok(number_of(value))
+}
+
+/// The number in four bytes, the highest first.
+#[tactic(auto, using(crate::proofs::Numbers::bytes_again))]
+fn number_of(value: &[u8]) -> u32
+    requires { length value.now ≡ 4 }
+    ensures told { result ≡ big_number 4 value.now }
+    ensures again { big_bytes 4 result ≡ value.now }
+{
+    BigEndian::read_u32(value)
+}
