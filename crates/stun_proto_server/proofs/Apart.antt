@@ -1,12 +1,13 @@
 -- A change for one address is not seen by another.
-use Rattle.std.proofs.Common.{◌≡◌, ◌≢◌, ℕ, true, false, Some, None, refl, ap, ◌∙◌, cond}
+use Rattle.std.proofs.Common.{◌≡◌, ◌≢◌, ℕ, true, false, Option, Some, None, refl, ap, ◌∙◌, cond}
 use Rattle.std.specs.FinMap as map
 use Rattle.std.specs.Ordering.{is_eq, eq_by_cmp}
 use Rattle.std.specs.declared.cmp.Ordering.{Ordering}
 use Rattle.std.specs.declared.cmp.Ordering.TheVariants.{Less, Equal, Greater}
 use Rattle.std.specs.declared.net.socket_addr.SocketAddr.{SocketAddr}
 use Rattle.rand_core.specs.Stream.{Stream}
-use Rattle.stun_proto_server.specs.Server.{Client, Server, with_new_nonce, SameFor}
+use Rattle.stun_proto_judge.specs.Judgement.{Outcome}
+use Rattle.stun_proto_server.specs.Server.{Client, Server, set_outcome, with_new_nonce, with_outcome, SameFor}
 use Rattle.stun_types_base.specs.SocketAddrs.{socket_addr_cmp, socket_addr_cmp_total, socket_addr_cmp-IsAntisymmetric}
 
 -- a comparison that ties answers equal
@@ -77,4 +78,31 @@ drawn_others old new from other now stream is different = same_for-is other old 
   algorithms = refl;
   anonymous_username = refl;
   kept = get-insert-other old.clients from other _ different;
+})
+
+-- an address that can't tell one server from the next, and that from another, can't tell the first from the last
+pub same_for-then : (client : SocketAddr) (old middle new : Server) → SameFor client old middle → SameFor client middle new → SameFor client old new
+same_for-then client old middle new first second = record {
+  realm = second.realm ∙ first.realm;
+  users = second.users ∙ first.users;
+  nonce_expiry = second.nonce_expiry ∙ first.nonce_expiry;
+  algorithms = second.algorithms ∙ first.algorithms;
+  anonymous_username = second.anonymous_username ∙ first.anonymous_username;
+  kept = second.kept ∙ first.kept;
+}
+
+-- what is kept for another address stays where this one gets an outcome
+get-outcome-other : (m : map.FinMap socket_addr_cmp Client) (client other : SocketAddr) (outcome : Option Outcome) (found : Option Client) → other ≢ client → map.get (set_outcome m client outcome found) other ≡ map.get m other
+get-outcome-other m client other outcome None different = refl
+get-outcome-other m client other outcome (Some kept) different = get-insert-other m client other _ different
+
+-- other addresses don't see the outcome of one
+pub outcome_others : (old new : Server) (from other : SocketAddr) (outcome : Option Outcome) → new ≡ with_outcome old from outcome → other ≢ from → SameFor other old new
+outcome_others old new from other outcome is different = same_for-is other old (with_outcome old from outcome) new is (record {
+  realm = refl;
+  users = refl;
+  nonce_expiry = refl;
+  algorithms = refl;
+  anonymous_username = refl;
+  kept = get-outcome-other old.clients from other outcome (map.get old.clients from) different;
 })

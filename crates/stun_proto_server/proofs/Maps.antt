@@ -1,5 +1,6 @@
 -- The maps of a server, as its fields keep them and as contracts see them.
 use Rattle.std.proofs.Common.{◌≡◌, ℕ, List, Option, Some, None, refl, sym, ap, ◌∙◌, cond, nat_lt, ◌==◌, true, false}
+use Rattle.std.specs.Prelude as list
 use Rattle.std.specs.BTreeMap as tree
 use Rattle.std.specs.Cmp.Lexicographic.{slice_cmp, nat_list_cmp_total}
 use Rattle.std.specs.FinMap as map
@@ -12,7 +13,8 @@ use Rattle.std.specs.declared.cmp.Ordering.TheVariants.{Less, Equal, Greater}
 use Rattle.std.specs.declared.net.socket_addr.SocketAddr.{SocketAddr}
 use Rattle.std.specs.declared.string.String.{String}
 use Rattle.std.proofs.lemmas.Map.Text.{btree_map_updates_text, is_eq-slice_cmp}
-use Rattle.stun_proto_server.specs.Server.{Client, Server}
+use Rattle.stun_proto_judge.specs.Judgement.{Outcome}
+use Rattle.stun_proto_server.specs.Server.{Client, Server, set_outcome, with_outcome}
 use Rattle.stun_proto_server.specs.View.{client_of, server_of}
 use Rattle.stun_proto_server.specs.declared.long_term.ClientRecord.{ClientRecord}
 use Rattle.stun_proto_server.specs.declared.long_term.LongTermServerAuth.TheInside.{Inside}
@@ -45,9 +47,33 @@ remove-clients s new server client view_is updates =
     (remove-finite_map (λ key. key) socket_addr_cmp_total client_of socket_addr_cmp-IsAntisymmetric s.clients new client updates.0)
     ∙ ap {A = Server} {B = Server} (λ v. record v { clients = map.remove v.clients client }) view_is
 
+-- the same entries are the same server
+pub same-clients : (s : Inside) (new : tree.BTreeMap SocketAddr ClientRecord) (server : Server) → server_of s ≡ server → tree.IsUnchanged s.clients new → server_of (record s { clients = new }) ≡ server
+same-clients s new server view_is same =
+    ap {B = Server} (λ es. record (server_of s) { clients = map.from_entries (list.map (λ e. (e.0, client_of e.1)) es) }) same ∙ view_is
+
+-- an address for which something is kept gets another outcome
+pub set-outcome : (s : Inside) (new : tree.BTreeMap SocketAddr ClientRecord) (server : Server) (client : SocketAddr) (kept : ClientRecord) (outcome : Option Outcome)
+    → server_of s ≡ server → Some kept ≡ tree.get socket_addr_cmp s.clients client → tree.Updates socket_addr_cmp s.clients new client (Some (record kept { outcome = outcome }))
+    → server_of (record s { clients = new }) ≡ with_outcome server client outcome
+set-outcome s new server client kept outcome view_is found updates =
+    insert-clients s new server client (record kept { outcome = outcome }) view_is updates
+    ∙ ap {A = Option Client} {B = Server} (λ r. record server { clients = set_outcome server.clients client outcome r }) (sym (get-clients s server client (Some kept) view_is found))
+
+-- where nothing is kept for an address, no outcome is
+pub no-outcome : (s : Inside) (server : Server) (client : SocketAddr) (outcome : Option Outcome) → server_of s ≡ server → None ≡ tree.get socket_addr_cmp s.clients client → server ≡ with_outcome server client outcome
+no-outcome s server client outcome view_is none =
+    ap {A = Option Client} {B = Server} (λ r. record server { clients = set_outcome server.clients client outcome r }) (sym (get-clients s server client None view_is none))
+
 -- the password of a user's credentials
 abbrev pub password_of : NameAndPassword → List ℕ
 password_of user = user.password
+
+-- what is found for a name
+pub get-users : (s : Inside) (server : Server) (name : List ℕ) (found : Option NameAndPassword) → server_of s ≡ server → found ≡ tree.get_by_text s.users name → map.get server.users name ≡ option_map password_of found
+get-users s server name found view_is is =
+    ap (λ v. map.get v.users name) (sym view_is) ∙ get-finite_map string_bytes nat_list_cmp_total password_of s.users name
+    ∙ ap (option_map password_of) (sym is)
 
 -- a user's new credentials, at each name
 users_updates : (s : Inside) (new : tree.BTreeMap (String Global) NameAndPassword) (name : List ℕ) (user : Option NameAndPassword)

@@ -1,2 +1,3 @@
 pub mod Server
+pub mod Validation
 pub mod View

@@ -1,9 +1,9 @@
 -- What contracts see of a server's side of long-term authentication.
 use Rattle.std.specs.Prelude.{◌≡◌, ℕ, nat_lt, Bool, false, if◌then◌else◌, List, Option, None, Some, refl}
 use Rattle.std.specs.Cmp.Lexicographic.{slice_cmp}
-use Rattle.std.specs.Coded.{Coded, code_by, coded×, coded_ℕ, coded_list}
+use Rattle.std.specs.Coded.{Coded, code_by, coded×, coded_ℕ, coded_list, coded_option}
 use Rattle.std.specs.FinMap as map
-use Rattle.std.specs.Option.{option_map}
+use Rattle.std.specs.Option.{option_map, option_and_then}
 use Rattle.std.specs.Ordering.{nat_cmp}
 use Rattle.std.specs.contracts.net.socket_addr.SocketAddr as addr
 use Rattle.std.specs.declared.net.socket_addr.SocketAddr.{SocketAddr}
@@ -12,15 +12,17 @@ use Rattle.stun_proto_agent.specs.Moments.{moment_after}
 use Rattle.stun_proto_auth.specs.contracts.feature.Feature as feature
 use Rattle.stun_proto_auth.specs.declared.feature.Feature.{Feature}
 use Rattle.stun_proto_auth.specs.Nonce.{features_offered, nonce_text}
+use Rattle.stun_proto_judge.specs.Judgement.{Outcome}
 use Rattle.stun_types_base.specs.SocketAddrs.{socket_addr_cmp}
 use Rattle.stun_types_base.specs.Words.{words_of}
 use Rattle.stun_types_wire.specs.contracts.algorithm.IntegrityAlgorithm as algorithm
 use Rattle.stun_types_wire.specs.declared.algorithm.IntegrityAlgorithm.{IntegrityAlgorithm}
 
--- what is kept for one address: the nonce's text and the moment of its drawing
+-- what is kept for one address: the nonce's text, the moment of its drawing, and the last outcome under it, where that was a validation
 pub record Client : Type 0 where
   pub nonce : List ℕ
   pub drawn : ℕ
+  pub outcome : Option Outcome
 
 -- a server: the realm, each user's password by name, what is kept for each address, how many nanoseconds a nonce stands, and what it supports
 pub record Server : Type 0 where
@@ -31,10 +33,16 @@ pub record Server : Type 0 where
   pub algorithms : List IntegrityAlgorithm
   pub anonymous_username : Feature
 
+-- the code of an outcome
+abbrev pub outcome_code : Coded Outcome
+outcome_code =
+    code_by (List ℕ × IntegrityAlgorithm) (coded× (coded_list coded_ℕ) algorithm.the_row.coded) (λ o. (o.name, o.algorithm)) (λ p. record { name = p.0; algorithm = p.1 }) (λ _. refl)
+
 -- the code of what is kept for one address
 abbrev pub client_code : Coded Client
 client_code =
-    code_by (List ℕ × ℕ) (coded× (coded_list coded_ℕ) coded_ℕ) (λ c. (c.nonce, c.drawn)) (λ p. record { nonce = p.0; drawn = p.1 }) (λ _. refl)
+    code_by (List ℕ × (ℕ × Option Outcome)) (coded× (coded_list coded_ℕ) (coded× coded_ℕ (coded_option outcome_code)))
+    (λ c. (c.nonce, (c.drawn, c.outcome))) (λ p. record { nonce = p.0; drawn = p.1.0; outcome = p.1.1 }) (λ _. refl)
 
 -- the code of the users
 abbrev pub users_code : Coded (map.FinMap (slice_cmp nat_cmp) (List ℕ))
@@ -57,6 +65,10 @@ server_code =
 abbrev pub nonce_at : Server → SocketAddr → Option (List ℕ)
 nonce_at server client = option_map (λ (kept : Client). kept.nonce) (map.get server.clients client)
 
+-- the outcome that is kept for an address
+abbrev pub outcome_at : Server → SocketAddr → Option Outcome
+outcome_at server client = option_and_then (λ (kept : Client). kept.outcome) (map.get server.clients client)
+
 -- whether a nonce stands at a moment: there is one, and the moment is before its drawing plus the expiry
 abbrev pub is_standing : ℕ → ℕ → Option Client → Bool
 is_standing expiry now None = false
@@ -71,6 +83,7 @@ abbrev pub new_client : Server → ℕ → Stream → Client
 new_client server now stream = record {
   nonce = nonce_text (features_offered server.algorithms server.anonymous_username) (words_of 16 stream);
   drawn = now;
+  outcome = None;
 }
 
 -- the server with a nonce drawn for an address
@@ -80,6 +93,15 @@ with_new_nonce server from now stream = record server { clients = map.insert ser
 -- the server with a nonce that stands for an address
 abbrev pub refreshed : Server → SocketAddr → ℕ → Stream → Server
 refreshed server from now stream = if has_standing_nonce server from now then server else with_new_nonce server from now stream
+
+-- the clients with another outcome for an address for which something is kept
+abbrev pub set_outcome : map.FinMap socket_addr_cmp Client → SocketAddr → Option Outcome → Option Client → map.FinMap socket_addr_cmp Client
+set_outcome clients from outcome None = clients
+set_outcome clients from outcome (Some kept) = map.insert clients from (record kept { outcome = outcome })
+
+-- the server with the last outcome of an address
+abbrev pub with_outcome : Server → SocketAddr → Option Outcome → Server
+with_outcome server from outcome = record server { clients = set_outcome server.clients from outcome (map.get server.clients from) }
 
 -- how many words a refresh draws
 abbrev pub words_drawn : Server → SocketAddr → ℕ → ℕ

@@ -3,3 +3,4 @@
 #![tactic(auto)]
 
 pub mod long_term;
+pub mod validation;

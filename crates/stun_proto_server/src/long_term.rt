@@ -11,7 +11,8 @@ ghost use Rattle.stun_proto_auth.specs.Algorithms.{is_same_algorithm, with_algor
 ghost use Rattle.stun_types_base.specs.Words.{stream_after};
 ghost use Rattle.stun_types_wire.specs.declared.algorithm.IntegrityAlgorithm.TheVariants.{Sha1};
 ghost use Rattle.stun_proto_auth.specs.declared.feature.Feature.TheVariants.{Auto};
-ghost use Rattle.stun_proto_server.specs.Server.{nonce_at, has_standing_nonce, words_drawn, with_new_nonce, refreshed, SameFor};
+ghost use Rattle.stun_proto_server.specs.Server.{nonce_at, has_standing_nonce, outcome_at, words_drawn, with_new_nonce, with_outcome, refreshed, SameFor};
+ghost use Rattle.stun_proto_server.specs.Validation.{password_at};
 
 use rand_core::Rng;
 use std::alloc::Global;
@@ -23,6 +24,7 @@ use stun_proto_agent::instant::Instant;
 use stun_proto_auth::feature::Feature;
 use stun_proto_auth::nonce::{NonceFeatures, write_nonce};
 use stun_proto_auth::supported::SupportedIntegrity;
+use stun_proto_judge::user::ValidatedUser;
 use stun_types_base::memory::NoMemory;
 use stun_types_base::words::draw_words;
 use stun_types_integrity::credentials::LongTermCredentials;
@@ -39,6 +41,7 @@ const NONCE_WORDS: usize = 16;
 struct ClientRecord {
     nonce: String,
     drawn: Instant,
+    outcome: Option<ValidatedUser>,
 }
 
 /// The server's side of long-term authentication: a realm, its users, and for each client address
@@ -225,9 +228,63 @@ impl LongTermServerAuth {
         let words: [u32; NONCE_WORDS] = draw_words(rng);
         let features = NonceFeatures::offered(self.supported, self.anonymous_username);
         let nonce = write_nonce(self.alloc, features, &words)?;
-        self.clients
-            .insert(from, ClientRecord { nonce, drawn: now })?;
+        self.clients.insert(
+            from,
+            ClientRecord {
+                nonce,
+                drawn: now,
+                outcome: None,
+            },
+        )?;
         Ok(())
+    }
+
+    /// The user by whom the last message from a client was validated, where it was a validation:
+    /// no refusal came after it, and no other nonce was drawn for the client.
+    pub fn validated_user(&self, client: SocketAddr) -> Option<&ValidatedUser>
+        ensures { option_copied result ≡ outcome_at self.now client }
+    {
+        match self.clients.get(&client) {
+            Some(kept) => kept.outcome.as_ref(),
+            None => None,
+        }
+    }
+
+    /// Keeps the outcome of a message from a client for which a nonce is kept: the user, where it
+    /// was a validation.
+    pub(crate) fn keep_outcome(&mut self, from: SocketAddr, outcome: Option<ValidatedUser>)
+        ensures kept { self.new ≡ with_outcome self.old from outcome }
+        ensures others { (other : SocketAddr) → other ≢ from → SameFor other self.old self.new }
+    {
+        let Some(kept) = self.clients.get_mut(&from) else {
+            return;
+        };
+        kept.outcome = outcome;
+    }
+
+    /// The password of the user of a name, where there is a name and such a user.
+    pub(crate) fn password_of(&self, name: Option<&str>) -> Option<&str>
+        ensures { option_copied result ≡ password_at self.now (option_copied name.entry) }
+    {
+        match name {
+            Some(name) => self.password(name),
+            None => None,
+        }
+    }
+
+    /// The password of the user of a name, where there is such a user.
+    fn password(&self, name: &str) -> Option<&str>
+        ensures { option_copied result ≡ map.get self.now.users name.now }
+    {
+        match self.users.get(name) {
+            Some(user) => Some(user.password()),
+            None => None,
+        }
+    }
+
+    /// The allocator that is kept.
+    pub(crate) fn alloc(&self) -> Global {
+        self.alloc
     }
 }
 

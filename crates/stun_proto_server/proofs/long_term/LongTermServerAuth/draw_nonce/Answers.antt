@@ -1,4 +1,4 @@
-use Rattle.std.proofs.Common.{◌≡◌, ℕ, List, ap, ◌∙◌}
+use Rattle.std.proofs.Common.{◌≡◌, ℕ, List, None, ap, ◌∙◌}
 use Rattle.std.specs.FinMap as map
 use Rattle.std.specs.String.{string_bytes}
 use Rattle.stun_types_base.specs.Words.{words_of}
@@ -14,7 +14,7 @@ returns-clause-ok g c =
     let text : string_bytes c.in_ok-nonce.nonce ≡ nonce_text (features_offered c.args.self.now.algorithms c.args.self.now.anonymous_username) (words_of 16 (g.R.Rng.stream c.args.rng.now)) =
     c.in_ok-nonce.ensures ∙ (λ i. nonce_text (features i) (c.draw_words-words.ensures.words i)) in
     insert-clients c.self.inside c.insert.new.self c.args.self.now c.args.from _ c.self.view_is c.in_ok-insert.ensures.updates
-    ∙ ap {A = List ℕ} {B = Server} (λ nonce. record c.args.self.now { clients = map.insert c.args.self.now.clients c.args.from (record { nonce = nonce; drawn = c.args.now }) }) text
+    ∙ ap {A = List ℕ} {B = Server} (λ nonce. record c.args.self.now { clients = map.insert c.args.self.now.clients c.args.from (record { nonce = nonce; drawn = c.args.now; outcome = None }) }) text
 
 pub returns-clause-others : goal.returns-clause-others
 returns-clause-others g c other =

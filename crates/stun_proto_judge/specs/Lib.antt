@@ -1,0 +1,3 @@
+pub mod Claims
+pub mod Errors
+pub mod Judgement

@@ -1,0 +1,114 @@
+//! The judgement of a message.
+
+ghost use Rattle.std.specs.Prelude.{◌≡◌, ◌≢◌, ℕ, List, Some, None, IfOk, IfErr, OnOk, MatchResult, false};
+ghost use Rattle.stun_types_wire.specs.Grammar.{shown};
+ghost use Rattle.stun_types_message.specs.Validation.{last_algorithm};
+ghost use Rattle.stun_types_wire.specs.declared.algorithm.IntegrityAlgorithm.{IntegrityAlgorithm as Algorithm};
+ghost use Rattle.stun_types_integrity.specs.Integrity.{Validates};
+ghost use Rattle.stun_proto_judge.specs.Claims.{claimed};
+ghost use Rattle.stun_proto_judge.specs.Judgement.{IsRefused, ServerAccepts, claim_refusal, is_response, user_key};
+
+use crate::claim::Claim;
+use crate::error::LongTermServerAuthError;
+use crate::known::Known;
+use crate::user::ValidatedUser;
+use std::alloc::Global;
+use stun_types_integrity::credentials::{LongTermKeyCredentials, MessageIntegrityCredentials};
+use stun_types_message::message::Message;
+use stun_types_wire::algorithm::IntegrityAlgorithm;
+
+/// Whether a server takes a message that is no response for one of its user's, by what the message
+/// claims and what the server knows; the answer is the user, and the algorithm of the last
+/// integrity attribute. Refused, in this order: `Unauthorized` where the message shows no integrity
+/// attribute; `BadRequest` where it shows neither the name of a user nor a hash of it, no realm or
+/// no nonce; `StaleNonce` where the nonce is not the one that stands; `BadRequest` where password
+/// algorithms are inconsistent; `Unauthorized` where it names no user of the server;
+/// `IntegrityFailed` where the digest is wrong. Where memory is refused for the key or the name,
+/// `NoMemory`.
+pub fn judge(
+    alloc: Global,
+    message: &Message<'_>,
+    claim: &Claim<'_>,
+    known: &Known<'_>,
+) -> Result<ValidatedUser, LongTermServerAuthError>
+    requires claim { claim.now ≡ claimed message.now }
+    requires no_response { is_response message.now ≡ false }
+    ensures valid { IfOk result (λ user. ServerAccepts known.now message.now user.algorithm user.name) }
+    ensures accepted { (algorithm : Algorithm) (name : List ℕ) → ServerAccepts known.now message.now algorithm name → MatchResult result (λ user. user ≡ record { name = name; algorithm = algorithm }) (λ error. error ≡ LongTermServerAuthError.NoMemory) }
+    ensures refused { IfErr result (λ error. error ≢ LongTermServerAuthError.NoMemory → IsRefused known.now message.now error) }
+{
+    decide(alloc, message, claim, known)
+}
+
+/// The judgement: it answers as `judge` does.
+#[tactic(auto, using(crate::proofs::Judging::accepts, crate::proofs::Judging::refuses_claim, crate::proofs::Judging::refuses_digest))]
+fn decide(
+    alloc: Global,
+    message: &Message<'_>,
+    claim: &Claim<'_>,
+    known: &Known<'_>,
+) -> Result<ValidatedUser, LongTermServerAuthError>
+    requires claim { claim.now ≡ claimed message.now }
+    requires no_response { is_response message.now ≡ false }
+    ensures valid { IfOk result (λ user. ServerAccepts known.now message.now user.algorithm user.name) }
+    ensures refused { IfErr result (λ error. error ≢ LongTermServerAuthError.NoMemory → IsRefused known.now message.now error) }
+{
+    let pending = check(claim, known)?;
+    validate_user(alloc, message, &pending, known.realm())?;
+    let name = String::from_str(alloc, pending.name)?;
+    Ok(ValidatedUser::new(name, pending.algorithm))
+}
+
+/// A claim of which only the digest is left to be looked at.
+#[derive(Drop)]
+struct Pending<'a> {
+    algorithm: IntegrityAlgorithm,
+    name: &'a str,
+    password: &'a str,
+}
+
+/// Holds a claim against what is known. Refused as `judge` is, but for the digest.
+#[tactic(auto, unfolding(crate::specs::Judgement::claim_refusal))]
+fn check<'a>(
+    claim: &'a Claim<'_>,
+    known: &Known<'a>,
+) -> Result<Pending<'a>, LongTermServerAuthError>
+    ensures passed { IfOk result (λ pending. (claim_refusal known.now claim.now ≡ None) × (claim.now.integrity ≡ Some pending.algorithm) × (claim.now.username ≡ Some pending.name.now) × (known.now.password ≡ Some pending.password.now)) }
+    ensures refused { IfErr result (λ error. claim_refusal known.now claim.now ≡ Some error) }
+{
+    let algorithm = claim.check_integrity()?;
+    claim.check_parts()?;
+    claim.check_nonce(known)?;
+    claim.check_algorithms(known)?;
+    match (claim.username(), known.password()) {
+        (Some(name), Some(password)) => Ok(Pending {
+            algorithm,
+            name,
+            password,
+        }),
+        _ => Err(LongTermServerAuthError::Unauthorized),
+    }
+}
+
+/// Whether a message validates under the key of a user in a realm. Refused with `IntegrityFailed`;
+/// where memory is refused for the key, with `NoMemory`.
+fn validate_user(
+    alloc: Global,
+    message: &Message<'_>,
+    pending: &Pending<'_>,
+    realm: &str,
+) -> Result<(), LongTermServerAuthError>
+    requires { last_algorithm (shown message.now) ≡ Some pending.now.algorithm }
+    ensures valid { OnOk result ((text : List ℕ) × Validates message.now (user_key realm.now pending.now.name.now pending.now.password.now pending.now.algorithm) pending.now.algorithm text) }
+    ensures refused { IfErr result (λ error. error ≢ LongTermServerAuthError.NoMemory → (error ≡ LongTermServerAuthError.IntegrityFailed pending.now.algorithm) × ((text : List ℕ) → ¬ Validates message.now (user_key realm.now pending.now.name.now pending.now.password.now pending.now.algorithm) pending.now.algorithm text)) }
+{
+    let credentials = MessageIntegrityCredentials::LongTerm(LongTermKeyCredentials::new(
+        String::from_str(alloc, pending.name)?,
+        String::from_str(alloc, pending.password)?,
+        String::from_str(alloc, realm)?,
+    ));
+    match message.validate_integrity(alloc, &credentials) {
+        Ok(_) => Ok(()),
+        Err(error) => Err(LongTermServerAuthError::of_digest(pending.algorithm, error)),
+    }
+}

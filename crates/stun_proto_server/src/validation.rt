@@ -1,0 +1,114 @@
+//! The validation of what comes in, and what is kept of it.
+
+ghost use Rattle.std.specs.Prelude.{◌≡◌, ◌≢◌, ℕ, List, None, IfOk, IfErr, MatchResult, false};
+ghost use Rattle.std.specs.declared.net.socket_addr.SocketAddr.{SocketAddr};
+ghost use Rattle.stun_types_wire.specs.declared.algorithm.IntegrityAlgorithm.{IntegrityAlgorithm as Algorithm};
+ghost use Rattle.stun_types_base.specs.Words.{stream_after};
+ghost use Rattle.stun_proto_judge.specs.Judgement.{IsRefused, is_response};
+ghost use Rattle.stun_proto_server.specs.Server.{SameFor, refreshed, with_outcome};
+ghost use Rattle.stun_proto_server.specs.Validation.{Accepts, IsAfterNoMemory, IsValidated, after_refusal, known_of, words_of_validation};
+
+use crate::long_term::LongTermServerAuth;
+use rand_core::Rng;
+use std::net::SocketAddr;
+use stun_proto_agent::instant::Instant;
+use stun_proto_judge::claim::Claim;
+use stun_proto_judge::error::LongTermServerAuthError;
+use stun_proto_judge::judge::judge;
+use stun_proto_judge::known::Known;
+use stun_proto_judge::user::ValidatedUser;
+use stun_types_message::message::Message;
+use stun_types_wire::algorithm::IntegrityAlgorithm;
+
+/// What a server answers to a message that it takes.
+#[derive(Clone, Copy, Debug, PartialEq, Eq)]
+pub enum LongTermServerValidation {
+    /// The message is one of a user's, by the integrity attribute of this algorithm.
+    Validated(IntegrityAlgorithm),
+}
+
+impl LongTermServerAuth {
+    /// Validates a message from an address, in this order. A response is refused with `BadRequest`;
+    /// nothing changes then, and no word is drawn. Else a nonce is drawn for the address where none
+    /// stands, as `refresh_nonce` does. Then the message is refused with `Unauthorized` where it
+    /// shows no integrity attribute; with `BadRequest` where it shows neither the name of a user nor
+    /// a hash of it, no realm or no nonce; with `StaleNonce` where its nonce is not the one that
+    /// stands for the address; with `BadRequest` where its password algorithms are inconsistent;
+    /// with `Unauthorized` where it names no user that is there; with `IntegrityFailed` where its
+    /// last integrity attribute is wrong under the key of that user in the server's realm. Of each
+    /// kind of attribute the last one shown decides, and a malformed one is as if there were none.
+    ///
+    /// The outcome is kept for the address: after a validation the user and the algorithm, after a
+    /// refusal none. Where memory is refused, with `NoMemory`, the server is as it was, or has the
+    /// nonce that was drawn and no outcome for the address.
+    pub fn validate_incoming_message<R: Rng>(
+        &mut self,
+        message: &Message<'_>,
+        from: SocketAddr,
+        now: Instant,
+        rng: &mut R,
+    ) -> Result<LongTermServerValidation, LongTermServerAuthError>
+        ensures valid { IfOk result (λ answer. IsValidated (refreshed self.old from now (R.stream rng.old)) from message.now answer self.new) }
+        ensures accepted { (algorithm : Algorithm) (name : List ℕ) → Accepts (refreshed self.old from now (R.stream rng.old)) from message.now algorithm name → MatchResult result (λ answer. answer ≡ LongTermServerValidation.Validated algorithm) (λ error. error ≡ LongTermServerAuthError.NoMemory) }
+        ensures refused { IfErr result (λ error. error ≢ LongTermServerAuthError.NoMemory → IsRefused (known_of (refreshed self.old from now (R.stream rng.old)) from message.now) message.now error) }
+        ensures forgotten { IfErr result (λ error. error ≢ LongTermServerAuthError.NoMemory → self.new ≡ after_refusal self.old from message.now now (R.stream rng.old)) }
+        ensures memory { IfErr result (λ error. error ≡ LongTermServerAuthError.NoMemory → IsAfterNoMemory self.old from now (R.stream rng.old) self.new) }
+        ensures stream { R.stream rng.new ≡ stream_after (words_of_validation self.old from message.now now) (R.stream rng.old) }
+        ensures others { (other : SocketAddr) → other ≢ from → SameFor other self.old self.new }
+    {
+        if message.is_response() {
+            return Err(LongTermServerAuthError::BadRequest);
+        }
+        self.refresh_nonce(from, now, rng)?;
+        self.validate_request(message, from)
+    }
+
+    /// Validates a message that is no response, under the nonce that is kept for its address, and
+    /// keeps the outcome. Where memory is refused, nothing changes.
+    fn validate_request(
+        &mut self,
+        message: &Message<'_>,
+        from: SocketAddr,
+    ) -> Result<LongTermServerValidation, LongTermServerAuthError>
+        requires { is_response message.now ≡ false }
+        ensures valid { IfOk result (λ answer. IsValidated self.old from message.now answer self.new) }
+        ensures refused { IfErr result (λ error. error ≢ LongTermServerAuthError.NoMemory → IsRefused (known_of self.old from message.now) message.now error) }
+        ensures forgotten { IfErr result (λ error. error ≢ LongTermServerAuthError.NoMemory → self.new ≡ with_outcome self.old from None) }
+        ensures memory { IfErr result (λ error. error ≡ LongTermServerAuthError.NoMemory → self.new ≡ self.old) }
+        ensures others { (other : SocketAddr) → other ≢ from → SameFor other self.old self.new }
+    {
+        match self.judge(message, from) {
+            Ok(user) => {
+                let algorithm = user.algorithm();
+                self.keep_outcome(from, Some(user));
+                Ok(LongTermServerValidation::Validated(algorithm))
+            }
+            Err(LongTermServerAuthError::NoMemory) => Err(LongTermServerAuthError::NoMemory),
+            Err(error) => {
+                self.keep_outcome(from, None);
+                Err(error)
+            }
+        }
+    }
+
+    /// The judgement of a message that is no response, by what is kept for its address. It changes
+    /// nothing.
+    fn judge(
+        &self,
+        message: &Message<'_>,
+        from: SocketAddr,
+    ) -> Result<ValidatedUser, LongTermServerAuthError>
+        requires { is_response message.now ≡ false }
+        ensures valid { IfOk result (λ user. Accepts self.now from message.now user.algorithm user.name) }
+        ensures refused { IfErr result (λ error. error ≢ LongTermServerAuthError.NoMemory → IsRefused (known_of self.now from message.now) message.now error) }
+    {
+        let claim = Claim::of(message);
+        let known = Known::new(
+            self.realm(),
+            self.supported_integrity(),
+            self.nonce_for_client(from),
+            self.password_of(claim.username()),
+        );
+        judge(self.alloc(), message, &claim, &known)
+    }
+}
