@@ -8,14 +8,14 @@ use Rattle.std.proofs.lemmas.Bool.{ne_eqb}
 use Rattle.turn_desk_replay.specs.Bytes.{answered_part, both, hex_bytes, joined, part_bytes, prepend, some_bytes, is_dash, named_bytes}
 
 -- a part that begins with `@`
-pub part_answered : (answers : List (List ℕ)) (part rest : List ℕ) → part ≡ 64 ∷ rest
-    → part_bytes answers part ≡ answered_part answers rest
+pub part_answered : (answers : List (List ℕ)) (piece rest : List ℕ) → piece ≡ 64 ∷ rest
+    → part_bytes answers piece ≡ answered_part answers rest
 unfolding part_bytes
-part_answered answers part rest e = rw e refl
+part_answered answers piece rest e = rw e refl
 
 -- any other part
-pub part_hex : (answers : List (List ℕ)) (part : List ℕ) → ((rest : List ℕ) → part ≢ 64 ∷ rest)
-    → part_bytes answers part ≡ some_bytes (hex_bytes part)
+pub part_hex : (answers : List (List ℕ)) (piece : List ℕ) → ((rest : List ℕ) → piece ≢ 64 ∷ rest)
+    → part_bytes answers piece ≡ some_bytes (hex_bytes piece)
 unfolding part_bytes
 part_hex answers [] other = refl
 part_hex answers (c ∷ cs) other =
@@ -27,10 +27,10 @@ err_of x y h = let same : x ≡ y = cc in ap (λ e. Err e) same
 
 module _ {X : Type 0} (named : X → Option (List ℕ)) where
   -- a part that names bytes
-  pub joined_more : (old new : List ℕ) (part : X) (rest : List X) → prepend old (named part) ≡ Some new
-      → prepend old (joined (map named (part ∷ rest))) ≡ prepend new (joined (map named rest))
+  pub joined_more : (old new : List ℕ) (piece : X) (rest : List X) → prepend old (named piece) ≡ Some new
+      → prepend old (joined (map named (piece ∷ rest))) ≡ prepend new (joined (map named rest))
   unfolding joined
-  joined_more old new part rest e = one (named part) (joined (map named rest)) e
+  joined_more old new piece rest e = one (named piece) (joined (map named rest)) e
     where
       one : (first others : Option (List ℕ)) → prepend old first ≡ Some new → prepend old (both first others) ≡ prepend new others
       one None others e = cc
@@ -39,9 +39,9 @@ module _ {X : Type 0} (named : X → Option (List ℕ)) where
           let same : old ++ bytes ≡ new = cc in ap (λ b. Some b) (sym (append_assoc old bytes others) ∙ ap (λ b. b ++ others) same)
 
   -- a part that names none
-  pub joined_none : (part : X) (rest : List X) → named part ≡ None → joined (map named (part ∷ rest)) ≡ None
+  pub joined_none : (piece : X) (rest : List X) → named piece ≡ None → joined (map named (piece ∷ rest)) ≡ None
   unfolding joined
-  joined_none part rest e = rw e refl
+  joined_none piece rest e = rw e refl
 
   -- the same of the parts from one place on
   pub joined_step : (old new : List ℕ) (parts : List X) (i : ℕ) (d : X) → i < length parts → prepend old (named (get_or parts i d)) ≡ Some new
@@ -62,7 +62,7 @@ module _ {X : Type 0} (named : X → Option (List ℕ)) where
 map_now : (answers : List (List ℕ)) (parts : List (Bor (List ℕ)))
     → map (part_bytes answers) (map (λ x. x.now) parts) ≡ map (λ x. part_bytes answers x.now) parts
 map_now answers [] = refl
-map_now answers (part ∷ parts) = ap (λ rest. part_bytes answers part.now ∷ rest) (map_now answers parts)
+map_now answers (piece ∷ parts) = ap (λ rest. part_bytes answers piece.now ∷ rest) (map_now answers parts)
 
 -- the word `-`
 pub named_dash : (answers : List (List ℕ)) (word : List ℕ) → is_dash word ≡ true → named_bytes answers word ≡ Some []

@@ -45,8 +45,8 @@ answered_part answers reference = some_bytes (reference_bytes answers (slice_spl
 
 -- the bytes that a part names, which begins with `@` or is lower case hex
 unfoldable pub part_bytes : List (List ℕ) → List ℕ → Option (List ℕ)
-part_bytes answers part =
-    if slice_index part 0 == 64 then answered_part answers (drop 1 part) else some_bytes (hex_bytes part)
+part_bytes answers piece =
+    if slice_index piece 0 == 64 then answered_part answers (drop 1 piece) else some_bytes (hex_bytes piece)
 
 -- the bytes in front of some others, where those are there
 abbrev pub prepend : List ℕ → Option (List ℕ) → Option (List ℕ)
