@@ -1,5 +1,6 @@
 //! Messages parsed from bytes.
 
+use std::process::Abort;
 use std::test::Fail;
 use stun_types::attribute::AttributeType;
 use stun_types::message::{
@@ -47,6 +48,21 @@ fn fronts_of_a_header_are_refused(rt: HostRuntime) -> Result<(), Fail> {
     Ok(())
 }
 
+/// Some bytes, given in hex, are refused as a message for this cause.
+fn are_refused(
+    rt: &(impl Abort + AllocGlobal),
+    text: &str,
+    expected: StunParseError,
+) -> Result<(), Fail> {
+    let bytes = hex::decode(rt.alloc(), text)?;
+    assert_eq!(rt;
+        Message::from_bytes(bytes.as_slice()).err(),
+        Some(expected),
+        "{text}"
+    );
+    Ok(())
+}
+
 #[test]
 fn messages_are_refused(rt: HostRuntime) -> Result<(), Fail> {
     let too_large = StunParseError::TooLarge {
@@ -72,23 +88,27 @@ fn messages_are_refused(rt: HostRuntime) -> Result<(), Fail> {
             "000100082112a442000000000000000000007392001d000500020000",
             truncated(12, 8),
         ),
-        // a FINGERPRINT, and one that is not there whole
+    ] {
+        are_refused(&rt, text, expected)?;
+    }
+    Ok(())
+}
+
+#[test]
+fn fingerprints_are_refused(rt: HostRuntime) -> Result<(), Fail> {
+    for (text, expected) in [
         (
             "000100082112a4420000000000000000000073928028000400020000",
             StunParseError::FingerprintMismatch,
         ),
+        // one that is not there whole
         (
             "000100082112a4420000000000000000000073928028000500020000",
             truncated(12, 8),
         ),
         (SAMPLE_REQUEST, StunParseError::FingerprintMismatch),
     ] {
-        let bytes = hex::decode(rt.alloc(), text)?;
-        assert_eq!(rt;
-            Message::from_bytes(bytes.as_slice()).err(),
-            Some(expected),
-            "{text}"
-        );
+        are_refused(&rt, text, expected)?;
     }
     Ok(())
 }

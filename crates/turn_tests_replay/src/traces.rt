@@ -1,5 +1,6 @@
 //! Traces from outside, whole.
 
+use std::alloc::Global;
 use std::io;
 use std::io::{Error, ErrorKind, Read, Write};
 use std::process::Abort;
@@ -121,9 +122,17 @@ todesk 1 192.0.2.1:3478 00ff 0 grant";
     assert_eq!(rt; status, Status::Done);
 }
 
+/// An event line that is bad behind the line of a desk.
+fn is_bad_event(rt: &(impl Abort + AllocGlobal), event: &[u8]) -> io::Result<()> {
+    let mut trace = b"desk realm sha1 auto\n".to_vec(rt.alloc())?;
+    trace.write_all(event)?;
+    is_bad_at(rt, trace.as_slice(), 2);
+    Ok(())
+}
+
 #[test]
 fn bad_events(rt: HostRuntime) -> io::Result<()> {
-    let events: [&[u8]; 31] = [
+    let events: [&[u8]; 22] = [
         b"todesk",
         b"todesk 0 10.0.0.1:1 - 0",
         b"todesk 0 10.0.0.1:1 - 0 grant now",
@@ -144,6 +153,18 @@ fn bad_events(rt: HostRuntime) -> io::Result<()> {
         b"todesk 0 10.0.0.1:1 - 0 allocate 10.0.0.1:1, 600",
         b"todesk 0 10.0.0.1:1 - 0 allocate 10.0.0.1:1,10.0.0.1:2,10.0.0.1:3 600",
         b"todesk 0 10.0.0.1:1 - 0 allocate 10.0.0.1:1 x",
+        b"draw 0",
+        b"todesk 0 10.0.0.1:1 - 0 grant\r",
+    ];
+    for event in events {
+        is_bad_event(&rt, event)?;
+    }
+    Ok(())
+}
+
+#[test]
+fn bad_bytes_in_events(rt: HostRuntime) -> io::Result<()> {
+    let events: [&[u8]; 9] = [
         b"todesk 0 10.0.0.1:1 0 0 grant",
         b"todesk 0 10.0.0.1:1 FF 0 grant",
         b"todesk 0 10.0.0.1:1 0g 0 grant",
@@ -153,23 +174,25 @@ fn bad_events(rt: HostRuntime) -> io::Result<()> {
         b"todesk 0 10.0.0.1:1 @ 0 grant",
         b"todesk 0 10.0.0.1:1 @0 0 grant",
         b"todesk 0 10.0.0.1:1 @1 0 grant",
-        b"draw 0",
-        b"todesk 0 10.0.0.1:1 - 0 grant\r",
     ];
     for event in events {
-        let mut trace = b"desk realm sha1 auto\n".to_vec(rt.alloc())?;
-        trace.write_all(event)?;
-        is_bad_at(&rt, trace.as_slice(), 2);
+        is_bad_event(&rt, event)?;
     }
     Ok(())
 }
 
+/// The answers of three event lines: three bytes, none, and one.
+fn answers(alloc: Global) -> io::Result<Vec<Answer>> {
+    let mut answers = Vec::new(alloc);
+    answers.push(Answer::new([1, 2, 3].to_vec(alloc)?))?;
+    answers.push(Answer::new(Vec::new(alloc)))?;
+    answers.push(Answer::new([255].to_vec(alloc)?))?;
+    Ok(answers)
+}
+
 #[test]
 fn named_bytes(rt: HostRuntime) -> io::Result<()> {
-    let mut answers = Vec::new(rt.alloc());
-    let _ = answers.push(Answer::new([1, 2, 3].to_vec(rt.alloc())?));
-    let _ = answers.push(Answer::new(Vec::new(rt.alloc())));
-    let _ = answers.push(Answer::new([255].to_vec(rt.alloc())?));
+    let answers = answers(rt.alloc())?;
     let words: [(&str, &[u8]); 5] = [
         ("-", &[]),
         ("0aff", &[10, 255]),
@@ -181,7 +204,13 @@ fn named_bytes(rt: HostRuntime) -> io::Result<()> {
         let bytes = read_bytes(rt.alloc(), word, answers.as_slice()).expect(&rt, "bytes");
         assert_eq!(rt; bytes.as_slice(), wanted, "{word}");
     }
-    let words = [
+    Ok(())
+}
+
+#[test]
+fn words_that_name_no_bytes(rt: HostRuntime) -> io::Result<()> {
+    let answers = answers(rt.alloc())?;
+    for word in [
         "",
         "@2",
         "@4",
@@ -199,8 +228,7 @@ fn named_bytes(rt: HostRuntime) -> io::Result<()> {
         "@1:+0:1",
         "@@1",
         "@1+-",
-    ];
-    for word in words {
+    ] {
         assert_eq!(rt;
             read_bytes(rt.alloc(), word, answers.as_slice()).err(),
             Some(LineError::Bad),

@@ -24,7 +24,7 @@ fn expect_sha256(rt: &impl Abort, key: &[u8], text: &[u8], expected: &[u8; 32]) 
 }
 
 #[test]
-fn rfc_2202_short_keys(rt: HostRuntime) {
+fn rfc_2202_words_under_short_keys(rt: HostRuntime) {
     expect_sha1(
         &rt,
         &[0x0b; 20],
@@ -45,6 +45,19 @@ fn rfc_2202_short_keys(rt: HostRuntime) {
     );
     expect_sha1(
         &rt,
+        &[0x0c; 20],
+        b"Test With Truncation",
+        &[
+            0x4c, 0x1a, 0x03, 0x42, 0x4b, 0x55, 0xe0, 0x7f, 0xe7, 0xf2, 0x7b, 0xe1, 0xd5, 0x8b,
+            0xb9, 0x32, 0x4a, 0x9a, 0x5a, 0x04,
+        ],
+    );
+}
+
+#[test]
+fn rfc_2202_repeated_bytes_under_short_keys(rt: HostRuntime) {
+    expect_sha1(
+        &rt,
         &[0xaa; 20],
         &[0xdd; 50],
         &[
@@ -59,15 +72,6 @@ fn rfc_2202_short_keys(rt: HostRuntime) {
         &[
             0x4c, 0x90, 0x07, 0xf4, 0x02, 0x62, 0x50, 0xc6, 0xbc, 0x84, 0x14, 0xf9, 0xbf, 0x50,
             0xc8, 0x6c, 0x2d, 0x72, 0x35, 0xda,
-        ],
-    );
-    expect_sha1(
-        &rt,
-        &[0x0c; 20],
-        b"Test With Truncation",
-        &[
-            0x4c, 0x1a, 0x03, 0x42, 0x4b, 0x55, 0xe0, 0x7f, 0xe7, 0xf2, 0x7b, 0xe1, 0xd5, 0x8b,
-            0xb9, 0x32, 0x4a, 0x9a, 0x5a, 0x04,
         ],
     );
 }
@@ -95,7 +99,7 @@ fn rfc_2202_keys_longer_than_a_block(rt: HostRuntime) {
 }
 
 #[test]
-fn rfc_4231_short_keys(rt: HostRuntime) {
+fn rfc_4231_words_under_short_keys(rt: HostRuntime) {
     expect_sha256(
         &rt,
         &[0x0b; 20],
@@ -116,6 +120,10 @@ fn rfc_4231_short_keys(rt: HostRuntime) {
             0x64, 0xec, 0x38, 0x43,
         ],
     );
+}
+
+#[test]
+fn rfc_4231_repeated_bytes_under_short_keys(rt: HostRuntime) {
     expect_sha256(
         &rt,
         &[0xaa; 20],
