@@ -14,7 +14,7 @@ use stun_types_wire::header::MessageHeader;
 /// has ended it stays ended.
 #[derive(Debug, Drop)]
 pub struct MessageAttributesIter<'a> {
-    data: &'a [u8],
+    bytes: &'a [u8],
     offset: usize,
     stage: Stage,
 }
@@ -28,7 +28,7 @@ impl<'a> Model for MessageAttributesIter<'a> {
 
     ghost use Rattle.stun_types_message.specs.Stages.{stage_rank};
 
-    ghost view = { λ it. numbered it.offset (shown_after (stage_rank it.stage) (drop it.offset it.data.now)) };
+    ghost view = { λ it. numbered it.offset (shown_after (stage_rank it.stage) (drop it.offset it.bytes.now)) };
 }
 
 impl<'a> MessageAttributesIter<'a> {
@@ -38,7 +38,7 @@ impl<'a> MessageAttributesIter<'a> {
         ensures { result ≡ numbered 20 (shown bytes.now) }
     {
         MessageAttributesIter {
-            data: bytes,
+            bytes,
             offset: MessageHeader::LENGTH,
             stage: Stage::Ordinary,
         }
@@ -55,10 +55,10 @@ impl<'a> Iterator for MessageAttributesIter<'a> {
     ghost remaining = { item_count (λ left. left) };
 
     fn next(&mut self) -> Option<(usize, RawAttribute<'a>)> {
-        if self.offset >= self.data.len() {
+        if self.offset >= self.bytes.len() {
             return None;
         }
-        let (_, rest) = self.data.split_at(self.offset);
+        let (_, rest) = self.bytes.split_at(self.offset);
         let Some(front) = Front::of(rest) else {
             return None;
         };

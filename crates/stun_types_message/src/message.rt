@@ -20,7 +20,7 @@ use stun_types_wire::transaction::TransactionId;
 #[derive(Debug, Drop)]
 pub struct Message<'a> {
     header: MessageHeader,
-    data: &'a [u8],
+    bytes: &'a [u8],
 }
 
 impl<'a> Model for Message<'a> {
@@ -30,9 +30,9 @@ impl<'a> Model for Message<'a> {
 
     ghost use Rattle.stun_types_message.specs.Parsed.{IsParsed};
 
-    ghost view = { λ m. m.data.now };
+    ghost view = { λ m. m.bytes.now };
 
-    ghost invariant = { λ m. IsParsed m.data.now m.header };
+    ghost invariant = { λ m. IsParsed m.bytes.now m.header };
 }
 
 impl<'a> Message<'a> {
@@ -65,10 +65,7 @@ impl<'a> Message<'a> {
         }
         let (_, body) = bytes.split_at(MessageHeader::LENGTH);
         scan(body)?;
-        Ok(Message {
-            header,
-            data: bytes,
-        })
+        Ok(Message { header, bytes })
     }
 
     /// The bytes of the message.
@@ -76,7 +73,7 @@ impl<'a> Message<'a> {
         ensures bytes { result.now ≡ self.now }
         ensures message { refusal result.now ≡ None }
     {
-        self.data
+        self.bytes
     }
 
     /// What the header would tell as the length if the message ended at this offset.
@@ -86,7 +83,7 @@ impl<'a> Message<'a> {
         requires within { end ≤ length self.now }
         ensures { result + 20 ≡ end }
     {
-        let behind = self.data.len() - end;
+        let behind = self.bytes.len() - end;
         self.header.data_length() - behind as u16
     }
 
@@ -144,7 +141,7 @@ impl<'a> Message<'a> {
     pub fn iter_attributes(&self) -> MessageAttributesIter<'a>
         ensures { result ≡ numbered 20 (shown self.now) }
     {
-        MessageAttributesIter::new(self.data)
+        MessageAttributesIter::new(self.bytes)
     }
 
     /// The first attribute of a type, where one is shown.
