@@ -1,9 +1,7 @@
-//! Tests that cross crates, of attributes that are read and of messages that are validated. Expected
-//! bytes come from outside: from RFCs, from recorded messages, or worked by hand.
+//! Tests that cross crates, of messages that are signed and validated. Expected bytes come from
+//! outside: from RFCs, from recorded messages, or worked by hand.
 #![tactic(auto)]
 
-#[cfg(test)]
-mod reading;
 #[cfg(test)]
 mod recorded;
 #[cfg(test)]

@@ -1,4 +1,4 @@
-//! Messages that are signed, attributes that are asked for by their type, and success responses.
+//! Messages that are signed, and success responses.
 
 ghost use Rattle.std.specs.Prelude.{◌≡◌, ◌+◌, ◌≤◌, [], length, IfOk, OnOk};
 ghost use Rattle.stun_types_wire.specs.Attributes.{attr_size};
@@ -9,19 +9,12 @@ use crate::samples::{SIGNED_BY_BOTH, SIGNED_BY_SHA1, SIGNED_BY_SHA256, credentia
 use std::alloc::Global;
 use std::process::Abort;
 use std::test::Fail;
-use stun_types::attribute::{
-    AttributeType, ErrorCode, Nonce, RawAttribute, Realm, Username, XorMappedAddress,
-};
+use stun_types::attribute::{AttributeType, RawAttribute, Realm, Username};
 use stun_types::message::{
     BINDING, IntegrityAlgorithm, IntegrityKey, Message, MessageClass, MessageType, MessageWriteVec,
-    StunParseError, StunWriteError, TransactionId, ValidateError, add_as,
+    StunWriteError, TransactionId, ValidateError, add_as,
 };
 use stun_types::prelude::{Attribute, AttributeWrite, MessageWrite, MessageWriteExt};
-
-/// A BINDING request with a USERNAME of the one byte `ff`, REALM `realm` and `other`, NONCE `nonce`
-/// and one of the one byte `c3`, and an ERROR-CODE of three bytes.
-const REPEATED: &str =
-    "0001003c2112a44200000000000000000000739200060001ff000000001400057265616c6d000000001400056f74686572000000001500056e6f6e636500000000150001c30000000009000300000400";
 
 /// A BINDING request that is begun, of the number of the signed samples.
 fn begun(rt: &HostRuntime) -> Result<MessageWriteVec, StunWriteError>
@@ -191,37 +184,6 @@ fn integrity_after_a_fingerprint_is_refused(rt: HostRuntime) -> Result<(), Fail>
     let answer = writer.add_message_integrity(rt.alloc(), &credentials, algorithm);
     assert_eq!(rt; answer.err(), Some(StunWriteError::FingerprintExists));
     assert_eq!(rt; writer.as_slice(), before.as_slice());
-    Ok(())
-}
-
-#[test]
-fn attributes_are_found_by_their_type(rt: HostRuntime) -> Result<(), Fail> {
-    let bytes = hex::decode(rt.alloc(), REPEATED)?;
-    let message = Message::from_bytes(bytes.as_slice())?;
-    let first = message.attribute::<Realm>(rt.alloc())?;
-    assert_eq!(rt; first.realm(), "realm");
-    for (n, text) in [(0, "realm"), (1, "other")] {
-        let realm = message.nth_attribute::<Realm>(rt.alloc(), n)?;
-        assert_eq!(rt; realm.realm(), text);
-    }
-    let missing = |atype: u16| Some(StunParseError::MissingAttribute(AttributeType(atype)));
-    let third = message.nth_attribute::<Realm>(rt.alloc(), 2).err();
-    assert_eq!(rt; third, missing(0x0014));
-    let address = message.attribute::<XorMappedAddress>(rt.alloc()).err();
-    assert_eq!(rt; address, missing(0x0020));
-    let nonce = message.attribute::<Nonce>(rt.alloc())?;
-    assert_eq!(rt; nonce.nonce(), "nonce");
-    let invalid = Some(StunParseError::InvalidAttributeData);
-    let second = message.nth_attribute::<Nonce>(rt.alloc(), 1).err();
-    assert_eq!(rt; second, invalid);
-    let name = message.attribute::<Username>(rt.alloc()).err();
-    assert_eq!(rt; name, invalid);
-    let error = message.attribute::<ErrorCode>(rt.alloc()).err();
-    let truncated = StunParseError::Truncated {
-        expected: 4,
-        actual: 3,
-    };
-    assert_eq!(rt; error, Some(truncated));
     Ok(())
 }
 

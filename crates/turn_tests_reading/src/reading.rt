@@ -1,4 +1,4 @@
-//! Typed attributes read from types and values.
+//! Typed attributes read from types and values, and asked of a message by their type.
 
 ghost use Rattle.std.specs.Prelude.{◌<◌, ◌^◌, length};
 
@@ -10,7 +10,7 @@ use stun_types::attribute::{
     XorMappedAddress, XorSocketAddr,
 };
 use stun_types::laws::written_and_read;
-use stun_types::message::{StunParseError, StunWriteError, TransactionId};
+use stun_types::message::{Message, StunParseError, StunWriteError, TransactionId};
 use stun_types::prelude::{AttributeFromRaw, AttributeWrite};
 
 const USERNAME: AttributeType = AttributeType(0x0006);
@@ -27,6 +27,11 @@ const NUMBER: u128 = 0xade0_b876_903d_f1a0_e56a_5d40;
 
 /// The number of the samples of RFC 5769, sections 2.1 to 2.3.
 const NUMBER_OF_SAMPLES: u128 = 0xb7e7_a701_bc34_d686_fa87_dfae;
+
+/// A BINDING request with a USERNAME of the one byte `ff`, REALM `realm` and `other`, NONCE `nonce`
+/// and one of the one byte `c3`, and an ERROR-CODE of three bytes.
+const REPEATED: &str =
+    "0001003c2112a44200000000000000000000739200060001ff000000001400057265616c6d000000001400056f74686572000000001500056e6f6e636500000000150001c30000000009000300000400";
 
 #[test]
 fn texts_are_read(rt: HostRuntime) -> Result<(), Fail> {
@@ -215,6 +220,37 @@ fn addresses_that_are_none(rt: HostRuntime) -> Result<(), Fail> {
     let right = RawAttribute::new(XOR_MAPPED_ADDRESS, &v4[..8]);
     let addr = XorMappedAddress::from_raw(right, rt.alloc())?.addr(number);
     assert_eq!(rt; addr, "192.168.0.1:1000".parse::<SocketAddr>()?);
+    Ok(())
+}
+
+#[test]
+fn attributes_are_found_by_their_type(rt: HostRuntime) -> Result<(), Fail> {
+    let bytes = hex::decode(rt.alloc(), REPEATED)?;
+    let message = Message::from_bytes(bytes.as_slice())?;
+    let first = message.attribute::<Realm>(rt.alloc())?;
+    assert_eq!(rt; first.realm(), "realm");
+    for (n, text) in [(0, "realm"), (1, "other")] {
+        let realm = message.nth_attribute::<Realm>(rt.alloc(), n)?;
+        assert_eq!(rt; realm.realm(), text);
+    }
+    let missing = |atype: u16| Some(StunParseError::MissingAttribute(AttributeType(atype)));
+    let third = message.nth_attribute::<Realm>(rt.alloc(), 2).err();
+    assert_eq!(rt; third, missing(0x0014));
+    let address = message.attribute::<XorMappedAddress>(rt.alloc()).err();
+    assert_eq!(rt; address, missing(0x0020));
+    let nonce = message.attribute::<Nonce>(rt.alloc())?;
+    assert_eq!(rt; nonce.nonce(), "nonce");
+    let invalid = Some(StunParseError::InvalidAttributeData);
+    let second = message.nth_attribute::<Nonce>(rt.alloc(), 1).err();
+    assert_eq!(rt; second, invalid);
+    let name = message.attribute::<Username>(rt.alloc()).err();
+    assert_eq!(rt; name, invalid);
+    let error = message.attribute::<ErrorCode>(rt.alloc()).err();
+    let truncated = StunParseError::Truncated {
+        expected: 4,
+        actual: 3,
+    };
+    assert_eq!(rt; error, Some(truncated));
     Ok(())
 }
 
