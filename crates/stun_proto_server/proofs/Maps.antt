@@ -91,6 +91,15 @@ insert-users s new server name user view_is updates =
     (insert-finite_map string_bytes nat_list_cmp_total password_of (slice_cmp-IsAntisymmetric nat_cmp-IsAntisymmetric) s.users new name user (users_updates s new name (Some user) updates))
     ∙ ap {A = Server} {B = Server} (λ v. record v { users = map.insert v.users name user.password }) view_is
 
+-- a user is kept no more
+pub remove-users : (s : Inside) (new : tree.BTreeMap (String Global) NameAndPassword) (server : Server) (name : List ℕ)
+    → server_of s ≡ server → tree.UpdatesBy string_cmp (λ key. slice_cmp nat_cmp name (string_bytes key)) s.users new None
+    → server_of (record s { users = new }) ≡ record server { users = map.remove server.users name }
+remove-users s new server name view_is updates =
+    ap {A = map.FinMap (slice_cmp nat_cmp) (List ℕ)} {B = Server} (λ m. record (server_of s) { users = m })
+    (remove-finite_map string_bytes nat_list_cmp_total password_of (slice_cmp-IsAntisymmetric nat_cmp-IsAntisymmetric) s.users new name (users_updates s new name None updates))
+    ∙ ap {A = Server} {B = Server} (λ v. record v { users = map.remove v.users name }) view_is
+
 -- the order's test for less is the test for less
 pub is_lt-nat_cmp : (a b : ℕ) → is_lt (nat_cmp a b) ≡ nat_lt a b
 is_lt-nat_cmp a b =

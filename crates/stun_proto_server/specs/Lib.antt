@@ -1,3 +1,4 @@
 pub mod Server
+pub mod Signing
 pub mod Validation
 pub mod View

@@ -3,4 +3,5 @@
 #![tactic(auto)]
 
 pub mod long_term;
+pub mod outgoing;
 pub mod validation;

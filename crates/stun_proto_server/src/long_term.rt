@@ -114,6 +114,14 @@ impl LongTermServerAuth {
         Ok(())
     }
 
+    /// Removes the user of a name. One that isn't there changes nothing. What was kept for an address
+    /// stays: a message to an address that was validated as this user's isn't signed any more.
+    pub fn remove_user(&mut self, user: &str)
+        ensures { self.new ≡ record self.old { users = map.remove self.old.users user.now } }
+    {
+        self.users.remove(user);
+    }
+
     /// The integrity algorithms that are supported, in the order in which they were added: at
     /// least one, and none twice.
     pub fn supported_integrity(&self) -> &[IntegrityAlgorithm]

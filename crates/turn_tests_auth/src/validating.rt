@@ -14,11 +14,11 @@ use stun_types_message::message::Message;
 use stun_types_wire::algorithm::IntegrityAlgorithm;
 
 /// An ALLOCATE request for UDP with USERNAME `user`, REALM `realm` and the first NONCE of the zero seed, not signed.
-const UNSIGNED: &str =
+pub(crate) const UNSIGNED: &str =
     "000300402112a44200000000000000000000739200190004110000000006000475736572001400057265616c6d0000000015001d6f624d61744a6f73325141414167796944624943587750446151316861000000";
 
 /// The same, signed by HMAC-SHA1 under the password `pass`. The next ones are signed so too, but where said.
-const SIGNED: &str =
+pub(crate) const SIGNED: &str =
     "000300582112a44200000000000000000000739200190004110000000006000475736572001400057265616c6d0000000015001d6f624d61744a6f7332514141416779694462494358775044615131686100000000080014d962baf8d45b23676d66d65b93d348cad097f263";
 
 /// A success response.
@@ -90,9 +90,9 @@ const SHORT_DIGEST: &str =
     "000300482112a44200000000000000000000739200190004110000000006000475736572001400057265616c6d0000000015001d6f624d61744a6f733251414141677969446249435877504461513168610000000008000401020304";
 
 /// The first nonce of the zero seed.
-const NONCE: &str = "obMatJos2QAAAgyiDbICXwPDaQ1ha";
+pub(crate) const NONCE: &str = "obMatJos2QAAAgyiDbICXwPDaQ1ha";
 
-fn server(alloc: Global) -> Result<LongTermServerAuth, Fail> {
+pub(crate) fn server(alloc: Global) -> Result<LongTermServerAuth, Fail> {
     let mut server = LongTermServerAuth::new(alloc, String::from_str(alloc, "realm")?);
     let name = String::from_str(alloc, "user")?;
     let password = String::from_str(alloc, "pass")?;
@@ -100,12 +100,12 @@ fn server(alloc: Global) -> Result<LongTermServerAuth, Fail> {
     Ok(server)
 }
 
-fn client() -> Result<SocketAddr, Fail> {
+pub(crate) fn client() -> Result<SocketAddr, Fail> {
     Ok("192.168.0.1:1000".parse()?)
 }
 
 /// What a server answers to a message, given in hex, in the first moment and with the zero seed.
-fn answer(
+pub(crate) fn answer(
     alloc: Global,
     server: &mut LongTermServerAuth,
     text: &str,

@@ -1,0 +1,115 @@
+//! The signing of what goes out.
+
+ghost use Rattle.std.specs.Prelude.{◌≡◌, ◌≢◌, ◌++◌, length, ℕ, List, None, Some, IfErr, IfOk};
+ghost use Rattle.stun_types_wire.specs.Attributes.{Attr, kind_at};
+ghost use Rattle.stun_types_wire.specs.Text.{message_text};
+ghost use Rattle.stun_types_wire.specs.Types.{class_of};
+ghost use Rattle.stun_types_write.specs.Adding.{IsBegun};
+ghost use Rattle.stun_proto_sign.specs.Addition.{Addition, addition_refusal, after_addition, attrs, kinds_of_addition, with_signature};
+ghost use Rattle.stun_proto_sign.specs.Sizes.{size_of_addition};
+ghost use Rattle.stun_proto_server.specs.Signing.{addition_for, class_asked, party_at};
+
+use crate::long_term::LongTermServerAuth;
+use std::net::SocketAddr;
+use stun_proto_sign::addressee::{Addressee, SigningUser};
+use stun_proto_sign::outgoing::sign_outgoing;
+use stun_proto_sign::size::signature_bytes;
+use stun_types_base::memory::NoMemory;
+use stun_types_wire::class::MessageClass;
+use stun_types_wire::error::StunWriteError;
+use stun_types_write::writer::MessageWrite;
+
+impl LongTermServerAuth {
+    /// Signs a message that goes to an address, by what is kept for the address, and gives the writer
+    /// back (RFC 8489, section 9.2). Where the last message from the address was validated as a
+    /// user's, a response gets the integrity attribute of that user, under the key of the user's
+    /// present password in the server's realm, and by the algorithm of that validation; a request gets
+    /// USERNAME, REALM, NONCE and then that attribute; an indication gets nothing. Where it was not,
+    /// an error response gets REALM and NONCE, which is a nonce of any age. The integrity attribute
+    /// stands alone, and is written in full. PASSWORD-ALGORITHMS, which a server that supports more
+    /// than `Sha1` has to add to such an error response, is not written yet.
+    ///
+    /// Refused with `IntegrityFailed` where no nonce is kept for the address; where its last message
+    /// was not validated, and the message is no error response; and where the user by whom it was
+    /// validated is no user any more. Else the attributes are added one after another, and the first
+    /// cause counts: of a text `TooLarge`, for more than 513 bytes of a name or 763 of a realm or a
+    /// nonce, and then the causes of `add_attribute`; of the integrity attribute those of
+    /// `add_message_integrity`. Where memory is refused, `NoMemory`. A refusal drops the writer. The
+    /// server is as it was in each case.
+    pub fn sign_outgoing_message<W: MessageWrite + Drop>(
+        &self,
+        writer: W,
+        to: SocketAddr,
+    ) -> Result<W, StunWriteError>
+        requires { IsBegun (W.written writer) }
+        ensures written { IfOk result (λ signed. W.written signed ≡ after_addition (W.written writer) (addition_for self.now to (class_of (kind_at (W.written writer))))) }
+        // A message text becomes the text of all that is added.
+        ensures text { IfOk result (λ signed. (a : Addition) × (addition_for self.now to (class_of (kind_at (W.written writer))) ≡ Some a)
+            × ((mtype number : ℕ) (adds : List Attr) → W.written writer ≡ message_text mtype number adds → W.written signed ≡ message_text mtype number (with_signature a.signer mtype number (adds ++ attrs a.texts)))) }
+        ensures kinds { IfOk result (λ signed. W.kinds signed ≡ W.kinds writer ++ kinds_of_addition (addition_for self.now to (class_of (kind_at (W.written writer))))) }
+        ensures accepted { IfOk result (λ _. addition_refusal (addition_for self.now to (class_of (kind_at (W.written writer)))) (W.kinds writer) (W.limit writer) (length (W.written writer)) ≡ None) }
+        ensures refused { IfErr result (λ error. error ≢ StunWriteError.NoMemory → addition_refusal (addition_for self.now to (class_of (kind_at (W.written writer)))) (W.kinds writer) (W.limit writer) (length (W.written writer)) ≡ Some error) }
+        ensures limit { IfOk result (λ signed. W.limit signed ≡ W.limit writer) }
+        ensures begun { IfOk result (λ signed. IsBegun (W.written signed)) }
+    {
+        match self.addressee(to) {
+            Some(addressee) => sign_outgoing(self.alloc(), writer, &addressee),
+            None => Err(StunWriteError::IntegrityFailed),
+        }
+    }
+
+    /// The same, where `sign_outgoing_message` has nothing to refuse but for memory. Where memory is
+    /// refused, `NoMemory`, and the writer is dropped. The server is as it was.
+    pub fn sign_outgoing_message_unchecked<W: MessageWrite + Drop>(
+        &self,
+        writer: W,
+        to: SocketAddr,
+    ) -> Result<W, NoMemory>
+        requires begun { IsBegun (W.written writer) }
+        requires accepted { addition_refusal (addition_for self.now to (class_of (kind_at (W.written writer)))) (W.kinds writer) (W.limit writer) (length (W.written writer)) ≡ None }
+        ensures written { IfOk result (λ signed. W.written signed ≡ after_addition (W.written writer) (addition_for self.now to (class_of (kind_at (W.written writer))))) }
+        ensures text { IfOk result (λ signed. (a : Addition) × (addition_for self.now to (class_of (kind_at (W.written writer))) ≡ Some a)
+            × ((mtype number : ℕ) (adds : List Attr) → W.written writer ≡ message_text mtype number adds → W.written signed ≡ message_text mtype number (with_signature a.signer mtype number (adds ++ attrs a.texts)))) }
+        ensures kinds { IfOk result (λ signed. W.kinds signed ≡ W.kinds writer ++ kinds_of_addition (addition_for self.now to (class_of (kind_at (W.written writer))))) }
+        ensures limit { IfOk result (λ signed. W.limit signed ≡ W.limit writer) }
+        ensures begun { IfOk result (λ signed. IsBegun (W.written signed)) }
+    {
+        match self.sign_outgoing_message(writer, to) {
+            Ok(signed) => Ok(signed),
+            Err(_) => Err(NoMemory),
+        }
+    }
+
+    /// How many bytes `sign_outgoing_message` adds for an address: to a request, or else to a
+    /// response, which is an error response where the last message from the address was not validated.
+    /// It is 0 where nothing may be added, and where a text that would be is over its limit.
+    pub fn message_signature_bytes(&self, to: SocketAddr, is_request: bool) -> usize
+        ensures { result ≡ size_of_addition (addition_for self.now to (class_asked is_request)) }
+    {
+        let class = if is_request {
+            MessageClass::Request
+        } else {
+            MessageClass::Error
+        };
+        match self.addressee(to) {
+            Some(addressee) => signature_bytes(&addressee, class),
+            None => 0,
+        }
+    }
+
+    /// What is known of the party at an address, where a nonce is kept for it, and where a user by
+    /// whom it was validated is a user still.
+    fn addressee(&self, to: SocketAddr) -> Option<Addressee<'_>>
+        ensures { result ≡ party_at self.now to }
+    {
+        let nonce = self.nonce_for_client(to)?;
+        match self.validated_user(to) {
+            Some(user) => {
+                let password = self.password_of(Some(user.name()))?;
+                let user = SigningUser::new(user.name(), password, user.algorithm());
+                Some(Addressee::new(self.realm(), nonce, Some(user)))
+            }
+            None => Some(Addressee::new(self.realm(), nonce, None)),
+        }
+    }
+}

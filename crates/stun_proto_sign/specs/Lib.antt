@@ -1,0 +1,3 @@
+pub mod Addition
+pub mod Sizes
+pub mod Stages
