@@ -4,6 +4,7 @@ ghost use Rattle.std.specs.Prelude.{◌≡◌, ◌≢◌, ◌++◌, length, ℕ,
 ghost use Rattle.stun_types_wire.specs.Attributes.{Attr, kind_at};
 ghost use Rattle.stun_types_wire.specs.Text.{message_text};
 ghost use Rattle.stun_types_wire.specs.Types.{class_of};
+ghost use Rattle.stun_types_wire.specs.declared.class.MessageClass.TheVariants.{Request, Success, Error};
 ghost use Rattle.stun_types_write.specs.Adding.{IsBegun};
 ghost use Rattle.stun_proto_sign.specs.Addition.{Addition, addition, addition_for_user, addition_refusal, addition_unvalidated, after_addition, attrs, kinds_of_addition, with_signature};
 ghost use Rattle.stun_proto_sign.specs.Stages.{IsMade};
@@ -82,15 +83,45 @@ fn add_for_user<W: MessageWrite>(
     ensures limit { W.limit writer.new ≡ W.limit writer.old }
 {
     match class {
-        MessageClass::Request => {
-            add_claim(alloc, writer, user.name(), to.realm(), to.nonce())?;
-            add_integrity(alloc, writer, to.realm(), user)
-        }
+        MessageClass::Request => add_to_request(alloc, writer, to, user),
         MessageClass::Indication => Ok(()),
-        MessageClass::Success | MessageClass::Error => {
-            add_integrity(alloc, writer, to.realm(), user)
-        }
+        MessageClass::Success | MessageClass::Error => add_to_response(alloc, writer, to, user),
     }
+}
+
+/// Adds what a request gets where its addressee was validated.
+#[tactic(auto, using(crate::proofs::Composed::texts_refused, crate::proofs::Composed::signer_refused))]
+fn add_to_request<W: MessageWrite>(
+    alloc: Global,
+    writer: &mut W,
+    to: &Addressee<'_>,
+    user: &SigningUser<'_>,
+) -> Result<(), StunWriteError>
+    requires { IsBegun (W.written writer.old) }
+    ensures ok { OnOk result (IsMade (Some (addition_for_user to.now.realm to.now.nonce user.now Request)) (W.limit writer.old) (W.written writer.old) (W.kinds writer.old) (W.written writer.new) (W.kinds writer.new)) }
+    ensures refused { IfErr result (λ error. error ≢ StunWriteError.NoMemory → addition_refusal (Some (addition_for_user to.now.realm to.now.nonce user.now Request)) (W.kinds writer.old) (W.limit writer.old) (length (W.written writer.old)) ≡ Some error) }
+    ensures limit { W.limit writer.new ≡ W.limit writer.old }
+{
+    add_claim(alloc, writer, user.name(), to.realm(), to.nonce())?;
+    add_integrity(alloc, writer, to.realm(), user)?;
+    Ok(())
+}
+
+/// Adds what a response gets where its addressee was validated.
+#[tactic(auto, using(crate::proofs::Composed::signer_refused, crate::proofs::Composed::none_added))]
+fn add_to_response<W: MessageWrite>(
+    alloc: Global,
+    writer: &mut W,
+    to: &Addressee<'_>,
+    user: &SigningUser<'_>,
+) -> Result<(), StunWriteError>
+    requires { IsBegun (W.written writer.old) }
+    ensures ok { OnOk result (IsMade (Some (addition_for_user to.now.realm to.now.nonce user.now Success)) (W.limit writer.old) (W.written writer.old) (W.kinds writer.old) (W.written writer.new) (W.kinds writer.new)) }
+    ensures refused { IfErr result (λ error. error ≢ StunWriteError.NoMemory → addition_refusal (Some (addition_for_user to.now.realm to.now.nonce user.now Success)) (W.kinds writer.old) (W.limit writer.old) (length (W.written writer.old)) ≡ Some error) }
+    ensures limit { W.limit writer.new ≡ W.limit writer.old }
+{
+    add_integrity(alloc, writer, to.realm(), user)?;
+    Ok(())
 }
 
 /// Adds what a message of a class gets where its addressee was not validated.
@@ -106,9 +137,25 @@ fn add_unvalidated<W: MessageWrite>(
     ensures limit { W.limit writer.new ≡ W.limit writer.old }
 {
     match class {
-        MessageClass::Error => add_realm_and_nonce(alloc, writer, to.realm(), to.nonce()),
+        MessageClass::Error => add_to_challenge(alloc, writer, to),
         MessageClass::Request | MessageClass::Indication | MessageClass::Success => {
             Err(StunWriteError::IntegrityFailed)
         }
     }
+}
+
+/// Adds what an error response gets where its addressee was not validated.
+#[tactic(auto, using(crate::proofs::Composed::texts_refused))]
+fn add_to_challenge<W: MessageWrite>(
+    alloc: Global,
+    writer: &mut W,
+    to: &Addressee<'_>,
+) -> Result<(), StunWriteError>
+    requires { IsBegun (W.written writer.old) }
+    ensures ok { OnOk result (IsMade (addition_unvalidated to.now.realm to.now.nonce Error) (W.limit writer.old) (W.written writer.old) (W.kinds writer.old) (W.written writer.new) (W.kinds writer.new)) }
+    ensures refused { IfErr result (λ error. error ≢ StunWriteError.NoMemory → addition_refusal (addition_unvalidated to.now.realm to.now.nonce Error) (W.kinds writer.old) (W.limit writer.old) (length (W.written writer.old)) ≡ Some error) }
+    ensures limit { W.limit writer.new ≡ W.limit writer.old }
+{
+    add_realm_and_nonce(alloc, writer, to.realm(), to.nonce())?;
+    Ok(())
 }

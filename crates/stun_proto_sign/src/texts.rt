@@ -14,6 +14,7 @@ use stun_types_wire::error::StunWriteError;
 use stun_types_write::writer::MessageWrite;
 
 /// Adds the USERNAME of a name. Refused as `Username::new` is, and then as `add_attribute`.
+#[tactic(auto, using(crate::proofs::Composed::text_refused))]
 fn add_username<W: MessageWrite>(
     alloc: Global,
     writer: &mut W,
@@ -25,10 +26,12 @@ fn add_username<W: MessageWrite>(
     ensures limit { W.limit writer.new ≡ W.limit writer.old }
 {
     let username = Username::new(alloc, name)?;
-    add_as(writer, &username, &username)
+    add_as(writer, &username, &username)?;
+    Ok(())
 }
 
 /// Adds the REALM of a text. Refused as `Realm::new` is, and then as `add_attribute`.
+#[tactic(auto, using(crate::proofs::Composed::text_refused))]
 fn add_realm<W: MessageWrite>(
     alloc: Global,
     writer: &mut W,
@@ -40,10 +43,12 @@ fn add_realm<W: MessageWrite>(
     ensures limit { W.limit writer.new ≡ W.limit writer.old }
 {
     let realm = Realm::new(alloc, realm)?;
-    add_as(writer, &realm, &realm)
+    add_as(writer, &realm, &realm)?;
+    Ok(())
 }
 
 /// Adds the NONCE of a text. Refused as `Nonce::new` is, and then as `add_attribute`.
+#[tactic(auto, using(crate::proofs::Composed::text_refused))]
 fn add_nonce<W: MessageWrite>(
     alloc: Global,
     writer: &mut W,
@@ -55,10 +60,12 @@ fn add_nonce<W: MessageWrite>(
     ensures limit { W.limit writer.new ≡ W.limit writer.old }
 {
     let nonce = Nonce::new(alloc, nonce)?;
-    add_as(writer, &nonce, &nonce)
+    add_as(writer, &nonce, &nonce)?;
+    Ok(())
 }
 
 /// Adds REALM and then NONCE.
+#[tactic(auto, using(crate::proofs::Composed::first_refused, crate::proofs::Composed::rest_refused))]
 pub(crate) fn add_realm_and_nonce<W: MessageWrite>(
     alloc: Global,
     writer: &mut W,
@@ -71,10 +78,12 @@ pub(crate) fn add_realm_and_nonce<W: MessageWrite>(
     ensures limit { W.limit writer.new ≡ W.limit writer.old }
 {
     add_realm(alloc, writer, realm)?;
-    add_nonce(alloc, writer, nonce)
+    add_nonce(alloc, writer, nonce)?;
+    Ok(())
 }
 
 /// Adds USERNAME, REALM and then NONCE.
+#[tactic(auto, using(crate::proofs::Composed::first_refused, crate::proofs::Composed::rest_refused))]
 pub(crate) fn add_claim<W: MessageWrite>(
     alloc: Global,
     writer: &mut W,
@@ -88,5 +97,6 @@ pub(crate) fn add_claim<W: MessageWrite>(
     ensures limit { W.limit writer.new ≡ W.limit writer.old }
 {
     add_username(alloc, writer, name)?;
-    add_realm_and_nonce(alloc, writer, realm, nonce)
+    add_realm_and_nonce(alloc, writer, realm, nonce)?;
+    Ok(())
 }
