@@ -1,6 +1,8 @@
 //! Messages that a server signs. The expected bytes were made by another program, by MD5 and HMAC-SHA1.
 
 ghost use Rattle.std.specs.Prelude.{[], ◌≡◌, IfOk};
+ghost use Rattle.stun_types_wire.specs.Text.{message_text};
+ghost use Rattle.stun_types_wire.specs.Types.{type_of};
 ghost use Rattle.stun_types_write.specs.Adding.{IsBegun};
 
 use crate::validating::{NONCE, SIGNED, UNSIGNED, answer, client, server};
@@ -42,7 +44,9 @@ const CHALLENGE: &str =
 
 /// A message of the method ALLOCATE and a class that is begun.
 fn begun(alloc: Global, class: MessageClass) -> Result<MessageWriteVec, NoMemory>
-    ensures { IfOk result (λ writer. IsBegun writer.bytes) }
+    ensures bytes { IfOk result (λ writer. writer.bytes ≡ message_text (type_of class 3) 0x7392 []) }
+    ensures kinds { IfOk result (λ writer. writer.kinds ≡ []) }
+    ensures begun { IfOk result (λ writer. IsBegun writer.bytes) }
 {
     let mtype = MessageType::from_class_method(class, Method(3));
     let number = TransactionId::from(0x7392u128);
@@ -73,11 +77,27 @@ fn messages_to_a_user_are_signed(rt: HostRuntime) -> Result<(), Fail> {
         let expected = hex::decode(rt.alloc(), text)?;
         let bytes = signed(rt.alloc(), &server, class, client()?)?;
         assert_eq!(rt; bytes.as_slice(), expected.as_slice(), "{text}");
+        let bytes = signed_again(rt.alloc(), &server, class, client()?)?;
+        assert_eq!(rt; bytes.as_slice(), expected.as_slice(), "{text}");
     }
     assert_eq!(rt; server.message_signature_bytes(client()?, true), 80);
     assert_eq!(rt; server.message_signature_bytes(client()?, false), 24);
     assert_eq!(rt; server.nonce_for_client(client()?), Some(NONCE));
     Ok(())
+}
+
+/// What it makes of that message, once it has taken the same one.
+fn signed_again(
+    alloc: Global,
+    server: &LongTermServerAuth,
+    class: MessageClass,
+    to: SocketAddr,
+) -> Result<Vec<u8>, StunWriteError> {
+    let first = begun(alloc, class)?;
+    let second = begun(alloc, class)?;
+    let _ = server.sign_outgoing_message(first, to)?;
+    let signed = server.sign_outgoing_message_unchecked(second, to)?;
+    Ok(signed.finish())
 }
 
 #[test]
