@@ -1,3 +1,4 @@
 pub mod Apart
 pub mod Maps
+pub mod Signed
 pub mod Validated

@@ -1,13 +1,14 @@
 //! The signing of what goes out.
 
-ghost use Rattle.std.specs.Prelude.{◌≡◌, ◌≢◌, ◌++◌, length, ℕ, List, None, Some, IfErr, IfOk};
+ghost use Rattle.std.specs.Prelude.{◌≡◌, ◌≢◌, ◌++◌, length, ℕ, List, None, Some, IsSome, IfErr, IfOk, false};
 ghost use Rattle.stun_types_wire.specs.Attributes.{Attr, kind_at};
 ghost use Rattle.stun_types_wire.specs.Text.{message_text};
 ghost use Rattle.stun_types_wire.specs.Types.{class_of};
 ghost use Rattle.stun_types_write.specs.Adding.{IsBegun};
 ghost use Rattle.stun_proto_sign.specs.Addition.{Addition, addition_refusal, after_addition, attrs, kinds_of_addition, with_signature};
 ghost use Rattle.stun_proto_sign.specs.Sizes.{size_of_addition};
-ghost use Rattle.stun_proto_server.specs.Signing.{addition_for, class_asked, party_at};
+ghost use Rattle.stun_types_wire.specs.declared.class.MessageClass.TheVariants.{Success};
+ghost use Rattle.stun_proto_server.specs.Signing.{addition_for, class_asked as class_of_size, party_at};
 
 use crate::long_term::LongTermServerAuth;
 use std::net::SocketAddr;
@@ -84,13 +85,17 @@ impl LongTermServerAuth {
     /// response, which is an error response where the last message from the address was not validated.
     /// It is 0 where nothing may be added, and where a text that would be is over its limit.
     pub fn message_signature_bytes(&self, to: SocketAddr, is_request: bool) -> usize
-        ensures { result ≡ size_of_addition (addition_for self.now to (class_asked is_request)) }
+        ensures bytes { result ≡ size_of_addition (addition_for self.now to (class_of_size is_request)) }
+        // A success response that may be signed grows by as much as an error response.
+        ensures success { is_request ≡ false → IsSome (addition_for self.now to Success) → result ≡ size_of_addition (addition_for self.now to Success) }
     {
-        let class = if is_request {
-            MessageClass::Request
-        } else {
-            MessageClass::Error
-        };
+        self.bytes_for(to, class_asked(is_request))
+    }
+
+    /// How many bytes `sign_outgoing_message` adds to a message of a class for an address.
+    fn bytes_for(&self, to: SocketAddr, class: MessageClass) -> usize
+        ensures { result ≡ size_of_addition (addition_for self.now to class) }
+    {
         match self.addressee(to) {
             Some(addressee) => signature_bytes(&addressee, class),
             None => 0,
@@ -111,5 +116,16 @@ impl LongTermServerAuth {
             }
             None => Some(Addressee::new(self.realm(), nonce, None)),
         }
+    }
+}
+
+/// The class by which a size is asked for: of a request, or else of a response.
+fn class_asked(is_request: bool) -> MessageClass
+    ensures { result ≡ class_of_size is_request }
+{
+    if is_request {
+        MessageClass::Request
+    } else {
+        MessageClass::Error
     }
 }

@@ -1,5 +1,5 @@
 -- The steps of an addition, one after another.
-use Rattle.std.proofs.Common.{◌≡◌, ℕ, ◌+◌, ◌-◌, ◌≤◌, List, [], ◌∷◌, ◌++◌, length, Option, Some, None, refl, sym, ap, ◌∙◌, append_assoc, add_assoc, arith}
+use Rattle.std.proofs.Common.{◌≡◌, ℕ, ◌+◌, ◌-◌, ◌≤◌, List, [], ◌∷◌, ◌++◌, length, Option, Some, None, refl, sym, ap, ◌∙◌, append_assoc, arith}
 use Rattle.std.specs.Option.{option_or}
 use Rattle.std.proofs.lemmas.List.{length-append, append-nil}
 use Rattle.stun_types_wire.specs.declared.error.StunWriteError.{StunWriteError}
@@ -10,8 +10,8 @@ use Rattle.stun_types_attribute.specs.Texts.{text_refusal}
 use Rattle.stun_types_integrity.specs.Credentials.{Key}
 use Rattle.stun_types_integrity.specs.Signing.{signature}
 use Rattle.stun_types_build.proofs.Adds.{length-attribute_text, long_enough, one_more}
-use Rattle.stun_proto_sign.specs.Addition.{TextOf, Addition, addition_refusal, after_signer, after_texts, attr_of_text, attrs, kinds_of_signer, kinds_of_texts, signer_refusal, size_of_text, size_of_texts, texts_refusal, with_signature}
-use Rattle.stun_proto_sign.specs.Stages.{AreAdded, IsMade, IsSealed, Signs}
+use Rattle.stun_proto_sign.specs.Addition.{TextOf, addition_refusal, after_signer, after_texts, attr_of_text, attrs, kinds_of_signer, kinds_of_texts, signer_refusal, size_of_text, size_of_texts, texts_refusal, with_signature}
+use Rattle.stun_proto_sign.specs.Stages.{AreAdded, IsMade, IsSealed}
 
 -- ---- one text
 

@@ -1,5 +1,5 @@
 -- What is added to a message for a party, what that makes of the message, and why it is not added (RFC 8489, sections 9.2 and 14).
-use Rattle.std.specs.Prelude.{◌≡◌, ℕ, ◌+◌, List, [], ◌∷◌, ◌++◌, length, map, Option, Some, None}
+use Rattle.std.specs.Prelude.{ℕ, ◌+◌, List, [], ◌∷◌, ◌++◌, map, Option, Some, None}
 use Rattle.std.specs.Option.{option_or}
 use Rattle.stun_types_wire.specs.declared.algorithm.IntegrityAlgorithm.{IntegrityAlgorithm}
 use Rattle.stun_types_wire.specs.declared.class.MessageClass.{MessageClass}
@@ -10,7 +10,7 @@ use Rattle.stun_types_wire.specs.Attributes.{Attr, attr_size}
 use Rattle.stun_types_wire.specs.Text.{message_text}
 use Rattle.stun_types_write.specs.Adding.{attr_of, after_add, add_refusal}
 use Rattle.stun_types_attribute.specs.Texts.{longest_text, longest_username, text_refusal}
-use Rattle.stun_types_integrity.specs.Credentials.{Key, LongTermSecret, long_term_key}
+use Rattle.stun_types_integrity.specs.Credentials.{Key, long_term_key}
 use Rattle.stun_types_integrity.specs.Integrity.{attribute_kind}
 use Rattle.stun_types_integrity.specs.Signing.{signature, signing_refusal}
 
