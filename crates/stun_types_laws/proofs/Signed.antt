@@ -123,7 +123,7 @@ size_of : (algorithm : IntegrityAlgorithm) (n : ℕ) → n ≡ hmac_length algor
 size_of Sha1 n is = (omega arith, omega arith)
 size_of Sha256 n is = (omega arith, omega arith)
 
-signature_length : (algorithm : IntegrityAlgorithm) (key bytes : List ℕ) → length (signature algorithm key bytes).value ≡ hmac_length algorithm
+pub signature_length : (algorithm : IntegrityAlgorithm) (key bytes : List ℕ) → length (signature algorithm key bytes).value ≡ hmac_length algorithm
 unfolding signature
 signature_length algorithm key bytes = length-hmac algorithm key (text_to_sign algorithm bytes)
 

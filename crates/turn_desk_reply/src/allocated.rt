@@ -1,0 +1,83 @@
+//! The success response to an ALLOCATE (RFC 8656, section 7.3).
+
+ghost use Rattle.std.specs.Prelude.{◌≡◌, ◌≤◌, ◌++◌, length, ℕ, List, IfOk, OnOk, option_to_list};
+ghost use Rattle.std.specs.Option.{option_copied};
+ghost use Rattle.stun_types_wire.specs.Attributes.{Attr, kind_at};
+ghost use Rattle.stun_types_wire.specs.Types.{class_of};
+ghost use Rattle.stun_types_wire.specs.Grammar.{number_at};
+ghost use Rattle.stun_types_wire.specs.declared.class.MessageClass.TheVariants.{Request};
+ghost use Rattle.stun_types_write.specs.Adding.{IsBegun};
+ghost use Rattle.turn_desk_reply.specs.Replies.{IsReadableSigned, IsReply, IsSignable, allocated_attributes, relayed_attributes, success_type};
+
+use std::alloc::Global;
+use std::net::SocketAddr;
+use stun_types::attribute::XorMappedAddress;
+use stun_types::message::{Message, MessageWriteVec, StunWriteError, TransactionId, add_as};
+use stun_types_base::memory::NoMemory;
+use turn_types_attribute::lifetime::Lifetime;
+use turn_types_attribute::xor_relayed_address::XorRelayedAddress;
+
+/// The success response to an ALLOCATE that came from an address: it shows XOR-RELAYED-ADDRESS for
+/// each relayed address, in order, LIFETIME in seconds, and XOR-MAPPED-ADDRESS of where the request
+/// came from. Where memory is refused, `NoMemory`.
+pub fn allocated(
+    alloc: Global,
+    request: &Message,
+    relayed: &[SocketAddr],
+    lifetime: u32,
+    from: SocketAddr,
+) -> Result<MessageWriteVec, NoMemory>
+    requires request { class_of (kind_at request.now) ≡ Request }
+    requires few { length relayed.now ≤ 2 }
+    ensures reply { IfOk result (λ reply. IsReply (success_type request.now) (number_at request.now) (allocated_attributes (number_at request.now) relayed.now lifetime from) reply) }
+    ensures signable { IfOk result (λ reply. IsSignable reply) }
+    // A signed message that shows this is read as showing it.
+    ensures signed { IfOk result (λ _. IsReadableSigned (allocated_attributes (number_at request.now) relayed.now lifetime from)) }
+{
+    match write_allocated(alloc, request, relayed, lifetime, from) {
+        Ok(reply) => Ok(reply),
+        Err(_) => Err(NoMemory),
+    }
+}
+
+/// `allocated`, with the errors of the writer.
+fn write_allocated(
+    alloc: Global,
+    request: &Message,
+    relayed: &[SocketAddr],
+    lifetime: u32,
+    from: SocketAddr,
+) -> Result<MessageWriteVec, StunWriteError>
+    requires request { class_of (kind_at request.now) ≡ Request }
+    requires few { length relayed.now ≤ 2 }
+    ensures reply { IfOk result (λ reply. IsReply (success_type request.now) (number_at request.now) (allocated_attributes (number_at request.now) relayed.now lifetime from) reply) }
+    ensures signable { IfOk result (λ reply. IsSignable reply) }
+    ensures signed { IfOk result (λ _. IsReadableSigned (allocated_attributes (number_at request.now) relayed.now lifetime from)) }
+{
+    let number = request.transaction_id();
+    let lifetime = Lifetime::new(lifetime);
+    let mapped = XorMappedAddress::new(from, number);
+    let mut reply = Message::builder_success(request, MessageWriteVec::new(alloc))?;
+    add_relayed(&mut reply, relayed.first(), number)?;
+    add_relayed(&mut reply, relayed.get(1), number)?;
+    add_as(&mut reply, &lifetime, &lifetime)?;
+    add_as(&mut reply, &mapped, &mapped)?;
+    Ok(reply)
+}
+
+/// Adds XOR-RELAYED-ADDRESS to a reply of this number, where there is an address.
+fn add_relayed(
+    reply: &mut MessageWriteVec,
+    relayed: Option<&SocketAddr>,
+    number: TransactionId,
+) -> Result<(), StunWriteError>
+    requires { IsBegun reply.old.bytes }
+    ensures reply { OnOk result ((kind : ℕ) (attributes : List Attr) → IsReply kind number attributes reply.old → IsReply kind number (attributes ++ relayed_attributes number (option_to_list (option_copied relayed.entry))) reply.new) }
+    ensures begun { IsBegun reply.new.bytes }
+{
+    if let Some(addr) = relayed {
+        let relayed = XorRelayedAddress::new(*addr, number);
+        add_as(reply, &relayed, &relayed)?;
+    }
+    Ok(())
+}
