@@ -1,2 +1,4 @@
-pub mod Challenges
+pub mod Grants
+pub mod Keys
 pub mod Nonces
+pub mod Numbers

@@ -1,3 +1,5 @@
-pub mod Challenge
-pub mod State
 pub mod Lending
+pub mod Requests
+pub mod State
+pub mod Steps
+pub mod Verdicts

@@ -1,39 +1,39 @@
 //! The desk: requests in, replies out.
 
-ghost use Rattle.std.specs.Prelude.{◌≡◌, ◌⊎◌, ◌↔◌, ◌≤◌, IsTrue, IsSome, IfOk, OnErr, None, Some, MatchOption, length, [], ℕ, List};
-ghost use Rattle.stun_types_wire.specs.Attributes.{kind_at};
-ghost use Rattle.stun_types_wire.specs.Types.{class_of};
-ghost use Rattle.stun_types_wire.specs.Grammar.{refusal, number_at};
-ghost use Rattle.stun_types_wire.specs.declared.class.MessageClass.TheVariants.{Request};
-ghost use Rattle.stun_types_base.specs.Words.{stream_after};
-ghost use Rattle.stun_types_grammar.specs.Reading.{IsReadAs};
-ghost use Rattle.stun_proto_server.specs.Server.{nonce_at, refreshed, words_drawn};
+ghost use Rattle.std.specs.Prelude.{◌≡◌, ◌≢◌, ◌↔◌, ◌++◌, ◌∷◌, IfOk, OnErr, IsSome, None, Some, MatchOption, [], ℕ, List, true};
 ghost use Rattle.std.specs.Borrow.{sem};
+ghost use Rattle.std.specs.declared.net.socket_addr.SocketAddr.{SocketAddr};
+ghost use Rattle.stun_types_base.specs.Words.{stream_after};
+ghost use Rattle.stun_types_wire.specs.Attributes.{Attr};
+ghost use Rattle.stun_types_wire.specs.Grammar.{number_at};
+ghost use Rattle.stun_types_write.specs.Adding.{IsBegun};
+ghost use Rattle.stun_types_wire.specs.Text.{message_text};
+ghost use Rattle.stun_proto_judge.specs.Judgement.{is_response};
+ghost use Rattle.stun_proto_server.specs.Server.{SameFor, nonce_at, words_drawn};
+ghost use Rattle.turn_desk_reply.specs.Replies.{IsReadable, IsReadableSigned, IsSignable, error_type};
+ghost use Rattle.turn_desk_core.specs.declared.grant.Grant.{Grant as Granted};
 ghost use Rattle.turn_desk_core.specs.Lending.{LendsAuth};
-ghost use Rattle.turn_desk_core.specs.Challenge.{IsUnsignedAllocate, challenge_attributes, challenge_text, error_type};
+ghost use Rattle.turn_desk_core.specs.Requests.{IsServed, transport_asked};
+ghost use Rattle.turn_desk_core.specs.Steps.{IsAnswer, IsAuthAfter, IsGranted, IsSignedFor, key_at, refusal_attributes};
+ghost use Rattle.turn_desk_core.specs.Verdicts.{grants_of, reply_attributes, reply_type, verdict};
 
 use crate::decision::Decision;
 use crate::grant::Grant;
+use crate::request::{ALLOCATE, is_served};
+use crate::verdict::{Verdict, judge};
 use rand_core::Rng;
 use std::alloc::Global;
 use std::marker::Model;
 use std::net::SocketAddr;
 use stun_proto_agent::instant::Instant;
+use stun_proto_judge::error::LongTermServerAuthError;
 use stun_proto_server::long_term::LongTermServerAuth;
-use stun_types::attribute::{AttributeType, ErrorCode, Nonce, Realm};
-use stun_types::message::{
-    Message, MessageClass, MessageWrite, MessageWriteVec, Method, StunWriteError, add_as,
-};
+use stun_types::attribute::ErrorCode;
+use stun_types::message::{Message, MessageWrite, MessageWriteVec};
 use stun_types_base::list::ListOf;
 use stun_types_base::memory::NoMemory;
-
-/// ALLOCATE (RFC 8656, section 17).
-const ALLOCATE: Method = Method(0x003);
-
-/// The attributes by which a message is signed.
-const MESSAGE_INTEGRITY: AttributeType = AttributeType(0x0008);
-
-const MESSAGE_INTEGRITY_SHA256: AttributeType = AttributeType(0x001C);
+use turn_desk_reply::allocated::allocated;
+use turn_desk_reply::failure::{challenge, failure};
 
 /// A small server core. Contracts see its authenticator and what it granted.
 #[derive(Debug, Drop)]
@@ -75,7 +75,7 @@ impl Desk {
         &mut self.auth
     }
 
-    /// What was granted, in order. Nothing is granted yet: that work is not done.
+    /// What was granted, in order.
     pub fn grants(&self) -> &[Grant]
         ensures { result.now ≡ self.now.grants }
     {
@@ -85,93 +85,147 @@ impl Desk {
     /// The reply to bytes that came from an address at a moment, where there is one; what the driver
     /// decides of the request; and the random words of which a nonce is drawn where one is due.
     ///
-    /// An ALLOCATE request that shows no integrity attribute is answered by a challenge: an error
-    /// response with its number that shows ERROR-CODE 401, REALM and NONCE, and the nonce stands for
-    /// that address (RFC 8489, section 9.2.4). Everything else is answered by nothing: bytes that
-    /// are no message, other classes and methods, and, until that work is done, signed requests.
+    /// Only ALLOCATE requests are answered. To bytes that are no message, and to other classes and
+    /// methods, the answer is `None`, and nothing changes. A request is validated first (RFC 8489,
+    /// section 9.2.4). Where it shows no integrity attribute, names no user, or its digest is wrong,
+    /// the reply is a challenge: an error response with its number that shows ERROR-CODE 401, REALM
+    /// and NONCE. Where its nonce is not the one that stands for its address, the challenge has 438.
+    /// Where it lacks what validation needs, the reply is an error response that shows ERROR-CODE 400
+    /// alone.
+    ///
+    /// A request that is validated as a user's gets a signed reply, under the key that validated it
+    /// (RFC 8656, section 7.2): an error response with 400 where it asks for neither UDP nor TCP by
+    /// REQUESTED-TRANSPORT, with the code of a decision that refuses it, and with 500 where the
+    /// decision doesn't fit: it is none for an ALLOCATE, has another number of addresses than one
+    /// or two, has two of one family, or refuses with a code that is not from 300 to 699. Else the
+    /// allocation is granted: the success response shows XOR-RELAYED-ADDRESS of each address, LIFETIME
+    /// and XOR-MAPPED-ADDRESS, and `grants` has one more grant. A signing is refused for want of memory
+    /// alone.
     ///
     /// Where memory is refused, `NoMemory`: nothing was granted, and the authenticator is as it was,
-    /// or has the nonce that was drawn.
+    /// or as validation left it.
     pub fn handle<R: Rng>(
         &mut self,
         bytes: &[u8],
         from: SocketAddr,
         now: Instant,
-        _decision: &Decision,
+        decision: &Decision,
         rng: &mut R,
     ) -> Result<Option<Vec<u8>>, NoMemory>
-        // None exactly where the bytes are no unsigned ALLOCATE, and then nothing changes.
-        ensures none { IfOk result (λ answer. MatchOption answer (¬ IsUnsignedAllocate bytes.now) (λ _. IsUnsignedAllocate bytes.now)) }
-        // The reply is the challenge, with the realm and the nonce that stands for the address.
-        ensures reply { IfOk result (λ answer. MatchOption answer (self.new ≡ self.old) (λ reply.
-            (nonce : List ℕ) × (nonce_at self.new.auth from ≡ Some nonce) × (reply.items ≡ challenge_text bytes.now self.old.auth.realm nonce)
-            × IsReadAs (error_type bytes.now) (number_at bytes.now) (challenge_attributes self.old.auth.realm nonce) reply.items)) }
-        // The authenticator draws a nonce where one is due.
-        ensures after { IfOk result (λ answer. MatchOption answer (R.stream rng.new ≡ R.stream rng.old) (λ _.
-            (self.new ≡ record self.old { auth = refreshed self.old.auth from now (R.stream rng.old) })
-            × (R.stream rng.new ≡ stream_after (words_drawn self.old.auth from now) (R.stream rng.old)))) }
-        ensures refused { OnErr result (((self.new ≡ self.old) ⊎ (self.new ≡ record self.old { auth = refreshed self.old.auth from now (R.stream rng.old) }))
-            × (R.stream rng.new ≡ stream_after (words_drawn self.old.auth from now) (R.stream rng.old))) }
+        // None exactly where the bytes are no request that is served.
+        ensures none { IfOk result (λ answer. MatchOption answer (¬ IsServed bytes.now) (λ _. IsServed bytes.now)) }
+        // What is answered, what is granted, and what the authenticator keeps.
+        ensures answer { IfOk result (λ answer. MatchOption answer (self.new ≡ self.old) (λ reply. IsAnswer self.old from bytes.now now (R.stream rng.old) decision.now reply.items self.new)) }
+        // A grant is kept exactly where an allocation is granted.
+        ensures grants { IfOk result (λ answer. MatchOption answer (self.new.grants ≡ self.old.grants) (λ reply. (g : Granted) → (self.new.grants ≡ self.old.grants ++ g ∷ []) ↔ IsGranted self.old from bytes.now now (R.stream rng.old) decision.now reply.items g)) }
+        ensures memory { OnErr result ((self.new.grants ≡ self.old.grants) × IsAuthAfter self.old.auth from bytes.now now (R.stream rng.old) self.new.auth) }
+        ensures stream { IfOk result (λ answer. MatchOption answer (R.stream rng.new ≡ R.stream rng.old) (λ _. R.stream rng.new ≡ stream_after (words_drawn self.old.auth from now) (R.stream rng.old))) }
+        ensures stream_refused { OnErr result (R.stream rng.new ≡ stream_after (words_drawn self.old.auth from now) (R.stream rng.old)) }
+        // What the desk is to other addresses.
+        ensures others { (other : SocketAddr) → other ≢ from → SameFor other self.old.auth self.new.auth }
     {
         let Ok(request) = Message::from_bytes(bytes) else {
             return Ok(None);
         };
-        if !is_unsigned_allocate(&request) {
+        if !is_served(&request) {
             return Ok(None);
         }
-        self.auth.refresh_nonce(from, now, rng)?;
-        let reply = challenge(self.alloc, &self.auth, &request, from)?;
-        Ok(Some(reply))
+        match self
+            .auth
+            .validate_incoming_message(&request, from, now, rng)
+        {
+            Ok(_) => {
+                let reply = self.answer(&request, from, decision)?;
+                Ok(Some(reply))
+            }
+            Err(LongTermServerAuthError::NoMemory) => Err(NoMemory),
+            Err(error) => {
+                let reply = self.turn_away(&request, from, error)?;
+                Ok(Some(reply))
+            }
+        }
     }
-}
 
-/// Whether a message is an ALLOCATE request that shows no integrity attribute.
-fn is_unsigned_allocate(message: &Message) -> bool
-    requires { refusal message.now ≡ None }
-    ensures { IsTrue result ↔ IsUnsignedAllocate message.now }
-{
-    message.has_class(MessageClass::Request)
-        && message.has_method(ALLOCATE)
-        && !message.has_attribute(MESSAGE_INTEGRITY)
-        && !message.has_attribute(MESSAGE_INTEGRITY_SHA256)
-}
-
-/// The challenge of a request from an address for which a nonce is kept.
-fn challenge(
-    alloc: Global,
-    auth: &LongTermServerAuth,
-    request: &Message,
-    from: SocketAddr,
-) -> Result<Vec<u8>, NoMemory>
-    requires request { class_of (kind_at request.now) ≡ Request }
-    requires nonce { IsSome (nonce_at auth.now from) }
-    ensures { IfOk result (λ reply. (nonce : List ℕ) × (nonce_at auth.now from ≡ Some nonce) × (reply.items ≡ challenge_text request.now auth.now.realm nonce)
-        × (length auth.now.realm ≤ 763) × (length nonce ≤ 763)) }
-{
-    let nonce = auth.nonce_for_client(from).unwrap();
-    match write_challenge(alloc, request, auth.realm(), nonce) {
-        Ok(reply) => Ok(reply),
-        Err(_) => Err(NoMemory),
+    /// The reply to a request that was refused: an error response with 400 to a malformed one, else a
+    /// challenge. A nonce is kept for its address. Where memory is refused, `NoMemory`.
+    fn turn_away(
+        &self,
+        request: &Message,
+        from: SocketAddr,
+        error: LongTermServerAuthError,
+    ) -> Result<Vec<u8>, NoMemory>
+        requires request { IsServed request.now }
+        requires nonce { IsSome (nonce_at self.now.auth from) }
+        ensures { IfOk result (λ reply. (nonce : List ℕ) × (nonce_at self.now.auth from ≡ Some nonce)
+            × (reply.items ≡ message_text (error_type request.now) (number_at request.now) (refusal_attributes error self.now.auth.realm nonce)) × IsReadable (refusal_attributes error self.now.auth.realm nonce)) }
+    {
+        let nonce = self.auth.nonce_for_client(from).unwrap();
+        let realm = self.auth.realm();
+        let reply = match error {
+            LongTermServerAuthError::BadRequest => {
+                failure(self.alloc, request, ErrorCode::BAD_REQUEST)?
+            }
+            LongTermServerAuthError::StaleNonce => {
+                challenge(self.alloc, request, ErrorCode::STALE_NONCE, realm, nonce)?
+            }
+            _ => challenge(self.alloc, request, ErrorCode::UNAUTHORIZED, realm, nonce)?,
+        };
+        Ok(reply.finish())
     }
-}
 
-/// An error response that shows ERROR-CODE 401, REALM and NONCE. It is refused for memory alone,
-/// where the texts are no longer than theirs may be.
-fn write_challenge(
-    alloc: Global,
-    request: &Message,
-    realm: &str,
-    nonce: &str,
-) -> Result<Vec<u8>, StunWriteError>
-    requires { class_of (kind_at request.now) ≡ Request }
-    ensures { IfOk result (λ reply. (reply.items ≡ challenge_text request.now realm.now nonce.now) × (length realm.now ≤ 763) × (length nonce.now ≤ 763)) }
-{
-    let code = ErrorCode::builder(ErrorCode::UNAUTHORIZED).build(alloc)?;
-    let realm = Realm::new(alloc, realm)?;
-    let nonce = Nonce::new(alloc, nonce)?;
-    let mut writer = Message::builder_error(request, MessageWriteVec::new(alloc))?;
-    add_as(&mut writer, &code, &code)?;
-    add_as(&mut writer, &realm, &realm)?;
-    add_as(&mut writer, &nonce, &nonce)?;
-    Ok(writer.finish())
+    /// The signed reply to a request that was validated, and what is granted by it. Where memory is
+    /// refused, `NoMemory`, and nothing is granted.
+    fn answer(
+        &mut self,
+        request: &Message,
+        from: SocketAddr,
+        decision: &Decision,
+    ) -> Result<Vec<u8>, NoMemory>
+        requires request { IsServed request.now }
+        requires validated { IsSome (key_at self.old.auth from) }
+        ensures reply { IfOk result (λ reply. IsSignedFor self.old.auth from (reply_type request.now (verdict (transport_asked request.now) decision.now)) (number_at request.now) (reply_attributes request.now from (verdict (transport_asked request.now) decision.now)) reply.items) }
+        ensures readable { IfOk result (λ _. IsReadableSigned (reply_attributes request.now from (verdict (transport_asked request.now) decision.now))) }
+        ensures granted { IfOk result (λ _. self.new ≡ record self.old { grants = self.old.grants ++ grants_of request.now from (verdict (transport_asked request.now) decision.now) }) }
+        ensures err { OnErr result (self.new ≡ self.old) }
+    {
+        match judge(self.alloc, request, decision)? {
+            Verdict::Fails(code) => {
+                let reply = failure(self.alloc, request, code)?;
+                self.sign(reply, from)
+            }
+            Verdict::Allocates {
+                transport,
+                relayed,
+                lifetime,
+            } => {
+                let reply = allocated(self.alloc, request, relayed.as_slice(), lifetime, from)?;
+                let reply = self.sign(reply, from)?;
+                self.grants.push(Grant {
+                    method: ALLOCATE,
+                    number: request.transaction_id(),
+                    from,
+                    transport: Some(transport),
+                    relayed,
+                    lifetime: Some(lifetime),
+                    peers: ListOf::new(self.alloc),
+                    channel: None,
+                    connection: None,
+                })?;
+                Ok(reply)
+            }
+        }
+    }
+
+    /// A reply to an address, signed under the key of the user by whom its last message was
+    /// validated. Where memory is refused, `NoMemory`.
+    fn sign(&self, reply: MessageWriteVec, from: SocketAddr) -> Result<Vec<u8>, NoMemory>
+        requires response { is_response reply.bytes ≡ true }
+        requires begun { IsBegun reply.bytes }
+        requires signable { IsSignable reply }
+        requires validated { IsSome (key_at self.now.auth from) }
+        ensures { IfOk result (λ signed. (kind number : ℕ) (attributes : List Attr) → reply.bytes ≡ message_text kind number attributes → IsSignedFor self.now.auth from kind number attributes signed.items) }
+    {
+        let signed = self.auth.sign_outgoing_message_unchecked(reply, from)?;
+        Ok(signed.finish())
+    }
 }

@@ -5,3 +5,5 @@
 pub mod decision;
 pub mod desk;
 pub mod grant;
+mod request;
+mod verdict;

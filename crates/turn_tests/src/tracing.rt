@@ -71,8 +71,9 @@ fn challenge_of_a_desk_without_anonymous_names(rt: HostRuntime) {
 }
 
 #[test]
-fn nothing_answers_what_is_no_unsigned_allocate(rt: HostRuntime) {
-    // 19 bytes of a header; the desk's own reply; an indication; a BINDING request; a signed ALLOCATE
+fn nothing_answers_what_is_no_allocate(rt: HostRuntime) {
+    // the desk's own reply; 19 bytes of it; an indication; a BINDING request; a signed ALLOCATE that
+    // names no user, which is answered; no bytes
     let mut trace: &[u8] = b"desk realm sha1 auto\n\
 todesk 0 10.0.0.9:1 000300142112a442ade0b876903df1a0e56a5d40000d0004000007080019000411000000001a0000 0 grant\n\
 todesk 0 10.0.0.9:1 @1 0 grant\n\
@@ -85,8 +86,8 @@ todesk 0 10.0.0.9:1 - 0 grant\n";
     let status = replay(rt.alloc(), &mut trace, &mut output);
     assert_eq!(rt; status, Status::Done);
     assert!(rt;
-        output
-            .as_slice()
-            .ends_with(b"\nnone\nnone\nnone\nnone\nnone\nnone\n")
+        output.as_slice().ends_with(
+            b"\nnone\nnone\nnone\nnone\nreply 011300142112a4420000000000000000000000010009000f00000400426164205265717565737400\nnone\n"
+        )
     );
 }

@@ -1,23 +1,86 @@
-use Rattle.std.proofs.Common.{◌≡◌, arith, ap, ◌∙◌, List, ℕ}
-use Rattle.stun_proto_server.specs.Server.{Server}
+use Rattle.std.specs.Prelude.{◌<◌, slice_index}
+use Rattle.std.proofs.Common.{rules, arith, ◌≡◌, ◌≢◌, ◌⊎◌, inl, inr, List, ℕ, subst, sym, ap, ◌∙◌, refl}
+use Rattle.stun_types_wire.specs.Grammar.{number_at}
+use Rattle.stun_proto_judge.specs.declared.error.LongTermServerAuthError.TheVariants.{NoMemory}
+use Rattle.stun_proto_server.specs.Server.{SameFor}
+use Rattle.turn_desk_core.specs.Requests.{IsServed, transport_asked}
 use Rattle.turn_desk_core.specs.State.{State}
-use Rattle.turn_desk_core.specs.Challenge.{challenge_text}
-use Rattle.turn_desk_core.proofs.Challenges.{challenge_read, numbers_fit}
-use Rattle.turn_desk_core.proofs.Nonces.{refreshed_nonce, refreshed_realm}
+use Rattle.turn_desk_core.specs.Steps.{IsAnswer}
+use Rattle.turn_desk_core.specs.Verdicts.{verdict}
+use Rattle.turn_desk_core.proofs.Grants.{exactly_granted}
+use Rattle.turn_desk_core.proofs.Keys.{answered, challenged, refusal_after, refused_nonce, takes, takes_key}
 use Rattle.turn_desk_core.proofs.desk.Desk.handle.Goals as goal
 
-pub challenge-requires-clause-nonce : goal.challenge-requires-clause-nonce
-challenge-requires-clause-nonce g c = rw c.in_ok-refresh_nonce.ensures.ok (refreshed_nonce c.self.inside.auth c.args.from c.args.now _)
+pub answer-requires-clause-validated : goal.answer-requires-clause-validated
+answer-requires-clause-validated g c =
+    let stream = g.R.Rng.stream c.args.rng.now in
+    takes_key c.self.inside.auth c.args.from c.in-Ok.request c.args.now stream c.validate_incoming_message.new.self
+    (takes c.self.inside.auth c.args.from c.in-Ok.request c.args.now stream c.in-Ok-validate_incoming_message.field-0 c.validate_incoming_message.new.self c.in-Ok-validate_incoming_message.ensures.valid)
 
-pub returns-clause-reply : goal.returns-clause-reply
-returns-clause-reply g c =
-    let told = c.in_ok-reply.ensures in
-    let nonce = told.0 in
-    let same = c.in-Ok.ensures.0 in
-    let fits = numbers_fit c.args.bytes.now (λ i. omega (arith, c.type_inv.bytes i)) c.in-Ok.ensures.1 in
-    let realm : c.refresh_nonce.new.self.realm ≡ c.args.self.now.auth.realm =
-    ap (λ (s : Server). s.realm) c.in_ok-refresh_nonce.ensures.ok ∙ refreshed_realm _ _ _ _ ∙ ap (λ (d : State). d.auth.realm) c.self.view_is in
-    let text : c.in_ok-reply.reply.items ≡ challenge_text c.args.bytes.now c.args.self.now.auth.realm nonce =
-    told.2 ∙ ap (λ (l : List ℕ). challenge_text l c.refresh_nonce.new.self.realm nonce) same ∙ ap (λ (r : List ℕ). challenge_text c.args.bytes.now r nonce) realm in
-    let short = rw realm at told.3 in
-    (nonce, told.1, text, challenge_read c.args.bytes.now c.args.self.now.auth.realm nonce c.in_ok-reply.reply.items fits.0 fits.1 short told.4 text)
+pub turn_away-requires : goal.turn_away-requires
+turn_away-requires g c =
+    let stream = g.R.Rng.stream c.args.rng.now in
+    let served : IsServed c.in-Ok.request = search rules in
+    let ample : c.in-Err.error ≢ NoMemory = search rules in
+    record {
+      request = served;
+      nonce = refused_nonce c.self.inside.auth c.args.from c.args.now stream c.validate_incoming_message.new.self
+          (refusal_after c.self.inside.auth c.args.from c.in-Ok.request c.args.now stream c.validate_incoming_message.new.self served (c.in-Err.ensures.forgotten ample));
+    }
+
+pub returns-in_ok-reply-in-Ok-validate_incoming_message-clause-answer : goal.returns-in_ok-reply-in-Ok-validate_incoming_message-clause-answer
+returns-in_ok-reply-in-Ok-validate_incoming_message-clause-answer g c =
+    let stream = g.R.Rng.stream c.args.rng.now in
+    let old : State = record { auth = c.self.inside.auth; grants = c.self.inside.grants } in
+    let what = verdict (transport_asked c.in-Ok.request) c.args.decision.now in
+    let reply = c.in_ok-reply-in-Ok-validate_incoming_message.reply.items in
+    let served : IsServed c.in-Ok.request = search rules in
+    let are : (i : ℕ) → slice_index c.in-Ok.request i < 256 = subst (λ (b : List ℕ). (i : ℕ) → slice_index b i < 256) (sym c.in-Ok.ensures.0) (λ i. omega (arith, c.type_inv.bytes i)) in
+    let t = takes c.self.inside.auth c.args.from c.in-Ok.request c.args.now stream c.in-Ok-validate_incoming_message.field-0 c.validate_incoming_message.new.self c.in-Ok-validate_incoming_message.ensures.valid in
+    let here : IsAnswer old c.args.from c.in-Ok.request c.args.now stream c.args.decision.now reply c.answer.new.self =
+    inr (answered old c.answer.new.self c.args.from c.in-Ok.request c.args.now stream what c.validate_incoming_message.new.self reply are served t c.in_ok-reply-in-Ok-validate_incoming_message.ensures.readable
+    c.in_ok-reply-in-Ok-validate_incoming_message.ensures.reply c.in_ok-reply-in-Ok-validate_incoming_message.ensures.granted) in
+    subst (λ (s : State). IsAnswer s c.args.from c.args.bytes.now c.args.now stream c.args.decision.now reply c.answer.new.self) c.self.view_is
+    (subst (λ (b : List ℕ). IsAnswer old c.args.from b c.args.now stream c.args.decision.now reply c.answer.new.self) c.in-Ok.ensures.0 here)
+
+pub returns-in_ok-reply-in-Ok-validate_incoming_message-clause-grants : goal.returns-in_ok-reply-in-Ok-validate_incoming_message-clause-grants
+returns-in_ok-reply-in-Ok-validate_incoming_message-clause-grants g c grant =
+    exactly_granted c.args.self.now c.answer.new.self c.args.from c.args.bytes.now c.args.now (g.R.Rng.stream c.args.rng.now) c.args.decision.now c.in_ok-reply-in-Ok-validate_incoming_message.reply.items grant
+    (returns-in_ok-reply-in-Ok-validate_incoming_message-clause-answer g c)
+
+pub returns-in_ok-reply-in-Err : goal.returns-in_ok-reply-in-Err
+returns-in_ok-reply-in-Err g c =
+    let stream = g.R.Rng.stream c.args.rng.now in
+    let old : State = record { auth = c.self.inside.auth; grants = c.self.inside.grants } in
+    let new : State = record { auth = c.validate_incoming_message.new.self; grants = c.self.inside.grants } in
+    let reply = c.in_ok-reply-in-Err.reply.items in
+    let served : IsServed c.in-Ok.request = search rules in
+    let ample : c.in-Err.error ≢ NoMemory = search rules in
+    let are : (i : ℕ) → slice_index c.in-Ok.request i < 256 = subst (λ (b : List ℕ). (i : ℕ) → slice_index b i < 256) (sym c.in-Ok.ensures.0) (λ i. omega (arith, c.type_inv.bytes i)) in
+    let told = c.in_ok-reply-in-Err.ensures in
+    let here : IsAnswer old c.args.from c.in-Ok.request c.args.now stream c.args.decision.now reply new =
+    inl (challenged old new c.args.from c.in-Ok.request c.args.now stream c.in-Err.error c.validate_incoming_message.new.self c.validate_incoming_message.new.self.realm told.0 reply are served ample
+    c.in-Err.ensures.refused c.in-Err.ensures.forgotten refl refl told.1 told.2 told.3) in
+    let there : IsAnswer c.args.self.now c.args.from c.args.bytes.now c.args.now stream c.args.decision.now reply new =
+    subst (λ (s : State). IsAnswer s c.args.from c.args.bytes.now c.args.now stream c.args.decision.now reply new) c.self.view_is
+    (subst (λ (b : List ℕ). IsAnswer old c.args.from b c.args.now stream c.args.decision.now reply new) c.in-Ok.ensures.0 here) in
+    record {
+      none = search rules;
+      answer = there;
+      grants = λ grant. exactly_granted c.args.self.now new c.args.from c.args.bytes.now c.args.now stream c.args.decision.now reply grant there;
+      memory = tt;
+      stream = search rules;
+      stream_refused = tt;
+      others = λ other different. subst (λ (s : State). SameFor other s.auth c.validate_incoming_message.new.self) c.self.view_is (c.validate_incoming_message.ensures.others other different);
+    }
+
+pub returns-in_err-reply-in-Err : goal.returns-in_err-reply-in-Err
+returns-in_err-reply-in-Err g c = record {
+  none = search rules;
+  answer = search rules;
+  grants = search rules;
+  memory = search rules;
+  stream = search rules;
+  stream_refused = search rules;
+  others = λ other different. subst (λ (s : State). SameFor other s.auth c.validate_incoming_message.new.self) c.self.view_is (c.validate_incoming_message.ensures.others other different);
+}

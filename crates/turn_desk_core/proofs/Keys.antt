@@ -1,0 +1,274 @@
+-- What a validation keeps for its address, and the key that a reply to it is signed under.
+use Rattle.std.specs.Prelude.{◌≡◌, ◌≢◌, ℕ, ◌+◌, ◌≤◌, ◌<◌, slice_index, Bool, true, false, cond, List, [], ◌∷◌, ◌++◌, length, Option, Some, None, IsSome, if◌then◌else◌}
+use Rattle.std.proofs.Common.{refl, sym, ap, ◌∙◌, subst, arith, inl, inr, ◌⊎◌}
+use Rattle.std.proofs.lemmas.Bool.{cases_Bool}
+use Rattle.std.proofs.lemmas.List.{append-nil}
+use Rattle.std.specs.Ordering.{is_eq, eq_by_cmp}
+use Rattle.std.specs.Option.{option_map, option_and_then}
+use Rattle.std.specs.Cmp.{eq_by_cmp_equiv}
+use Rattle.std.specs.FinMap as map
+use Rattle.std.specs.declared.net.socket_addr.SocketAddr.{SocketAddr}
+use Rattle.rand_core.specs.Stream.{Stream}
+use Rattle.stun_types_base.specs.SocketAddrs.{socket_addr_cmp, socket_addr_cmp_total}
+use Rattle.stun_types_wire.specs.declared.algorithm.IntegrityAlgorithm.{IntegrityAlgorithm}
+use Rattle.stun_types_wire.specs.declared.class.MessageClass.{MessageClass}
+use Rattle.stun_types_wire.specs.declared.class.MessageClass.TheVariants.{Request, Indication, Success, Error}
+use Rattle.stun_types_wire.specs.Attributes.{Attr}
+use Rattle.stun_types_wire.specs.Types.{is_response_class, type_of}
+use Rattle.stun_types_write.specs.Written.{Written}
+use Rattle.stun_types_wire.specs.Text.{header_text, message_text}
+use Rattle.stun_types_integrity.specs.Credentials.{Key}
+use Rattle.stun_types_integrity.specs.Signing.{signing_refusal}
+use Rattle.stun_proto_sign.specs.Addition.{Addition, Party, Signer, addition, addition_refusal, attrs, texts_refusal, with_signature, key_in}
+use Rattle.stun_proto_judge.specs.Claims.{claimed}
+use Rattle.stun_proto_judge.specs.Judgement.{IsRefused, Outcome, is_response, user_key}
+use Rattle.stun_proto_server.specs.Server.{Client, Server, nonce_at, has_standing_nonce, refreshed, with_outcome, set_outcome}
+use Rattle.stun_proto_server.specs.Signing.{addition_for, party_at, party_by_client, party_by_outcome, party_by_password}
+use Rattle.stun_proto_server.specs.Validation.{Accepts, IsValidated, after_refusal, known_of, password_at}
+use Rattle.stun_types_wire.specs.Grammar.{number_at}
+use Rattle.stun_proto_judge.specs.declared.error.LongTermServerAuthError.{LongTermServerAuthError}
+use Rattle.stun_proto_judge.specs.declared.error.LongTermServerAuthError.TheVariants.{NoMemory}
+use Rattle.stun_proto_server.specs.declared.validation.LongTermServerValidation.{LongTermServerValidation}
+use Rattle.stun_proto_server.specs.declared.validation.LongTermServerValidation.TheVariants.{Validated}
+use Rattle.turn_desk_reply.specs.Replies.{IsReadable, IsReadableSigned, IsReply, error_type, signed_text, success_type}
+use Rattle.turn_desk_core.specs.declared.verdict.Verdict.{Verdict}
+use Rattle.turn_desk_core.specs.Requests.{IsServed}
+use Rattle.turn_desk_core.specs.State.{State}
+use Rattle.turn_desk_core.specs.Steps.{IsChallenge, IsSignedFor, IsTaken, IsVerdict, key_at, key_of_party, refusal_attributes}
+use Rattle.turn_desk_core.specs.Verdicts.{grants_of, reply_attributes, reply_type}
+use Rattle.turn_desk_core.proofs.Numbers.{error_type_fits, number_fits, reply_type_fits}
+use Rattle.turn_desk_core.proofs.Nonces.{refreshed_nonce, refreshed_realm}
+
+-- ---- what is kept
+
+-- what is kept with an outcome for an address whose nonce is known
+pub record Kept (clients : map.FinMap socket_addr_cmp Client) (from : SocketAddr) (nonce : List ℕ) (outcome : Option Outcome) : Type 0 where
+  pub client : Client
+  pub found : map.get clients from ≡ Some client
+  pub same_nonce : client.nonce ≡ nonce
+  pub same_outcome : client.outcome ≡ outcome
+
+kept_by : (clients : map.FinMap socket_addr_cmp Client) (from : SocketAddr) (nonce : List ℕ) (outcome : Option Outcome) (found : Option Client) → map.get clients from ≡ found
+    → option_map (λ (c : Client). c.nonce) found ≡ Some nonce → Kept (set_outcome clients from outcome found) from nonce outcome
+kept_by clients from nonce outcome None is has = absurd (Prim.cc has)
+kept_by clients from nonce outcome (Some old) is has =
+    let new : Client = record old { outcome = outcome } in
+    let same : is_eq (socket_addr_cmp from from) ≡ true = (eq_by_cmp_equiv socket_addr_cmp_total).refl from in
+    record {
+      client = new;
+      found = map.get-insert socket_addr_cmp_total clients from new from ∙ ap (λ b. cond b (Some new) (map.get clients from)) same;
+      same_nonce = some_injective has;
+      same_outcome = refl;
+    }
+  where
+    some_injective : {a b : List ℕ} → Some a ≡ Some b → a ≡ b
+    some_injective p = Prim.cc p
+
+pub kept_outcome : (server : Server) (from : SocketAddr) (nonce : List ℕ) (outcome : Option Outcome) → nonce_at server from ≡ Some nonce → Kept (with_outcome server from outcome).clients from nonce outcome
+kept_outcome server from nonce outcome has = kept_by server.clients from nonce outcome (map.get server.clients from) refl has
+
+-- an outcome leaves the nonce
+pub outcome_nonce : (server : Server) (from : SocketAddr) (nonce : List ℕ) (outcome : Option Outcome) → nonce_at server from ≡ Some nonce → nonce_at (with_outcome server from outcome) from ≡ Some nonce
+outcome_nonce server from nonce outcome has =
+    let kept = kept_outcome server from nonce outcome has in
+    ap (option_map (λ (c : Client). c.nonce)) kept.found ∙ ap Some kept.same_nonce
+
+-- ---- what a refresh leaves
+
+pub refreshed_users : (server : Server) (from : SocketAddr) (now : ℕ) (stream : Stream) → (refreshed server from now stream).users ≡ server.users
+refreshed_users server from now stream =
+    elim (cases_Bool (has_standing_nonce server from now)) [
+      | inl stands ↦ rw stands refl
+      | inr stands ↦ rw stands refl
+    ]
+
+-- ---- the key
+
+party_kept : (server : Server) (from : SocketAddr) (nonce name password : List ℕ) (algorithm : IntegrityAlgorithm) → Kept server.clients from nonce (Some (record { name = name; algorithm = algorithm })) → map.get server.users name ≡ Some password
+    → party_at server from ≡ Some (record { realm = server.realm; nonce = nonce; user = Some (record { name = name; password = password; algorithm = algorithm }) })
+party_kept server from nonce name password algorithm kept present =
+    ap (party_by_client server) kept.found
+    ∙ ap (λ (n : List ℕ). party_by_outcome server n kept.client.outcome) kept.same_nonce
+    ∙ ap (party_by_outcome server nonce) kept.same_outcome
+    ∙ ap (party_by_password server.realm nonce (record { name = name; algorithm = algorithm })) present
+
+-- a request that is taken for a user's: the user is there, and its key is the one that replies are signed under
+pub record IsKeyOf (old new : Server) (from : SocketAddr) (name : List ℕ) (algorithm : IntegrityAlgorithm) : Type 0 where
+  pub password : List ℕ
+  pub present : map.get old.users name ≡ Some password
+  pub key : key_at new from ≡ Some (record { bytes = user_key old.realm name password algorithm; algorithm = algorithm })
+
+pub taken_key : (old : Server) (from : SocketAddr) (bytes : List ℕ) (now : ℕ) (stream : Stream) (name : List ℕ) (algorithm : IntegrityAlgorithm) (new : Server) → (refreshed old from now stream).realm ≡ old.realm
+    → IsTaken old from bytes now stream name algorithm new → IsKeyOf old new from name algorithm
+taken_key old from bytes now stream name algorithm new realm taken =
+    let r = refreshed old from now stream in
+    let users = refreshed_users old from now stream in
+    let present : map.get r.users name ≡ Some taken.accepts.password = ap (password_at r) (sym taken.accepts.named) ∙ taken.accepts.present in
+    let kept = kept_outcome r from taken.accepts.nonce (Some (record { name = name; algorithm = algorithm })) taken.accepts.stands in
+    let party = party_kept (with_outcome r from (Some (record { name = name; algorithm = algorithm }))) from taken.accepts.nonce name taken.accepts.password algorithm kept present in
+    record {
+      password = taken.accepts.password;
+      present = ap (λ u. map.get u name) (sym users) ∙ present;
+      key = ap (λ (s : Server). key_at s from) taken.after ∙ ap key_of_party party
+          ∙ ap (λ (realm' : List ℕ). Some (record { bytes = user_key realm' name taken.accepts.password algorithm; algorithm = algorithm })) realm;
+    }
+
+-- ---- what is added to a reply
+
+-- what is added under a key alone
+abbrev sealed : Option Key → Addition
+sealed key = record { texts = []; signer = key }
+
+added_class : (realm nonce : List ℕ) (user : Signer) (class : MessageClass) → is_response_class class ≡ true → addition (record { realm = realm; nonce = nonce; user = Some user }) class ≡ Some (sealed (Some (key_in realm user)))
+added_class realm nonce user Request response = absurd (Prim.cc response)
+added_class realm nonce user Indication response = absurd (Prim.cc response)
+added_class realm nonce user Success response = refl
+added_class realm nonce user Error response = refl
+
+added_user : (realm nonce : List ℕ) (user : Option Signer) (class : MessageClass) → is_response_class class ≡ true → IsSome (option_map (key_in realm) user)
+    → addition (record { realm = realm; nonce = nonce; user = user }) class ≡ Some (sealed (option_map (key_in realm) user))
+added_user realm nonce None class response has = absurd (Prim.cc has)
+added_user realm nonce (Some user) class response has = added_class realm nonce user class response
+
+added : (party : Option Party) (class : MessageClass) → is_response_class class ≡ true → IsSome (key_of_party party) → option_and_then (λ (p : Party). addition p class) party ≡ Some (sealed (key_of_party party))
+added None class response has = absurd (Prim.cc has)
+added (Some party) class response has = added_user party.realm party.nonce party.user class response has
+
+-- a response to an address that was validated gets the integrity attribute alone
+pub added_for : (server : Server) (from : SocketAddr) (class : MessageClass) → is_response_class class ≡ true → IsSome (key_at server from) → addition_for server from class ≡ Some (sealed (key_at server from))
+added_for server from class response has = added (party_at server from) class response has
+
+plus_zero : (n : ℕ) → n + 0 ≡ n
+plus_zero n = omega arith
+
+sealed_refusal : (key : Option Key) (kinds : List ℕ) (limit : Option ℕ) (len : ℕ) → ((algorithm : IntegrityAlgorithm) → signing_refusal kinds limit len algorithm algorithm ≡ None) → addition_refusal (Some (sealed key)) kinds limit len ≡ None
+unfolding texts_refusal
+sealed_refusal None kinds limit len signable = refl
+sealed_refusal (Some key) kinds limit len signable = rw (append-nil kinds, plus_zero len) (signable key.algorithm)
+
+pub accepted_for : (server : Server) (from : SocketAddr) (class : MessageClass) (kinds : List ℕ) (limit : Option ℕ) (len : ℕ) → is_response_class class ≡ true → IsSome (key_at server from)
+    → ((algorithm : IntegrityAlgorithm) → signing_refusal kinds limit len algorithm algorithm ≡ None) → addition_refusal (addition_for server from class) kinds limit len ≡ None
+accepted_for server from class kinds limit len response has signable =
+    ap (λ (a : Option Addition). addition_refusal a kinds limit len) (added_for server from class response has) ∙ sealed_refusal (key_at server from) kinds limit len signable
+
+signed_by : (server : Server) (from : SocketAddr) (signer : Option Key) (a : Addition) (new : List ℕ) (kind number : ℕ) (attributes : List Attr) → key_at server from ≡ signer → IsSome signer → Some a ≡ Some (sealed signer)
+    → new ≡ message_text kind number (with_signature a.signer kind number (attributes ++ attrs a.texts)) → IsSignedFor server from kind number attributes new
+signed_by server from None a new kind number attributes is has same text = absurd (Prim.cc has)
+signed_by server from (Some key) a new kind number attributes is has same text = (
+  key,
+  is,
+  text ∙ ap (λ (b : Addition). message_text kind number (with_signature b.signer kind number (attributes ++ attrs b.texts))) (inside same)
+      ∙ ap (λ (l : List Attr). message_text kind number (with_signature (Some key) kind number l)) (append-nil attributes),
+)
+  where
+    inside : {x y : Addition} → Some x ≡ Some y → x ≡ y
+    inside p = Prim.cc p
+
+pub signed_for : (server : Server) (from : SocketAddr) (class : MessageClass) (a : Addition) (old new : List ℕ) → is_response_class class ≡ true → IsSome (key_at server from) → addition_for server from class ≡ Some a
+    → ((mtype number : ℕ) (adds : List Attr) → old ≡ message_text mtype number adds → new ≡ message_text mtype number (with_signature a.signer mtype number (adds ++ attrs a.texts)))
+    → (kind number : ℕ) (attributes : List Attr) → old ≡ message_text kind number attributes → IsSignedFor server from kind number attributes new
+signed_for server from class a old new response has is text kind number attributes written =
+    signed_by server from (key_at server from) a new kind number attributes refl has (sym is ∙ added_for server from class response has) (text kind number attributes written)
+
+-- ---- a validation
+
+-- what a validation that is a yes says and leaves
+pub record Takes (old : Server) (from : SocketAddr) (bytes : List ℕ) (now : ℕ) (stream : Stream) (new : Server) : Type 0 where
+  pub name : List ℕ
+  pub algorithm : IntegrityAlgorithm
+  pub taken : IsTaken old from bytes now stream name algorithm new
+
+pub takes : (old : Server) (from : SocketAddr) (bytes : List ℕ) (now : ℕ) (stream : Stream) (answer : LongTermServerValidation) (new : Server) → IsValidated (refreshed old from now stream) from bytes answer new → Takes old from bytes now stream new
+takes old from bytes now stream (Validated algorithm) new valid = record {
+  name = valid.name;
+  algorithm = algorithm;
+  taken = record { accepts = valid.accepts; after = valid.kept };
+}
+
+-- after it there is a key for its address
+pub takes_key : (old : Server) (from : SocketAddr) (bytes : List ℕ) (now : ℕ) (stream : Stream) (new : Server) → Takes old from bytes now stream new → IsSome (key_at new from)
+takes_key old from bytes now stream new t =
+    let key = (taken_key old from bytes now stream t.name t.algorithm new (refreshed_realm old from now stream) t.taken).key in
+    rw key refl
+
+-- the reply that is signed for its address is that of the verdict
+pub answered : (old new : State) (from : SocketAddr) (bytes : List ℕ) (now : ℕ) (stream : Stream) (what : Verdict) (after : Server) (reply : List ℕ) → ((i : ℕ) → slice_index bytes i < 256) → IsServed bytes
+    → Takes old.auth from bytes now stream after → IsReadableSigned (reply_attributes bytes from what)
+    → IsSignedFor after from (reply_type bytes what) (number_at bytes) (reply_attributes bytes from what) reply → new ≡ record { auth = after; grants = old.grants ++ grants_of bytes from what } → IsVerdict old from bytes now stream what reply new
+answered old new from bytes now stream what after reply are served t readable signed is =
+    let k = taken_key old.auth from bytes now stream t.name t.algorithm after (refreshed_realm old.auth from now stream) t.taken in
+    let same = inside (sym signed.1 ∙ k.key) in
+    let key = user_key old.auth.realm t.name k.password t.algorithm in
+    let text : reply ≡ signed_text (reply_type bytes what) (number_at bytes) (reply_attributes bytes from what) key t.algorithm =
+    signed.2 ∙ ap (λ (own : Key). signed_text (reply_type bytes what) (number_at bytes) (reply_attributes bytes from what) own.bytes own.algorithm) same in
+    record {
+      name = t.name;
+      algorithm = t.algorithm;
+      judged = record { accepts = t.taken.accepts; after = ap (λ (s : State). s.auth) is ∙ t.taken.after };
+      password = k.password;
+      present = k.present;
+      text = text;
+      read = rw text (readable (reply_type bytes what) (number_at bytes) key t.algorithm (reply_type_fits bytes what served) (number_fits bytes are served));
+      granted = ap (λ (s : State). s.grants) is;
+    }
+  where
+    inside : {x y : Key} → Some x ≡ Some y → x ≡ y
+    inside p = Prim.cc p
+
+-- ---- a refusal
+
+-- a request is no response
+pub request_class : (bytes : List ℕ) → IsServed bytes → is_response bytes ≡ false
+request_class bytes served = ap is_response_class served.request
+
+pub refusal_after : (old : Server) (from : SocketAddr) (bytes : List ℕ) (now : ℕ) (stream : Stream) (new : Server) → IsServed bytes → new ≡ after_refusal old from bytes now stream → new ≡ with_outcome (refreshed old from now stream) from None
+refusal_after old from bytes now stream new served is =
+    is ∙ ap (λ (b : Bool). if b then old else with_outcome (refreshed old from now stream) from None) (request_class bytes served)
+
+-- the nonce that stands for its address is kept after it
+pub refused_nonce : (old : Server) (from : SocketAddr) (now : ℕ) (stream : Stream) (new : Server) → new ≡ with_outcome (refreshed old from now stream) from None → IsSome (nonce_at new from)
+refused_nonce old from now stream new is =
+    elim_nonce (nonce_at (refreshed old from now stream) from) refl (refreshed_nonce old from now stream)
+  where
+    elim_nonce : (found : Option (List ℕ)) → nonce_at (refreshed old from now stream) from ≡ found → IsSome found → IsSome (nonce_at new from)
+    elim_nonce None has some = absurd (Prim.cc some)
+    elim_nonce (Some nonce) has some = rw (is, outcome_nonce (refreshed old from now stream) from nonce None has) refl
+
+-- the answer to a request that is refused
+pub challenged : (old new : State) (from : SocketAddr) (bytes : List ℕ) (now : ℕ) (stream : Stream) (error : LongTermServerAuthError) (after : Server) (realm nonce reply : List ℕ) → ((i : ℕ) → slice_index bytes i < 256) → IsServed bytes
+    → error ≢ NoMemory → (error ≢ NoMemory → IsRefused (known_of (refreshed old.auth from now stream) from bytes) bytes error) → (error ≢ NoMemory → after ≡ after_refusal old.auth from bytes now stream)
+    → new ≡ record { auth = after; grants = old.grants } → realm ≡ after.realm → nonce_at after from ≡ Some nonce → reply ≡ message_text (error_type bytes) (number_at bytes) (refusal_attributes error realm nonce) → IsReadable (refusal_attributes error realm nonce)
+    → IsChallenge old from bytes now stream reply new
+challenged old new from bytes now stream error after realm nonce reply are served ample refused left is told kept text readable =
+    let gone = refusal_after old.auth from bytes now stream after served (left ample) in
+    let same : realm ≡ old.auth.realm = told ∙ ap (λ (s : Server). s.realm) gone ∙ refreshed_realm old.auth from now stream in
+    let whole = text ∙ ap (λ (r : List ℕ). message_text (error_type bytes) (number_at bytes) (refusal_attributes error r nonce)) same in
+    let shows = subst (λ (r : List ℕ). IsReadable (refusal_attributes error r nonce)) same readable in
+    let auth : new.auth ≡ after = ap (λ (s : State). s.auth) is in
+    record {
+      error = error;
+      judged = record { ample = ample; refused = refused ample; after = auth ∙ gone };
+      nonce = nonce;
+      kept = ap (λ (s : Server). nonce_at s from) auth ∙ kept;
+      text = whole;
+      read = rw whole (shows (error_type bytes) (number_at bytes) (error_type_fits bytes served) (number_fits bytes are served));
+      granted = ap (λ (s : State). s.grants) is;
+    }
+
+-- ---- replies are responses
+
+error_class : (number : ℕ) (attributes : List Attr) → is_response (message_text 0x0113 number attributes) ≡ true
+unfolding message_text header_text
+error_class number attributes = refl
+
+success_class : (number : ℕ) (attributes : List Attr) → is_response (message_text 0x0103 number attributes) ≡ true
+unfolding message_text header_text
+success_class number attributes = refl
+
+pub error_is_response : (bytes : List ℕ) (number : ℕ) (attributes : List Attr) (reply : Written) → IsServed bytes → IsReply (error_type bytes) number attributes reply → is_response reply.bytes ≡ true
+error_is_response bytes number attributes reply served is =
+    ap is_response (is.text ∙ ap (λ (m : ℕ). message_text (type_of Error m) number attributes) served.allocate) ∙ error_class number attributes
+
+pub success_is_response : (bytes : List ℕ) (number : ℕ) (attributes : List Attr) (reply : Written) → IsServed bytes → IsReply (success_type bytes) number attributes reply → is_response reply.bytes ≡ true
+success_is_response bytes number attributes reply served is =
+    ap is_response (is.text ∙ ap (λ (m : ℕ). message_text (type_of Success m) number attributes) served.allocate) ∙ success_class number attributes
