@@ -238,6 +238,23 @@ fn words_that_name_no_bytes(rt: HostRuntime) -> io::Result<()> {
     Ok(())
 }
 
+/// The trace and the answers of `examples/allocate`.
+#[test]
+fn signed_allocate_is_granted(rt: HostRuntime) {
+    let trace = b"desk realm sha1 auto
+user user pass
+todesk 0 192.168.0.1:1000 000300142112a442ade0b876903df1a0e56a5d40000d0004000007080019000411000000001a0000 0 refuse 400
+todesk 50000000 192.168.0.1:1000 000300602112a44228bd8653b819d2bd1aed8da00006000475736572001400057265616c6d0000000015001d6f624d61744a6f733251414141677969446249435877504461513168610000000019000411000000000d0004000007080008001409dfebcab6a5b68d345a8704256bd237f27e2c1d 0 allocate 203.0.113.5:50000 600
+";
+    let replies =
+        "reply 011300442112a442ade0b876903df1a0e56a5d400009001000000401556e617574686f72697a6564001400057265616c6d0000000015001d6f624d61744a6f73325141414167796944624943587750446151316861000000
+reply 010300382112a44228bd8653b819d2bd1aed8da0001600080001e242ea12d547000d00040000025800200008000122fae1baa443000800145eb4c23a5d0ba6dcd50a3e4b0c09d0868bf9aa71
+";
+    let (status, text) = replayed(&rt, trace);
+    assert_eq!(rt; text.as_str(), replies);
+    assert_eq!(rt; status, Status::Done);
+}
+
 #[test]
 fn printed_replies(rt: HostRuntime) -> io::Result<()> {
     let text = reply_line(rt.alloc(), &[1, 171])?;
