@@ -6,6 +6,10 @@ pub use stun_types_attribute::nonce::Nonce;
 pub use stun_types_attribute::realm::Realm;
 pub use stun_types_attribute::username::Username;
 pub use stun_types_attribute::xor_mapped_address::XorMappedAddress;
+pub use stun_types_info::alternate_domain::AlternateDomain;
+pub use stun_types_info::alternate_server::AlternateServer;
+pub use stun_types_info::software::Software;
+pub use stun_types_info::unknown_attributes::UnknownAttributes;
 pub use stun_types_integrity::integrity::MessageIntegrity;
 pub use stun_types_wire::attribute::{
     AttributeHeader, AttributeType, RawAttribute, pad_attribute_len,

@@ -1,0 +1,9 @@
+use Rattle.std.proofs.Common.{rules, ◌≡◌, ℕ, List, length, ◌*◌, sym, ap, ◌∙◌}
+use Rattle.stun_types_info.proofs.TypeLists.{told_length, more_is_refused}
+use Rattle.stun_types_info.proofs.unknown_attributes.UnknownAttributes.add_attribute.Goals as goal
+
+pub returns-then-len-gt-MAX_LEN-clause-refused : goal.returns-then-len-gt-MAX_LEN-clause-refused
+returns-then-len-gt-MAX_LEN-clause-refused c =
+    let told = told_length c.self.inside.bytes.items (search rules) in
+    let counted : 2 * length c.args.self.now ≡ length c.self.inside.bytes.items = ap (λ (l : List ℕ). 2 * length l) (sym c.self.view_is) ∙ told in
+    λ _. more_is_refused c.args.atype.0 c.len-len.result c.args.self.now (search rules) (search (rules, counted)) (search rules)
