@@ -1,6 +1,6 @@
 //! UNKNOWN-ATTRIBUTES (RFC 8489, section 14.13).
 
-ghost use Rattle.std.specs.Prelude.{◌≡◌, ◌≢◌, ◌+◌, ◌*◌, ◌%◌, ◌<◌, ◌≤◌, ◌^◌, ◌++◌, ◌∷◌, [], IfOk, IfErr, OnOk, OnErr, MatchResult, None, Some, length, map};
+ghost use Rattle.std.specs.Prelude.{◌≡◌, ◌≢◌, ◌+◌, ◌*◌, ◌%◌, ◌≤◌, ◌++◌, ◌∷◌, [], IfOk, IfErr, OnOk, OnErr, MatchResult, None, Some, length, map};
 ghost use Rattle.stun_types_write.specs.Adding.{has_kind};
 ghost use Rattle.stun_types_info.specs.Types.{longest_value, types_read_refusal, types_refusal, types_told, types_value, with_type};
 
