@@ -5,7 +5,8 @@ use Rattle.std.proofs.lemmas.List.{length-append, append-nil}
 use Rattle.stun_types_wire.specs.declared.error.StunWriteError.{StunWriteError}
 use Rattle.stun_types_wire.specs.Attributes.{Attr, attr_size}
 use Rattle.stun_types_wire.specs.Text.{attribute_text, message_text}
-use Rattle.stun_types_write.specs.Adding.{attr_of, after_add, add_refusal, with_length, IsBegun}
+use Rattle.stun_types_write.specs.Adding.{attr_of, after_add, add_refusal, IsBegun}
+use Rattle.stun_types_wire.specs.Covered.{with_length}
 use Rattle.stun_types_attribute.specs.Texts.{text_refusal}
 use Rattle.stun_types_integrity.specs.Credentials.{Key}
 use Rattle.stun_types_integrity.specs.Signing.{signature}

@@ -4,7 +4,8 @@ use Rattle.stun_types_wire.specs.declared.algorithm.IntegrityAlgorithm.{Integrit
 use Rattle.stun_types_wire.specs.declared.algorithm.IntegrityAlgorithm.TheVariants.{Sha1, Sha256}
 use Rattle.stun_types_wire.specs.Attributes.{Attr, padded}
 use Rattle.stun_types_wire.specs.Text.{attribute_text, message_text}
-use Rattle.stun_types_write.specs.Adding.{attr_of, with_length, after_add, greatest_size, IsBegun}
+use Rattle.stun_types_write.specs.Adding.{attr_of, after_add, greatest_size, IsBegun}
+use Rattle.stun_types_wire.specs.Covered.{with_length}
 use Rattle.stun_types_integrity.specs.declared.credentials.MessageIntegrityCredentials.{MessageIntegrityCredentials}
 use Rattle.stun_types_integrity.specs.declared.credentials.MessageIntegrityCredentials.TheVariants.{ShortTerm, LongTerm}
 use Rattle.stun_types_integrity.specs.Keys.{key_of}

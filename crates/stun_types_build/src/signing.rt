@@ -3,7 +3,8 @@
 ghost use Rattle.std.specs.Prelude.{◌≡◌, ◌≢◌, ◌+◌, ◌≤◌, ◌^◌, ◌++◌, ◌∷◌, [], length, ℕ, List, OnOk, OnErr, IfErr, IfSome, MatchResult, None, Some};
 ghost use Rattle.stun_types_wire.specs.Attributes.{Attr, padded};
 ghost use Rattle.stun_types_wire.specs.Text.{attribute_text, message_text};
-ghost use Rattle.stun_types_write.specs.Adding.{after_add, attr_of, greatest_size, with_length, IsBegun};
+ghost use Rattle.stun_types_write.specs.Adding.{after_add, attr_of, greatest_size, IsBegun};
+ghost use Rattle.stun_types_wire.specs.Covered.{with_length};
 ghost use Rattle.stun_types_integrity.specs.Hmacs.{hmac_bytes};
 ghost use Rattle.stun_types_integrity.specs.Integrity.{attribute_kind, integrity_hmac};
 ghost use Rattle.stun_types_integrity.specs.Signing.{hmac_length as length_of_hmac, order_refusal, signature, signing_refusal};
@@ -83,7 +84,7 @@ fn may_sign<W: MessageWrite>(
 }
 
 /// The HMAC of a message under a key, as if its header told this length.
-#[tactic(auto, unfolding(stun_types_write::specs::Adding::with_length))]
+#[tactic(auto, unfolding(stun_types_wire::specs::Covered::with_length))]
 fn hmac_told(bytes: &[u8], len: u16, key: &IntegrityKey) -> IntegrityHmac
     requires { 20 ≤ length bytes.now }
     ensures bytes { hmac_bytes result ≡ integrity_hmac key.now.algorithm key.now.bytes (with_length bytes.now len) }

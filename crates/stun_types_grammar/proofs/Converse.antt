@@ -7,10 +7,12 @@ use Rattle.byteorder.specs.Endian.{big_bytes, big_number}
 use Rattle.byteorder.specs.Numbers.{big_from-lt}
 use Rattle.stun_types_wire.specs.declared.error.StunParseError.{StunParseError}
 use Rattle.stun_types_wire.specs.declared.error.StunParseError.TheVariants.{Truncated, TooLarge, NotStun}
-use Rattle.stun_types_wire.specs.Attributes.{Attr, attr_size, attr_at, kind_at, length_at, size_at, padded, padding_len, is_whole, attributes}
+use Rattle.stun_types_wire.specs.Attributes.{Attr, attr_size, attr_at, kind_at, length_at, size_at, padded, padding_len, is_whole, attributes, numbered}
 use Rattle.stun_types_wire.specs.Shape.{rank, may_follow, shown_after, behind_shown, shown_rank, last_rank, kinds_of, shape_front, IsShape}
 use Rattle.stun_types_wire.specs.Grammar.{may_begin, header_refusal, length_refusal, fingerprint_refusal, rest_refusal, body_refusal, refusal, shown, number_at, or_else}
 use Rattle.stun_types_wire.specs.Text.{header_text, padded_text, Part, part_text, parts_text, attributes_of, FitsAttribute, FitsPart, IsTextOf}
+use Rattle.stun_types_grammar.specs.Fingerprinted.{AreRightFingerprints}
+use Rattle.stun_types_grammar.proofs.Fingerprints.{right_where_not_refused}
 use Rattle.stun_types_grammar.specs.Headers.{AreBytes}
 use Rattle.stun_types_grammar.proofs.Numbers.{byte_below}
 use Rattle.stun_types_grammar.proofs.Whole.{whole_long, size_whole, attributes_short}
@@ -152,9 +154,9 @@ pub has_text : (bytes : List ℕ) → AreBytes bytes → refusal bytes ≡ None 
 unfolding refusal body_refusal shown shown_rank
 has_text bytes are h =
     let body = drop 20 bytes in
-    let top = or_none (header_refusal bytes) (or_else (length_refusal bytes) (body_refusal body)) h in
-    let next = or_none (length_refusal bytes) (body_refusal body) top.1 in
-    let last = or_none (fingerprint_refusal (shown_after 0 body)) (rest_refusal (shown_rank 0 body) (behind_shown 0 body)) next.1 in
+    let top = or_none (header_refusal bytes) (or_else (length_refusal bytes) (body_refusal bytes)) h in
+    let next = or_none (length_refusal bytes) (body_refusal bytes) top.1 in
+    let last = or_none (fingerprint_refusal bytes (numbered 20 (shown_after 0 body))) (rest_refusal (shown_rank 0 body) (behind_shown 0 body)) next.1 in
     let begins = no_header_refusal bytes top.0 in
     let told = tells_header bytes are begins.0 begins.1 in
     let len = no_length_refusal bytes next.0 in
@@ -175,3 +177,12 @@ has_text bytes are h =
       shape = shape_of body;
       ended = leaves_by (shown_after 0 body) behind (no_rest_refusal (last_rank 0 (shown_after 0 body)) behind last.1);
     }
+
+pub has_right_fingerprint : (bytes : List ℕ) → refusal bytes ≡ None → AreRightFingerprints bytes (numbered 20 (shown bytes))
+unfolding refusal body_refusal shown
+has_right_fingerprint bytes h =
+    let body = drop 20 bytes in
+    let top = or_none (header_refusal bytes) (or_else (length_refusal bytes) (body_refusal bytes)) h in
+    let next = or_none (length_refusal bytes) (body_refusal bytes) top.1 in
+    let last = or_none (fingerprint_refusal bytes (numbered 20 (shown_after 0 body))) (rest_refusal (shown_rank 0 body) (behind_shown 0 body)) next.1 in
+    right_where_not_refused bytes (numbered 20 (shown_after 0 body)) last.0

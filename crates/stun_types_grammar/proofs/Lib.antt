@@ -4,6 +4,8 @@ pub mod Left
 pub mod Longest
 pub mod Numbers
 pub mod HeaderLaws
+pub mod Ends
+pub mod Fingerprints
 pub mod Texts
 pub mod Converse
 pub mod Written

@@ -9,12 +9,14 @@ use Rattle.byteorder.specs.Endian.{big_bytes, big_number}
 use Rattle.byteorder.specs.Numbers.{big_number-reads_back, length-bytes_high_first}
 use Rattle.stun_types_wire.specs.declared.error.StunParseError.{StunParseError}
 use Rattle.stun_types_wire.specs.declared.error.StunParseError.TheVariants.{Truncated}
-use Rattle.stun_types_wire.specs.Attributes.{Attr, attr_size, attr_at, kind_at, length_at, size_at, padded, padding_len, is_whole}
+use Rattle.stun_types_wire.specs.Attributes.{Attr, attr_size, attr_at, kind_at, length_at, size_at, padded, padding_len, is_whole, numbered}
 use Rattle.stun_types_wire.specs.Shape.{rank, may_follow, shown_after, behind_shown, shown_rank, last_rank, IsShape, kinds_of}
 use Rattle.stun_types_wire.specs.Grammar.{cookie, header_refusal, length_refusal, fingerprint_refusal, rest_refusal, body_refusal, refusal, shown, number_at, or_else}
 use Rattle.stun_types_wire.specs.Text.{header_text, padded_text, Part, part_text, parts_text, attributes_of, FitsAttribute, FitsPart, LeavesShape, IsTextOf}
 use Rattle.stun_types_wire.proofs.Headers.{header_front}
+use Rattle.stun_types_grammar.specs.Fingerprinted.{AreRightFingerprints}
 use Rattle.stun_types_grammar.specs.Reading.{IsReadAs}
+use Rattle.stun_types_grammar.proofs.Fingerprints.{not_refused}
 use Rattle.stun_types_grammar.proofs.Whole.{whole_from, not_whole}
 use Rattle.stun_types_grammar.proofs.Scan.{shown_step, shown_short, shown_stops, rank_stops, behind_step, behind_stops}
 use Rattle.stun_types_grammar.proofs.Longest.{Follows, shape_follows, follows_shape}
@@ -170,19 +172,23 @@ unfolding rest_refusal
 rest_fine before behind (inl none) = rw none refl
 rest_fine before behind (inr more) = rw (ne_eqb (length behind) 0 (λ e. let four = more.0 in omega arith), le-ltb (length behind) 4 more.0, more.1) refl
 
-pub text_read : (kind number : ℕ) (all : List Attr) (bytes : List ℕ) → IsTextOf kind number all bytes → fingerprint_refusal all ≡ None → IsReadAs kind number all bytes
+pub text_read : (kind number : ℕ) (all : List Attr) (bytes : List ℕ) → IsTextOf kind number all bytes → AreRightFingerprints bytes (numbered 20 all) → IsReadAs kind number all bytes
 unfolding refusal shown body_refusal shown_rank
-text_read kind number all bytes h no_fingerprint =
+text_read kind number all bytes h right =
     let body = parts_text h.parts ++ h.behind in
-    let header = header_text kind (length body) number in
     let follows : Follows 0 (kinds_of (attributes_of h.parts)) = subst (λ (l : List Attr). Follows 0 (kinds_of l)) (sym h.shows) (shape_follows (kinds_of all) h.shape) in
     let ended : Ended (last_rank 0 (attributes_of h.parts)) h.behind = subst (λ (l : List Attr). Ended (last_rank 0 l) h.behind) (sym h.shows) (ended_by all h.behind h.shape h.ended) in
     let shows = shown_again 0 h.parts h.behind h.each follows ended in
     let behind = behind_again h.parts h.behind h.each shows in
-    let none : fingerprint_refusal (attributes_of h.parts) ≡ None = ap fingerprint_refusal h.shows ∙ no_fingerprint in
+    let header_fine : header_refusal bytes ≡ None = ap header_refusal h.text ∙ header_front kind (length body) number body h.kind_fits in
+    let size_fine : length_refusal bytes ≡ None = ap length_refusal h.text ∙ length_fine kind number body h.length_fits in
+    let body_is : drop 20 bytes ≡ body = ap (drop 20) h.text ∙ header_drop kind (length body) number body in
+    let shown_is : shown_after 0 (drop 20 bytes) ≡ attributes_of h.parts = ap (shown_after 0) body_is ∙ shows in
+    let right_fine : fingerprint_refusal bytes (numbered 20 (shown_after 0 (drop 20 bytes))) ≡ None = ap (λ (l : List Attr). fingerprint_refusal bytes (numbered 20 l)) (shown_is ∙ h.shows) ∙ not_refused bytes (numbered 20 all) right in
+    let behind_is : behind_shown 0 (drop 20 bytes) ≡ h.behind = ap (behind_shown 0) body_is ∙ behind in
     record {
-      message = rw (h.text, header_front kind (length body) number body h.kind_fits, length_fine kind number body h.length_fits, header_drop kind (length body) number body, shows, none, behind) (rest_fine (last_rank 0 (attributes_of h.parts)) h.behind ended);
+      message = rw (header_fine, size_fine, right_fine, shown_is, behind_is) (rest_fine (last_rank 0 (attributes_of h.parts)) h.behind ended);
       kind = ap kind_at h.text ∙ header_kind kind (length body) number body h.kind_fits;
       number = ap number_at h.text ∙ header_number kind (length body) number body h.number_fits;
-      shows = ap (λ (l : List ℕ). shown_after 0 (drop 20 l)) h.text ∙ ap (shown_after 0) (header_drop kind (length body) number body) ∙ shows ∙ h.shows;
+      shows = shown_is ∙ h.shows;
     }

@@ -4,9 +4,10 @@ use Rattle.std.specs.List.{AllByRecursion}
 use Rattle.std.proofs.lemmas.List.{append-nil, length-replicate}
 use Rattle.stun_types_wire.specs.Attributes.{Attr, padding_len}
 use Rattle.stun_types_wire.specs.Shape.{IsShape, kinds_of}
-use Rattle.stun_types_wire.specs.Grammar.{fingerprint_refusal}
 use Rattle.stun_types_wire.specs.Text.{header_text, attribute_text, body_text, message_text, Part, part_text, parts_text, attributes_of, FitsAttribute, FitsPart, IsTextOf}
+use Rattle.stun_types_grammar.specs.Fingerprinted.{HasOwnFingerprint}
 use Rattle.stun_types_grammar.specs.Reading.{IsReadAs}
+use Rattle.stun_types_grammar.proofs.Fingerprints.{written_right}
 use Rattle.stun_types_grammar.proofs.Texts.{text_read}
 
 -- an attribute with a padding of zeros
@@ -44,6 +45,6 @@ written_text kind number all k n fits shape short =
       ended = inl refl;
     }
 
-pub written_read : (kind number : ℕ) (all : List Attr) → kind < 2 ^ 14 → number < 2 ^ 96 → AllByRecursion FitsAttribute all → IsShape (kinds_of all) → length (body_text all) < 2 ^ 16 → fingerprint_refusal all ≡ None
+pub written_read : (kind number : ℕ) (all : List Attr) → kind < 2 ^ 14 → number < 2 ^ 96 → AllByRecursion FitsAttribute all → IsShape (kinds_of all) → length (body_text all) < 2 ^ 16 → HasOwnFingerprint kind number all
     → IsReadAs kind number all (message_text kind number all)
-written_read kind number all k n fits shape short none = text_read kind number all (message_text kind number all) (written_text kind number all k n fits shape short) none
+written_read kind number all k n fits shape short own = text_read kind number all (message_text kind number all) (written_text kind number all k n fits shape short) (written_right kind number all own)

@@ -4,11 +4,12 @@
 
 ghost use Rattle.std.specs.Prelude.{◌≡◌, ◌↔◌, ◌<◌, ◌^◌, List, ℕ, drop, length, Some, None};
 ghost use Rattle.stun_types_wire.specs.declared.error.StunParseError.TheVariants.{NotStun, Truncated};
-ghost use Rattle.stun_types_wire.specs.Attributes.{Attr, attributes, kind_at};
+ghost use Rattle.stun_types_wire.specs.Attributes.{Attr, attributes, kind_at, numbered};
 ghost use Rattle.stun_types_wire.specs.Shape.{IsLongestFront, IsShape, kinds_of};
-ghost use Rattle.stun_types_wire.specs.Grammar.{shown, refusal, header_refusal, fingerprint_refusal, number_at};
+ghost use Rattle.stun_types_wire.specs.Grammar.{shown, refusal, fingerprint_refusal, header_refusal, number_at};
 ghost use Rattle.stun_types_wire.specs.Text.{IsTextOf, FitsAttribute, body_text, message_text};
 ghost use Rattle.std.specs.List.{AllByRecursion};
+ghost use Rattle.stun_types_grammar.specs.Fingerprinted.{AreRightFingerprints, HasOwnFingerprint};
 ghost use Rattle.stun_types_grammar.specs.Headers.{AreBytes, BeginsWithHeader, MayBecomeHeader};
 ghost use Rattle.stun_types_grammar.specs.Reading.{IsReadAs};
 
@@ -27,21 +28,30 @@ pub fn header_refusals()
     ensures accepted { (bytes : List ℕ) → AreBytes bytes → (header_refusal bytes ≡ None) ↔ BeginsWithHeader bytes }
 {}
 
-/// The text of a message is read as that message, whatever its padding is and whatever stands
-/// behind where the shape is left (RFC 8489, sections 5 and 14).
+/// Among attributes none is a wrong FINGERPRINT exactly where each FINGERPRINT has four bytes, which
+/// are the CRC-32 of the message before it, with the length that reaches through it, combined with
+/// `STUN` (RFC 8489, section 14.7).
+pub fn fingerprint_refusals()
+    ensures { (bytes : List ℕ) (entries : List (ℕ × Attr)) → (fingerprint_refusal bytes entries ≡ None) ↔ AreRightFingerprints bytes entries }
+{}
+
+/// The text of a message whose FINGERPRINT is right, if it has one, is read as that message, whatever
+/// its padding is and whatever stands behind where the shape is left (RFC 8489, sections 5 and 14).
 pub fn text_is_read()
-    ensures { (kind number : ℕ) (all : List Attr) (bytes : List ℕ) → IsTextOf kind number all bytes → fingerprint_refusal all ≡ None → IsReadAs kind number all bytes }
+    ensures { (kind number : ℕ) (all : List Attr) (bytes : List ℕ) → IsTextOf kind number all bytes → AreRightFingerprints bytes (numbered 20 all) → IsReadAs kind number all bytes }
 {}
 
 /// A message is the text of what is read of it: the header that it tells, each attribute that it
 /// shows with some padding, and behind them nothing, or four bytes and more that begin with a type
-/// by which the shape is left. With the law before, this says which bytes are a message.
+/// by which the shape is left. Its FINGERPRINT is right, if it shows one. With the law before, this
+/// says which bytes are a message.
 pub fn message_is_text()
-    ensures { (bytes : List ℕ) → AreBytes bytes → refusal bytes ≡ None → IsTextOf (kind_at bytes) (number_at bytes) (shown bytes) bytes }
+    ensures text { (bytes : List ℕ) → AreBytes bytes → refusal bytes ≡ None → IsTextOf (kind_at bytes) (number_at bytes) (shown bytes) bytes }
+    ensures fingerprint { (bytes : List ℕ) → refusal bytes ≡ None → AreRightFingerprints bytes (numbered 20 (shown bytes)) }
 {}
 
-/// A message as a writer writes it is accepted, and read as its type, its number and the attributes
-/// that were added.
+/// A message as a writer writes it, without a FINGERPRINT or with the right one at its end, is
+/// accepted, and read as its type, its number and the attributes that were added.
 pub fn written_is_read()
     ensures { (kind number : ℕ) (all : List Attr)
         → kind < 2 ^ 14
@@ -49,6 +59,6 @@ pub fn written_is_read()
         → AllByRecursion FitsAttribute all
         → IsShape (kinds_of all)
         → length (body_text all) < 2 ^ 16
-        → fingerprint_refusal all ≡ None
+        → HasOwnFingerprint kind number all
         → IsReadAs kind number all (message_text kind number all) }
 {}

@@ -1,15 +1,15 @@
 -- Message integrity: which text is covered, by which digest, and when a message validates (RFC 8489, sections 14.5 and 14.6).
-use Rattle.std.specs.Prelude.{◌≡◌, ℕ, ◌+◌, ◌-◌, ◌%◌, Bool, ◌==◌, ◌&&◌, nat_le, Option, Some, None, if◌then◌else◌, IsTrue, List, ◌∷◌, ◌++◌, length, take, drop}
+use Rattle.std.specs.Prelude.{◌≡◌, ℕ, ◌%◌, Bool, ◌==◌, ◌&&◌, nat_le, Option, Some, None, if◌then◌else◌, IsTrue, List, ◌∷◌, ◌++◌, length}
 use Rattle.std.specs.List.{AllByRecursion}
 use Rattle.sha1.specs.Sha1.{sha1}
 use Rattle.sha2.specs.Sha256.{sha256}
 use Rattle.stun_types_digest.specs.Hmac.{hmac}
 use Rattle.stun_types_wire.specs.declared.algorithm.IntegrityAlgorithm.{IntegrityAlgorithm}
 use Rattle.stun_types_wire.specs.declared.algorithm.IntegrityAlgorithm.TheVariants.{Sha1, Sha256}
-use Rattle.stun_types_wire.specs.Attributes.{Attr, size_at, numbered}
+use Rattle.stun_types_wire.specs.Attributes.{Attr, numbered}
 use Rattle.stun_types_wire.specs.Shape.{integrity_kind, sha256_kind}
 use Rattle.stun_types_wire.specs.Grammar.{IsMessage, shown}
-use Rattle.stun_types_write.specs.Adding.{with_length}
+use Rattle.stun_types_wire.specs.Covered.{covered_text}
 
 -- ---- what an algorithm stands for
 
@@ -38,10 +38,6 @@ abbrev pub algorithm_of : ℕ → Option IntegrityAlgorithm
 algorithm_of kind = if kind == integrity_kind then Some Sha1 else if kind == sha256_kind then Some Sha256 else None
 
 -- ---- validation
-
--- the bytes before the attribute at this offset, as if the message ended with that attribute
-unfoldable pub covered_text : List ℕ → ℕ → List ℕ
-covered_text bytes offset = with_length (take offset bytes) (offset - 20 + size_at (drop offset bytes))
 
 -- bytes are a message that shows an attribute of the algorithm, this is the text that it covers, and its value is of a lawful length and the HMAC of that text, or a front of it
 pub record IsSigned (bytes key : List ℕ) (algorithm : IntegrityAlgorithm) (text : List ℕ) : Type 0 where

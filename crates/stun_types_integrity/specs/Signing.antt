@@ -7,7 +7,8 @@ use Rattle.stun_types_wire.specs.declared.error.StunWriteError.{StunWriteError}
 use Rattle.stun_types_wire.specs.declared.error.StunWriteError.TheVariants.{AttributeExists, FingerprintExists, IntegrityFailed, MessageIntegrityExists}
 use Rattle.stun_types_wire.specs.Attributes.{Attr}
 use Rattle.stun_types_wire.specs.Shape.{fingerprint_kind, integrity_kind, sha256_kind}
-use Rattle.stun_types_write.specs.Adding.{has_kind, size_refusal, with_length}
+use Rattle.stun_types_write.specs.Adding.{has_kind, size_refusal}
+use Rattle.stun_types_wire.specs.Covered.{with_length}
 use Rattle.stun_types_integrity.specs.Integrity.{attribute_kind, integrity_hmac}
 
 -- how many bytes the HMAC of an algorithm has

@@ -18,8 +18,8 @@ use Rattle.stun_types_grammar.proofs.Whole.{whole_long, size_whole}
 use Rattle.stun_types_grammar.proofs.Left.{left_at, map_numbered}
 use Rattle.stun_types_grammar.proofs.Longest.{Follows, front_follows}
 use Rattle.stun_types_grammar.proofs.Converse.{has_text}
-use Rattle.stun_types_write.specs.Adding.{with_length}
-use Rattle.stun_types_integrity.specs.Integrity.{IsFront, IsSigned, Validates, algorithm_of, attribute_kind, covered_text, integrity_hmac, is_lawful_length}
+use Rattle.stun_types_wire.specs.Covered.{covered_text, with_length}
+use Rattle.stun_types_integrity.specs.Integrity.{IsFront, IsSigned, Validates, algorithm_of, attribute_kind, integrity_hmac, is_lawful_length}
 use Rattle.stun_types_laws.specs.Same.{ShowSame, without_fingerprint}
 use Rattle.stun_types_laws.proofs.Splits.{Stands, stands, not_before, same_before}
 

@@ -15,12 +15,12 @@ use Rattle.std.specs.List.{AllByRecursion}
 use Rattle.stun_types_grammar.proofs.Left.{left_at, map_numbered, none_past, none_stops, left_step}
 use Rattle.stun_types_grammar.proofs.Scan.{shown_short}
 use Rattle.stun_types_grammar.proofs.Longest.{Follows, front_follows}
-use Rattle.stun_types_write.specs.Adding.{with_length}
+use Rattle.stun_types_wire.specs.Covered.{covered_text, with_length}
 use Rattle.stun_types_wire.specs.declared.algorithm.IntegrityAlgorithm.TheVariants.{Sha1, Sha256}
 use Rattle.stun_types_wire.specs.declared.error.StunParseError.TheVariants.{MissingAttribute, InvalidAttributeData}
 use Rattle.stun_types_wire.specs.declared.error.ValidateError.{ValidateError}
 use Rattle.stun_types_wire.specs.declared.error.ValidateError.TheVariants.{Parse, IntegrityFailed, NoMemory}
-use Rattle.stun_types_integrity.specs.Integrity.{IsSigned, Validates, algorithm_of, attribute_kind, covered_text, integrity_hmac}
+use Rattle.stun_types_integrity.specs.Integrity.{IsSigned, Validates, algorithm_of, attribute_kind, integrity_hmac}
 use Rattle.stun_types_integrity.specs.Credentials.{Key}
 use Rattle.stun_types_integrity.specs.Keys.{key_of}
 use Rattle.stun_types_integrity.specs.declared.credentials.MessageIntegrityCredentials.{MessageIntegrityCredentials}

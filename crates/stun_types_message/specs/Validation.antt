@@ -10,7 +10,8 @@ use Rattle.stun_types_wire.specs.Shape.{integrity_kind}
 use Rattle.stun_types_wire.specs.Grammar.{shown}
 use Rattle.stun_types_integrity.specs.declared.credentials.MessageIntegrityCredentials.{MessageIntegrityCredentials}
 use Rattle.stun_types_integrity.specs.Keys.{key_of}
-use Rattle.stun_types_integrity.specs.Integrity.{IsFront, algorithm_of, attribute_kind, covered_text, integrity_hmac, is_lawful_length}
+use Rattle.stun_types_integrity.specs.Integrity.{IsFront, algorithm_of, attribute_kind, integrity_hmac, is_lawful_length}
+use Rattle.stun_types_wire.specs.Covered.{covered_text}
 
 -- the first attribute of a type that is shown, with the offset at which it stands
 abbrev pub first_of_kind : ℕ → List ℕ → Option (ℕ × Attr)

@@ -4,8 +4,9 @@ use Rattle.std.specs.List.{starts_with, list_any}
 use Rattle.byteorder.specs.Endian.{big_number}
 use Rattle.stun_types_wire.specs.declared.error.StunParseError.{StunParseError}
 use Rattle.stun_types_wire.specs.declared.error.StunParseError.TheVariants.{NotStun, Truncated, TooLarge, FingerprintMismatch}
-use Rattle.stun_types_wire.specs.Attributes.{Attr, kind_at, length_at, size_at}
-use Rattle.stun_types_wire.specs.Shape.{rank, may_follow, shown_after, behind_shown, shown_rank, fingerprint_kind}
+use Rattle.stun_types_wire.specs.Attributes.{Attr, kind_at, length_at, numbered, size_at}
+use Rattle.stun_types_wire.specs.Shape.{rank, may_follow, shown_after, behind_shown, shown_rank}
+use Rattle.stun_types_wire.specs.Fingerprints.{is_wrong_fingerprint}
 
 -- the refusal, or the one that comes after it
 abbrev pub or_else : Option StunParseError → Option StunParseError → Option StunParseError
@@ -52,9 +53,9 @@ length_refusal bytes =
     else if nat_lt (20 + length_at bytes) (length bytes) then Some (TooLarge (20 + length_at bytes) (length bytes))
     else None
 
--- a FINGERPRINT that is shown is refused: its check is not written yet
-unfoldable pub fingerprint_refusal : List Attr → Option StunParseError
-fingerprint_refusal all = if list_any (λ a. a.kind == fingerprint_kind) all then Some FingerprintMismatch else None
+-- among attributes of a message, each with its offset, one is a FINGERPRINT and a wrong one
+unfoldable pub fingerprint_refusal : List ℕ → List (ℕ × Attr) → Option StunParseError
+fingerprint_refusal bytes entries = if list_any (is_wrong_fingerprint bytes) entries then Some FingerprintMismatch else None
 
 -- what may stand behind the shown attributes, the last of them of this rank: nothing, or four bytes and more that begin with a type that doesn't continue the shape
 unfoldable pub rest_refusal : ℕ → List ℕ → Option StunParseError
@@ -64,13 +65,13 @@ rest_refusal before rest =
     else if may_follow before (rank (kind_at rest)) then Some (Truncated (size_at rest) (length rest))
     else None
 
--- why bytes are no attributes of a message
+-- why the bytes behind a header are no attributes of a message
 unfoldable pub body_refusal : List ℕ → Option StunParseError
-body_refusal body = or_else (fingerprint_refusal (shown_after 0 body)) (rest_refusal (shown_rank 0 body) (behind_shown 0 body))
+body_refusal bytes = or_else (fingerprint_refusal bytes (numbered 20 (shown_after 0 (drop 20 bytes)))) (rest_refusal (shown_rank 0 (drop 20 bytes)) (behind_shown 0 (drop 20 bytes)))
 
 -- the first refusal, in the order in which they come
 unfoldable pub refusal : List ℕ → Option StunParseError
-refusal bytes = or_else (header_refusal bytes) (or_else (length_refusal bytes) (body_refusal (drop 20 bytes)))
+refusal bytes = or_else (header_refusal bytes) (or_else (length_refusal bytes) (body_refusal bytes))
 
 -- bytes that are a message
 abbrev pub IsMessage : List ℕ → Type 0

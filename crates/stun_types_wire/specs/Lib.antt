@@ -1,6 +1,8 @@
 pub mod Attributes
+pub mod Covered
 pub mod Data
 pub mod Family
+pub mod Fingerprints
 pub mod Grammar
 pub mod Number
 pub mod RawBytes

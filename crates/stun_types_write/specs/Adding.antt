@@ -1,10 +1,10 @@
 -- What an attribute that is added makes of a message, and why it is not added (RFC 8489, sections 14.5 to 14.7).
-use Rattle.std.specs.Prelude.{◌≡◌, ℕ, ◌+◌, ◌-◌, ◌≤◌, Bool, ◌||◌, ◌==◌, nat_lt, List, ◌++◌, length, take, drop, Option, Some, None, if◌then◌else◌}
+use Rattle.std.specs.Prelude.{◌≡◌, ℕ, ◌+◌, ◌-◌, ◌≤◌, Bool, ◌||◌, ◌==◌, nat_lt, List, ◌++◌, length, Option, Some, None, if◌then◌else◌}
 use Rattle.std.specs.List.{list_any}
-use Rattle.byteorder.specs.Endian.{big_bytes}
 use Rattle.stun_types_wire.specs.declared.error.StunWriteError.{StunWriteError}
 use Rattle.stun_types_wire.specs.declared.error.StunWriteError.TheVariants.{FingerprintExists, MessageIntegrityExists, TooLarge, TooSmall}
 use Rattle.stun_types_wire.specs.Attributes.{Attr, attr_size}
+use Rattle.stun_types_wire.specs.Covered.{with_length}
 use Rattle.stun_types_wire.specs.Shape.{integrity_kind, sha256_kind, fingerprint_kind}
 use Rattle.stun_types_wire.specs.Grammar.{header_refusal}
 use Rattle.stun_types_wire.specs.Text.{attribute_text}
@@ -12,10 +12,6 @@ use Rattle.stun_types_wire.specs.Text.{attribute_text}
 -- the attribute of a type and a value
 abbrev pub attr_of : ℕ → List ℕ → Attr
 attr_of kind value = record { kind = kind; value = value }
-
--- the bytes of a message with another length in its header
-unfoldable pub with_length : List ℕ → ℕ → List ℕ
-with_length bytes n = take 2 bytes ++ big_bytes 2 n ++ drop 4 bytes
 
 -- a message to which an attribute is added at the end
 unfoldable pub after_add : List ℕ → Attr → List ℕ

@@ -4,7 +4,8 @@ ghost use Rattle.std.specs.Prelude.{◌≡◌, ◌+◌, ◌<◌, ◌≤◌, ◌^
 ghost use Rattle.byteorder.specs.Endian.{big_bytes};
 ghost use Rattle.stun_types_wire.specs.Attributes.{padded};
 ghost use Rattle.stun_types_wire.specs.Text.{attribute_text};
-ghost use Rattle.stun_types_write.specs.Adding.{attr_of, with_length};
+ghost use Rattle.stun_types_write.specs.Adding.{attr_of};
+ghost use Rattle.stun_types_wire.specs.Covered.{with_length};
 
 use byteorder::{BigEndian, ByteOrder};
 use stun_types_wire::attribute::{AttributeType, pad_attribute_len};

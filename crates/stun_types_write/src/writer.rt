@@ -4,7 +4,8 @@ ghost use Rattle.std.specs.Prelude.{◌≡◌, ◌+◌, ◌<◌, ◌≤◌, ◌+
 ghost use Rattle.std.specs.Option.{option_map};
 ghost use Rattle.stun_types_wire.specs.Attributes.{padded};
 ghost use Rattle.stun_types_wire.specs.Text.{attribute_text};
-ghost use Rattle.stun_types_write.specs.Adding.{attr_of, with_length, has_kind, is_among, greatest_size};
+ghost use Rattle.stun_types_write.specs.Adding.{attr_of, has_kind, is_among, greatest_size};
+ghost use Rattle.stun_types_wire.specs.Covered.{with_length};
 
 use crate::attribute::AttributeWrite;
 use stun_types_base::memory::NoMemory;

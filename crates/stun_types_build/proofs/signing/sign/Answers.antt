@@ -1,5 +1,5 @@
 use Rattle.std.proofs.Common.{rules, ℕ, List, ◌≡◌, ◌+◌, ◌-◌, length, ap, ◌∙◌}
-use Rattle.stun_types_write.specs.Adding.{with_length}
+use Rattle.stun_types_wire.specs.Covered.{with_length}
 use Rattle.stun_types_integrity.specs.Integrity.{integrity_hmac}
 use Rattle.stun_types_integrity.specs.Signing.{hmac_length}
 use Rattle.stun_types_build.proofs.Adds.{pushed_long}

@@ -1,0 +1,28 @@
+-- FINGERPRINT (RFC 8489, section 14.7).
+use Rattle.std.specs.Prelude.{ℕ, ◌+◌, ◌-◌, ◌==◌, ◌&&◌, Bool, not, List, length, bit_xor, bytes_eq}
+use Rattle.std.specs.List.{list_any}
+use Rattle.byteorder.specs.Endian.{big_bytes}
+use Rattle.stun_types_digest.specs.Crc.{crc32}
+use Rattle.stun_types_wire.specs.Attributes.{Attr}
+use Rattle.stun_types_wire.specs.Shape.{fingerprint_kind}
+use Rattle.stun_types_wire.specs.Covered.{covered_text, with_length}
+
+-- what the CRC-32 is combined with: STUN in letters
+abbrev pub fingerprint_mask : ℕ
+fingerprint_mask = 0x5354554E
+
+-- the value of the FINGERPRINT of a text: its CRC-32, combined with the letters, in four bytes
+unfoldable pub fingerprint_value : List ℕ → List ℕ
+fingerprint_value text = big_bytes 4 (bit_xor (crc32 text) fingerprint_mask)
+
+-- the FINGERPRINT of a message with these bytes, to stand at its end
+unfoldable pub fingerprint_of : List ℕ → Attr
+fingerprint_of bytes = record { kind = fingerprint_kind; value = fingerprint_value (with_length bytes (length bytes - 20 + 8)) }
+
+-- among some attributes is a FINGERPRINT
+abbrev pub shows_fingerprint : List Attr → Bool
+shows_fingerprint all = list_any (λ a. a.kind == fingerprint_kind) all
+
+-- an attribute of some bytes, at its offset, is a FINGERPRINT, and not that of what it covers
+abbrev pub is_wrong_fingerprint : List ℕ → ℕ × Attr → Bool
+is_wrong_fingerprint bytes entry = entry.1.kind == fingerprint_kind && not (bytes_eq entry.1.value (fingerprint_value (covered_text bytes entry.0)))
