@@ -1,25 +1,23 @@
 -- A message that is signed validates.
-use Rattle.std.proofs.Common.{◌≡◌, ℕ, zero, suc, ◌+◌, ◌-◌, ◌*◌, ◌^◌, ◌<◌, ◌≤◌, List, [], ◌∷◌, ◌++◌, length, take, drop, map, replicate, None, refl, sym, ap, subst, ◌∙◌, append_assoc, arith}
-use Rattle.std.specs.Prelude.{IsTrue, sum_by}
+use Rattle.std.proofs.Common.{◌≡◌, ℕ, zero, suc, ◌+◌, ◌-◌, ◌*◌, ◌^◌, ◌<◌, List, [], ◌∷◌, ◌++◌, length, None, refl, sym, ap, subst, ◌∙◌, arith}
+use Rattle.std.specs.Prelude.{IsTrue, slice_index, sum_by}
 use Rattle.std.specs.List.{AllByRecursion}
 use Rattle.std.specs.Int.{to_be_bytes, w32}
-use Rattle.std.specs.Prelude.{slice_index}
-use Rattle.std.proofs.lemmas.List.{append-nil, length-append, length-replicate, take-append-le, drop-append-le}
-use Rattle.std.proofs.lemmas.List.Sums.{sum_by-cons}
+use Rattle.std.proofs.lemmas.List.{append-nil, length-append}
 use Rattle.sha1.specs.Sha1.{sha1, digest_bytes}
 use Rattle.sha2.proofs.Facts256.{length-sha256}
-use Rattle.byteorder.specs.Endian.{big_bytes}
-use Rattle.byteorder.specs.Numbers.{big_number-reads_back}
 use Rattle.stun_types_digest.specs.Hmac.{hmac}
 use Rattle.stun_types_wire.specs.declared.algorithm.IntegrityAlgorithm.{IntegrityAlgorithm}
 use Rattle.stun_types_wire.specs.declared.algorithm.IntegrityAlgorithm.TheVariants.{Sha1, Sha256}
-use Rattle.stun_types_wire.specs.Attributes.{Attr, attr_size, length_at, size_at, padded, padding_len, numbered}
-use Rattle.stun_types_wire.specs.Shape.{IsShape, kinds_of}
-use Rattle.stun_types_wire.specs.Grammar.{fingerprint_refusal, shown}
-use Rattle.stun_types_wire.specs.Text.{FitsAttribute, header_text, padded_text, attribute_text, body_text, message_text}
-use Rattle.stun_types_grammar.proofs.Written.{written_read}
+use Rattle.stun_types_wire.specs.Attributes.{Attr, attr_size, padded, numbered}
 use Rattle.stun_types_wire.specs.Covered.{covered_text, with_length}
-use Rattle.stun_types_integrity.specs.Integrity.{IsFront, IsSigned, Validates, attribute_kind, integrity_hmac, is_lawful_length}
+use Rattle.stun_types_wire.specs.Grammar.{shown}
+use Rattle.stun_types_wire.specs.Shape.{IsShape, kinds_of}
+use Rattle.stun_types_wire.specs.Text.{FitsAttribute, body_text, message_text}
+use Rattle.stun_types_grammar.specs.Fingerprinted.{HasOwnFingerprint}
+use Rattle.stun_types_grammar.proofs.Ends.{covered_at, fit_both, numbered_both, text_length}
+use Rattle.stun_types_grammar.proofs.Written.{written_read}
+use Rattle.stun_types_integrity.specs.Integrity.{IsFront, IsSigned, Validates, algorithm_of, attribute_kind, integrity_hmac, is_lawful_length}
 use Rattle.stun_types_integrity.specs.Signing.{hmac_length, signature, text_to_sign}
 
 -- ---- how long an HMAC is
@@ -74,31 +72,46 @@ own_fits algorithm key bytes = record {
   value = (size_of algorithm (length (signature algorithm key bytes).value) (signature_length algorithm key bytes)).1;
 }
 
-
-pub signed_is_valid : (kind number : ℕ) (adds : List Attr) (key : List ℕ) (algorithm : IntegrityAlgorithm) (all : List Attr) → all ≡ adds ++ signature algorithm key (message_text kind number adds) ∷ []
-    → kind < 2 ^ 14 → number < 2 ^ 96 → AllByRecursion FitsAttribute adds → IsShape (kinds_of all) → length (body_text all) < 2 ^ 16 → fingerprint_refusal all ≡ None
-    → Validates (message_text kind number all) key algorithm (text_to_sign algorithm (message_text kind number adds))
+-- the message with its attributes as they are written, one of which signs what stands before it
+pub signed_is_signed : (kind number : ℕ) (adds : List Attr) (key : List ℕ) (algorithm : IntegrityAlgorithm) (behind all : List Attr) → all ≡ adds ++ signature algorithm key (message_text kind number adds) ∷ behind
+    → kind < 2 ^ 14 → number < 2 ^ 96 → AllByRecursion FitsAttribute adds → AllByRecursion FitsAttribute behind → IsShape (kinds_of all) → length (body_text all) < 2 ^ 16 → HasOwnFingerprint kind number all
+    → (own : IsSigned (message_text kind number all) key algorithm (text_to_sign algorithm (message_text kind number adds))) × (own.behind ≡ numbered (length (message_text kind number adds) + attr_size (signature algorithm key (message_text kind number adds))) behind)
 unfolding text_to_sign
-signed_is_valid kind number adds key algorithm all is kind-fits number-fits fits shape short no_fingerprint =
+signed_is_signed kind number adds key algorithm behind all is kind-fits number-fits fits behind-fits shape short fingerprint =
     let bytes = message_text kind number adds in
     let a = signature algorithm key bytes in
     let sizes = size_of algorithm (length a.value) (signature_length algorithm key bytes) in
-    let read = written_read kind number all kind-fits number-fits (all_fit adds a all is fits (own_fits algorithm key bytes)) shape short no_fingerprint in
+    let all-fit : AllByRecursion FitsAttribute all = subst (AllByRecursion FitsAttribute) (sym is) (fit_both adds (a ∷ behind) fits (own_fits algorithm key bytes, behind-fits)) in
+    let read = written_read kind number all kind-fits number-fits all-fit shape short fingerprint in
     let place : 20 + sum_by attr_size adds ≡ length bytes = omega (arith, text_length kind number adds) in
-    let shows : numbered 20 (shown (message_text kind number all)) ≡ numbered 20 adds ++ (length bytes, a) ∷ [] =
-    ap (λ (l : List Attr). numbered 20 l) (read.shows ∙ is) ∙ numbered-last 20 adds a ∙ ap (λ n. numbered 20 adds ++ (n, a) ∷ []) place in
+    let shows : numbered 20 (shown (message_text kind number all)) ≡ numbered 20 adds ++ (length bytes, a) ∷ numbered (length bytes + attr_size a) behind =
+    ap (λ (l : List Attr). numbered 20 l) (read.shows ∙ is) ∙ numbered_both 20 adds (a ∷ behind) ∙ ap (λ n. numbered 20 adds ++ (n, a) ∷ numbered (n + attr_size a) behind) place in
     let covered : text_to_sign algorithm bytes ≡ covered_text (message_text kind number all) (length bytes) =
-    ap (λ n. with_length bytes (length bytes - 20 + n)) (sym sizes.0) ∙ sym (covered_last kind number adds a sizes.1) ∙ ap (λ (l : List Attr). covered_text (message_text kind number l) (length bytes)) (sym is) in
+    ap (λ n. with_length bytes (length bytes - 20 + n)) (sym sizes.0) ∙ sym (covered_at kind number adds a behind sizes.1) ∙ ap (λ (l : List Attr). covered_text (message_text kind number l) (length bytes)) (sym is) in
     let own : IsSigned (message_text kind number all) key algorithm (text_to_sign algorithm bytes) = record {
       message = read.message;
       before = numbered 20 adds;
       offset = length bytes;
       attribute = a;
-      behind = [];
+      behind = numbered (length bytes + attr_size a) behind;
       shows = shows;
       kind = signature_kind algorithm key bytes;
       covered = covered;
       lawful = subst (λ n. IsTrue (is_lawful_length algorithm n)) (sym (signature_length algorithm key bytes)) (lawful_length algorithm);
       digest = signature_digest algorithm key bytes;
     } in
-    record { signed = own; last = tt }
+    (own, refl)
+
+-- attributes that are no integrity attributes are none with their offsets
+none_numbered : (offset : ℕ) (all : List Attr) → AllByRecursion (λ a. algorithm_of a.kind ≡ None) all → AllByRecursion (λ entry. algorithm_of entry.1.kind ≡ None) (numbered offset all)
+none_numbered offset [] h = tt
+none_numbered offset (a ∷ all) h = (h.0, none_numbered (offset + attr_size a) all h.1)
+
+pub signed_is_valid : (kind number : ℕ) (adds : List Attr) (key : List ℕ) (algorithm : IntegrityAlgorithm) (behind all : List Attr) → all ≡ adds ++ signature algorithm key (message_text kind number adds) ∷ behind
+    → kind < 2 ^ 14 → number < 2 ^ 96 → AllByRecursion FitsAttribute adds → AllByRecursion FitsAttribute behind → IsShape (kinds_of all) → length (body_text all) < 2 ^ 16 → HasOwnFingerprint kind number all
+    → AllByRecursion (λ a. algorithm_of a.kind ≡ None) behind
+    → Validates (message_text kind number all) key algorithm (text_to_sign algorithm (message_text kind number adds))
+signed_is_valid kind number adds key algorithm behind all is kind-fits number-fits fits behind-fits shape short fingerprint none =
+    let own = signed_is_signed kind number adds key algorithm behind all is kind-fits number-fits fits behind-fits shape short fingerprint in
+    let offset = length (message_text kind number adds) + attr_size (signature algorithm key (message_text kind number adds)) in
+    record { signed = own.0; last = subst (AllByRecursion (λ (entry : ℕ × Attr). algorithm_of entry.1.kind ≡ None)) (sym own.1) (none_numbered offset behind none) }

@@ -2,15 +2,15 @@
 //! do nothing; each contract is a law.
 #![tactic(auto)]
 
-ghost use Rattle.std.specs.Prelude.{◌≡◌, ◌<◌, ◌^◌, ◌++◌, ◌∷◌, [], List, ℕ, None, length};
+ghost use Rattle.std.specs.Prelude.{◌≡◌, ◌<◌, ◌^◌, ◌++◌, ◌∷◌, List, ℕ, None, length};
 ghost use Rattle.std.specs.List.{AllByRecursion};
 ghost use Rattle.stun_types_wire.specs.declared.algorithm.IntegrityAlgorithm.{IntegrityAlgorithm as Algorithm};
 ghost use Rattle.stun_types_wire.specs.Attributes.{Attr};
 ghost use Rattle.stun_types_wire.specs.Shape.{IsShape, kinds_of};
-ghost use Rattle.stun_types_wire.specs.Grammar.{fingerprint_refusal};
 ghost use Rattle.stun_types_wire.specs.Text.{FitsAttribute, body_text, message_text};
+ghost use Rattle.stun_types_grammar.specs.Fingerprinted.{HasOwnFingerprint};
 ghost use Rattle.stun_types_grammar.specs.Headers.{AreBytes};
-ghost use Rattle.stun_types_integrity.specs.Integrity.{Validates};
+ghost use Rattle.stun_types_integrity.specs.Integrity.{IsSigned, Validates, algorithm_of};
 ghost use Rattle.stun_types_integrity.specs.Signing.{signature, text_to_sign};
 ghost use Rattle.stun_types_laws.specs.Same.{ShowSame};
 
@@ -25,16 +25,29 @@ pub fn covered_text_fixes_message()
         → ShowSame first second }
 {}
 
-/// A message as a writer writes it, with the integrity attribute that signs it at its end, validates
-/// under the key by which it is signed (RFC 8489, sections 14.5 and 14.6).
+/// A message as a writer writes it, one of whose attributes signs what stands before it, is signed
+/// under that key. Where no integrity attribute stands behind that one, it validates under that key
+/// (RFC 8489, sections 14.5 and 14.6).
 pub fn signed_validates()
-    ensures { (kind number : ℕ) (adds : List Attr) (key : List ℕ) (algorithm : Algorithm) (all : List Attr)
-        → all ≡ adds ++ signature algorithm key (message_text kind number adds) ∷ []
+    ensures signed { (kind number : ℕ) (adds : List Attr) (key : List ℕ) (algorithm : Algorithm) (behind all : List Attr)
+        → all ≡ adds ++ signature algorithm key (message_text kind number adds) ∷ behind
         → kind < 2 ^ 14
         → number < 2 ^ 96
         → AllByRecursion FitsAttribute adds
+        → AllByRecursion FitsAttribute behind
         → IsShape (kinds_of all)
         → length (body_text all) < 2 ^ 16
-        → fingerprint_refusal all ≡ None
+        → HasOwnFingerprint kind number all
+        → IsSigned (message_text kind number all) key algorithm (text_to_sign algorithm (message_text kind number adds)) }
+    ensures validates { (kind number : ℕ) (adds : List Attr) (key : List ℕ) (algorithm : Algorithm) (behind all : List Attr)
+        → all ≡ adds ++ signature algorithm key (message_text kind number adds) ∷ behind
+        → kind < 2 ^ 14
+        → number < 2 ^ 96
+        → AllByRecursion FitsAttribute adds
+        → AllByRecursion FitsAttribute behind
+        → IsShape (kinds_of all)
+        → length (body_text all) < 2 ^ 16
+        → HasOwnFingerprint kind number all
+        → AllByRecursion (λ a. algorithm_of a.kind ≡ None) behind
         → Validates (message_text kind number all) key algorithm (text_to_sign algorithm (message_text kind number adds)) }
 {}

@@ -1,3 +1,4 @@
+pub mod Fingerprints
 pub mod Scanning
 pub mod Refusals
 pub mod Validating

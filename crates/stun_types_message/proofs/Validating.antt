@@ -51,8 +51,8 @@ length_none bytes h =
 pub told_length : (bytes : List ℕ) (told : Header) → IsParsed bytes told → length bytes ≡ 20 + told.len
 unfolding refusal
 told_length bytes told h =
-    let later = (or_else_none (header_refusal bytes) (or_else (length_refusal bytes) (body_refusal (drop 20 bytes))) h.message).1 in
-    let fits = (or_else_none (length_refusal bytes) (body_refusal (drop 20 bytes)) later).0 in
+    let later = (or_else_none (header_refusal bytes) (or_else (length_refusal bytes) (body_refusal bytes)) h.message).1 in
+    let fits = (or_else_none (length_refusal bytes) (body_refusal bytes) later).0 in
     length_none bytes fits ∙ ap (λ n. 20 + n) (sym (ap (λ (t : Header). t.len) h.header))
 
 -- ---- where an attribute stands

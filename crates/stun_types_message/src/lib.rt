@@ -2,6 +2,7 @@
 #![tactic(auto)]
 
 pub mod builder;
+mod fingerprint;
 mod front;
 pub mod iter;
 pub mod message;

@@ -5,6 +5,7 @@ ghost use Rattle.stun_types_wire.specs.Attributes.{kind_at, numbered};
 ghost use Rattle.stun_types_wire.specs.Types.{class_of, method_of, is_response_class};
 ghost use Rattle.stun_types_wire.specs.Grammar.{body_refusal, refusal, shown, number_at};
 
+use crate::fingerprint;
 use crate::front::Front;
 use crate::iter::MessageAttributesIter;
 use crate::stage::Stage;
@@ -39,8 +40,8 @@ impl<'a> Message<'a> {
     /// The message that the bytes are. Refused, in this order: as `MessageHeader::from_bytes` is;
     /// `Truncated` where there are fewer bytes than header and length tell, `TooLarge` where there are
     /// more; then, going over the attributes, `Truncated` where one to three bytes are left or where
-    /// an attribute is not there whole, `FingerprintMismatch` where a FINGERPRINT is shown, whose check
-    /// is not written yet.
+    /// an attribute is not there whole, `FingerprintMismatch` where a FINGERPRINT is shown that has not
+    /// four bytes, or not those of the message before it (RFC 8489, section 14.7).
     ///
     /// An attribute that doesn't continue the shape of a message (ordinary ones, then
     /// MESSAGE-INTEGRITY, MESSAGE-INTEGRITY-SHA256 and FINGERPRINT, each at most once) and what
@@ -63,8 +64,7 @@ impl<'a> Message<'a> {
                 actual: bytes.len(),
             });
         }
-        let (_, body) = bytes.split_at(MessageHeader::LENGTH);
-        scan(body)?;
+        scan(bytes)?;
         Ok(Message { header, bytes })
     }
 
@@ -179,12 +179,14 @@ impl<'a> TryFrom<&'a [u8]> for Message<'a> {
     }
 }
 
-/// Whether the bytes behind a header are attributes of a message.
-#[tactic(auto, using(stun_types_grammar::proofs::Scan::refuses_short, stun_types_grammar::proofs::Scan::ends_all, crate::proofs::Scanning::ends_at, crate::proofs::Scanning::cut_at, crate::proofs::Scanning::fingerprint_at))]
-fn scan(body: &[u8]) -> Result<(), StunParseError>
-    ensures { MatchResult result (λ _. body_refusal body.now ≡ None) (λ error. body_refusal body.now ≡ Some error) }
+/// Whether the bytes behind the header of a message are its attributes.
+#[tactic(auto, using(stun_types_grammar::proofs::Scan::refuses_short, stun_types_grammar::proofs::Scan::ends_all, stun_types_grammar::proofs::Scan::begins, crate::proofs::Scanning::ends_at, crate::proofs::Scanning::cut_at, crate::proofs::Scanning::wrong_at))]
+fn scan(bytes: &[u8]) -> Result<(), StunParseError>
+    requires header { 20 ≤ length bytes.now }
+    requires short { length bytes.now ≤ 65_555 }
+    ensures { MatchResult result (λ _. body_refusal bytes.now ≡ None) (λ error. body_refusal bytes.now ≡ Some error) }
 {
-    let mut rest = body;
+    let (_, mut rest) = bytes.split_at(MessageHeader::LENGTH);
     let mut stage = Stage::Ordinary;
     while !rest.is_empty() {
         let Some(front) = Front::of(rest) else {
@@ -202,7 +204,7 @@ fn scan(body: &[u8]) -> Result<(), StunParseError>
                 actual: rest.len(),
             });
         }
-        if let Stage::Fingerprint = next {
+        if fingerprint::is_wrong(bytes, rest, front) {
             return Err(StunParseError::FingerprintMismatch);
         }
         let (_, after) = rest.split_at(front.size);

@@ -50,7 +50,7 @@ pub fn write_attribute_in_two(atype: AttributeType, front: &[u8], back: &[u8], d
 }
 
 /// Writes the length of a message into its header.
-#[tactic(auto, unfolding(crate::specs::Adding::with_length))]
+#[tactic(auto, unfolding(stun_types_wire::specs::Covered::with_length))]
 pub fn write_length(bytes: &mut [u8], n: u16)
     requires { 20 ≤ length bytes.old }
     ensures { bytes.new ≡ with_length bytes.old n }

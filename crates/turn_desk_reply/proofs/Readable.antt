@@ -1,13 +1,13 @@
 -- How a reply is read, signed or not.
-use Rattle.std.specs.Prelude.{◌≡◌, ℕ, ◌+◌, ◌≤◌, ◌<◌, ◌^◌, List, [], ◌∷◌, ◌++◌, length, None}
+use Rattle.std.specs.Prelude.{◌≡◌, ℕ, ◌+◌, ◌≤◌, ◌<◌, ◌^◌, List, [], ◌∷◌, ◌++◌, length, false}
 use Rattle.std.specs.declared.net.socket_addr.SocketAddr.{SocketAddr}
-use Rattle.std.proofs.Common.{refl, sym, ap, ◌∙◌, arith}
+use Rattle.std.proofs.Common.{refl, sym, ap, ◌∙◌, arith, inl}
 use Rattle.std.specs.List.{AllByRecursion}
 use Rattle.stun_types_wire.specs.declared.algorithm.IntegrityAlgorithm.{IntegrityAlgorithm}
 use Rattle.stun_types_wire.specs.declared.algorithm.IntegrityAlgorithm.TheVariants.{Sha1, Sha256}
 use Rattle.stun_types_wire.specs.Attributes.{Attr}
 use Rattle.stun_types_wire.specs.Shape.{kinds_of}
-use Rattle.stun_types_wire.specs.Grammar.{fingerprint_refusal}
+use Rattle.stun_types_wire.specs.Fingerprints.{shows_fingerprint}
 use Rattle.stun_types_wire.specs.Text.{FitsAttribute, body_text, message_text}
 use Rattle.stun_types_write.specs.Adding.{attr_of}
 use Rattle.stun_types_address.specs.Addresses.{address_value}
@@ -22,9 +22,9 @@ use Rattle.turn_desk_reply.specs.Replies.{IsReadable, IsReadableSigned, allocate
 use Rattle.turn_desk_reply.proofs.Sizes.{body-length, end-length, lifetime_of, mapped_of, no_body, relayed-length, xored_short}
 
 -- short attributes in the lawful order are read as they are written
-read_as : (kind number : ℕ) (all : List Attr) → kind < 2 ^ 14 → number < 2 ^ 96 → AllByRecursion FitsAttribute all → Follows 0 (kinds_of all) → length (body_text all) ≤ 4096 → fingerprint_refusal all ≡ None
+read_as : (kind number : ℕ) (all : List Attr) → kind < 2 ^ 14 → number < 2 ^ 96 → AllByRecursion FitsAttribute all → Follows 0 (kinds_of all) → length (body_text all) ≤ 4096 → shows_fingerprint all ≡ false
     → IsReadAs kind number all (message_text kind number all)
-read_as kind number all k n fits follows short none = written_read kind number all k n fits (follows_shape (kinds_of all) follows) (omega (arith, short)) none
+read_as kind number all k n fits follows short none = written_read kind number all k n fits (follows_shape (kinds_of all) follows) (omega (arith, short)) (inl none)
 
 fits_error : (code : ℕ) → length (reason_for code) ≤ 763 → FitsAttribute (error_attribute code)
 fits_error code reason = record { kind = omega arith; value = omega (arith, reason) }
@@ -52,14 +52,12 @@ signature-size Sha256 key bytes = let len = signature_length Sha256 key bytes in
 -- ---- error responses
 
 pub failure_readable : (code : ℕ) → length (reason_for code) ≤ 763 → IsReadable (failure_attributes code)
-unfolding fingerprint_refusal
 failure_readable code reason kind number k n =
     let body = body-length [] (error_attribute code) in
     let none = no_body in
     read_as kind number (failure_attributes code) k n (fits_error code reason, tt) (refl, tt) (omega (arith, body, none, reason)) refl
 
 pub challenge_readable : (code : ℕ) (realm nonce : List ℕ) → length (reason_for code) ≤ 763 → length realm ≤ 763 → length nonce ≤ 763 → IsReadable (challenge_attributes code realm nonce)
-unfolding fingerprint_refusal
 challenge_readable code realm nonce reason r m kind number k n =
     let a : Attr = attr_of 0x0014 realm in
     let b : Attr = attr_of 0x0015 nonce in
@@ -79,7 +77,7 @@ failure_signed-size code reason kind number key algorithm =
     omega (arith, one, two, reason)
 
 pub failure_signed : (code : ℕ) → length (reason_for code) ≤ 763 → IsReadableSigned (failure_attributes code)
-unfolding fingerprint_refusal signature
+unfolding signature
 failure_signed code reason kind number key Sha1 k n =
     let all = signed_attributes kind number (failure_attributes code) key Sha1 in
     read_as kind number all k n (fits_error code reason, (fits_signature Sha1 key _, tt)) (refl, (refl, tt)) (failure_signed-size code reason kind number key Sha1) refl
@@ -100,7 +98,7 @@ end_signed-size number lifetime from algorithm key text =
     omega (arith, one, two, three, short)
 
 one_signed : (number lifetime : ℕ) (from a : SocketAddr) → IsReadableSigned (allocated_attributes number (a ∷ []) lifetime from)
-unfolding fingerprint_refusal signature
+unfolding signature
 one_signed number lifetime from a kind id key Sha1 k n =
     let all = allocated_attributes number (a ∷ []) lifetime from in
     let text = message_text kind id all in
@@ -115,7 +113,7 @@ one_signed number lifetime from a kind id key Sha256 k n =
     read_as kind id (signed_attributes kind id all key Sha256) k n (fits_relayed number a, (fits_lifetime lifetime, (fits_mapped number from, (fits_signature Sha256 key text, tt)))) (refl, (refl, (refl, (refl, tt)))) (omega (arith, one, end)) refl
 
 two_signed : (number lifetime : ℕ) (from a b : SocketAddr) → IsReadableSigned (allocated_attributes number (a ∷ b ∷ []) lifetime from)
-unfolding fingerprint_refusal signature
+unfolding signature
 two_signed number lifetime from a b kind id key Sha1 k n =
     let all = allocated_attributes number (a ∷ b ∷ []) lifetime from in
     let text = message_text kind id all in
@@ -134,7 +132,7 @@ two_signed number lifetime from a b kind id key Sha256 k n =
     read_as kind id (signed_attributes kind id all key Sha256) k n (fits_relayed number a, (fits_relayed number b, (fits_lifetime lifetime, (fits_mapped number from, (fits_signature Sha256 key text, tt))))) (refl, (refl, (refl, (refl, (refl, tt))))) (omega (arith, one, two, end)) refl
 
 none_signed : (number lifetime : ℕ) (from : SocketAddr) → IsReadableSigned (allocated_attributes number [] lifetime from)
-unfolding fingerprint_refusal signature
+unfolding signature
 none_signed number lifetime from kind id key Sha1 k n =
     let all = allocated_attributes number [] lifetime from in
     let text = message_text kind id all in

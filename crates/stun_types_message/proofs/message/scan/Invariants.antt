@@ -5,7 +5,7 @@ use Rattle.stun_types_message.proofs.message.scan.Given as goal
 
 -- what is still to be shown and refused stays the same
 abbrev pub invariant-loop-rest : goal.invariant-loop-rest
-invariant-loop-rest l = Continues (stage_rank l.stage) l.rest l.fn.body
+invariant-loop-rest l = Continues (stage_rank l.stage) l.rest l.fn.bytes
 
 abbrev pub decreases-loop-rest : goal.decreases-loop-rest
 decreases-loop-rest l = length l.rest

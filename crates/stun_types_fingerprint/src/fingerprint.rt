@@ -1,0 +1,197 @@
+//! FINGERPRINT (RFC 8489, section 14.7).
+
+ghost use Rattle.std.specs.Prelude.{◌≡◌, ◌++◌, None, Some, length, bit_xor, MatchResult};
+ghost use Rattle.byteorder.specs.Endian.{big_bytes, big_number};
+ghost use Rattle.stun_types_wire.specs.Fingerprints.{fingerprint_mask, fingerprint_value};
+ghost use Rattle.stun_types_fingerprint.specs.Fingerprints.{crc_bytes, turned_bytes};
+ghost use Rattle.stun_types_write.specs.Reading.{value_refusal};
+
+use byteorder::{BigEndian, ByteOrder};
+use std::alloc::Global;
+use std::convert::TryFrom;
+use std::marker::Model;
+use stun_types_base::memory::NoMemory;
+use stun_types_digest::crc::Crc32;
+use stun_types_wire::attribute::{AttributeType, RawAttribute};
+use stun_types_wire::error::StunParseError;
+use stun_types_write::attribute::{
+    Attribute, AttributeFromRaw, AttributeStaticType, AttributeWrite,
+};
+use stun_types_write::reading::value_of;
+use stun_types_write::text::write_attribute;
+
+/// What the CRC-32 of a message is turned by, so that it is no CRC-32 which another protocol sends
+/// (RFC 8489, section 14.7).
+const MASK: u32 = 0x5354_554E;
+
+/// The CRC-32 of a message as it stands before the attribute, its length counted through the
+/// attribute (RFC 8489, section 14.7). Contracts see the CRC-32 as a number of 32 bits.
+#[derive(Debug, Drop)]
+pub struct Fingerprint {
+    crc: u32,
+}
+
+impl Model for Fingerprint {
+    ghost use Rattle.std.specs.Prelude.{ℕ};
+
+    ghost Value = { ℕ };
+
+    ghost view = { λ a. a.crc };
+}
+
+impl Fingerprint {
+    /// The FINGERPRINT of a CRC-32 as `compute` answers it, the highest byte first.
+    pub fn new(fingerprint: [u8; 4]) -> Fingerprint
+        ensures { result ≡ big_number 4 fingerprint }
+    {
+        Fingerprint {
+            crc: BigEndian::read_u32(&fingerprint),
+        }
+    }
+
+    /// The CRC-32 as `compute` answers it, the highest byte first.
+    #[tactic(auto, using(crate::proofs::Turned::number_again))]
+    pub fn fingerprint(&self) -> [u8; 4]
+        ensures bytes { result ≡ big_bytes 4 self.now }
+        ensures number { big_number 4 result ≡ self.now }
+    {
+        self.crc().to_be_bytes()
+    }
+
+    /// The value in a message: the CRC-32 xor 0x5354554E, the highest byte first.
+    pub fn value(&self) -> [u8; 4]
+        ensures { result ≡ turned_bytes self.now }
+    {
+        (self.crc() ^ MASK).to_be_bytes()
+    }
+
+    /// The CRC-32 as a number.
+    fn crc(&self) -> u32
+        ensures { result ≡ self.now }
+    {
+        self.crc
+    }
+
+    /// The CRC-32 of a text, the highest byte first. The attribute that `new` makes of it has the
+    /// value of the text's FINGERPRINT.
+    #[tactic(auto, unfolding(crate::specs::Fingerprints::crc_bytes, stun_types_wire::specs::Fingerprints::fingerprint_value))]
+    pub fn compute(text: &[u8]) -> [u8; 4]
+        ensures bytes { result ≡ crc_bytes text.now }
+        ensures value { turned_bytes (big_number 4 result) ≡ fingerprint_value text.now }
+    {
+        bytes_of_crc(Crc32::checksum(text))
+    }
+
+    /// The same of a text that comes in three pieces, as a message does whose length field is to
+    /// read otherwise: what stands before the field, the field, and what stands behind it.
+    #[tactic(auto, unfolding(crate::specs::Fingerprints::crc_bytes, stun_types_wire::specs::Fingerprints::fingerprint_value))]
+    pub fn compute_in_pieces(head: &[u8], middle: &[u8], tail: &[u8]) -> [u8; 4]
+        ensures bytes { result ≡ crc_bytes (head.now ++ middle.now ++ tail.now) }
+        ensures value { turned_bytes (big_number 4 result) ≡ fingerprint_value (head.now ++ middle.now ++ tail.now) }
+    {
+        bytes_of_crc(Crc32::of_pieces(head, middle, tail))
+    }
+}
+
+impl AttributeStaticType for Fingerprint {
+    ghost TYPE = { record { 0 = 0x8028 } };
+
+    const TYPE: AttributeType = AttributeType(0x8028);
+}
+
+impl Attribute for Fingerprint {
+    ghost use Rattle.stun_types_fingerprint.specs.Fingerprints.{turned_bytes};
+
+    ghost kind = { λ _. 0x8028 };
+
+    ghost value = { turned_bytes };
+
+    fn get_type(&self) -> AttributeType {
+        Fingerprint::TYPE
+    }
+
+    fn length(&self) -> u16 {
+        4
+    }
+}
+
+impl AttributeWrite for Fingerprint {
+    fn write_into_unchecked(&self, dest: &mut [u8]) {
+        write_attribute(Fingerprint::TYPE, &self.value(), dest);
+    }
+
+    fn to_raw(&self, alloc: Global) -> Result<RawAttribute<'_>, NoMemory> {
+        let value = Vec::from_slice(alloc, &self.value())?;
+        Ok(RawAttribute::new_owned(Fingerprint::TYPE, value.into_boxed_slice()))
+    }
+}
+
+/// The number in four bytes, the highest first, xor 0x5354554E. Refused, in this order:
+/// `WrongAttributeImplementation` where it is another type, `Truncated` where the value is shorter,
+/// `TooLarge` where it is longer.
+impl<'a, 'raw> TryFrom<&'raw RawAttribute<'a>> for Fingerprint {
+    ghost use Rattle.std.specs.Prelude.{◌≡◌, MatchResult, Some, None, bit_xor};
+    ghost use Rattle.byteorder.specs.Endian.{big_number};
+    ghost use Rattle.stun_types_write.specs.Reading.{value_refusal};
+    ghost use Rattle.stun_types_wire.specs.Fingerprints.{fingerprint_mask};
+    ghost use Rattle.stun_types_fingerprint.specs.Fingerprints.{turned_bytes};
+
+    type Error = StunParseError;
+
+    ghost try_from_gives = { λ raw result. MatchResult result (λ read. (value_refusal 0x8028 4 4 raw.now ≡ None) × (read ≡ bit_xor (big_number 4 raw.now.value) fingerprint_mask) × (turned_bytes read ≡ raw.now.value)) (λ error. value_refusal 0x8028 4 4 raw.now ≡ Some error) };
+
+    fn try_from(raw: &'raw RawAttribute<'a>) -> Result<Fingerprint, StunParseError> {
+        let crc = crc_of(raw)?;
+        Ok(Fingerprint { crc })
+    }
+}
+
+/// Refused as `try_from` is; no memory is taken.
+impl<'a> AttributeFromRaw<'a> for Fingerprint {
+    ghost use Rattle.stun_types_write.specs.Reading.{value_refusal};
+
+    ghost read_refusal = { value_refusal 0x8028 4 4 };
+
+    ghost read_value = { λ value. value };
+
+    fn from_raw_ref(raw: &RawAttribute<'_>, _alloc: Global) -> Result<Fingerprint, StunParseError> {
+        let crc = crc_of(raw)?;
+        Ok(Fingerprint { crc })
+    }
+
+    fn from_raw(raw: RawAttribute<'a>, alloc: Global) -> Result<Fingerprint, StunParseError> {
+        Fingerprint::from_raw_ref(&raw, alloc)
+    }
+
+    #[tactic(auto, using(crate::proofs::Turned::number_is_accepted, crate::proofs::Turned::same_number))]
+    fn is_read_back(&self, read: &Fingerprint) {
+        let _ = (self.crc(), read.crc());
+    }
+}
+
+/// A CRC-32 in four bytes, the highest first.
+#[tactic(auto, using(crate::proofs::Turned::number_again))]
+fn bytes_of_crc(crc: u32) -> [u8; 4]
+    ensures bytes { result ≡ big_bytes 4 crc }
+    ensures turned { turned_bytes (big_number 4 result) ≡ turned_bytes crc }
+{
+    crc.to_be_bytes()
+}
+
+/// The CRC-32 in the value of a FINGERPRINT. Refused as `try_from` is.
+fn crc_of(raw: &RawAttribute<'_>) -> Result<u32, StunParseError>
+    ensures { MatchResult result (λ crc. (value_refusal 0x8028 4 4 raw.now ≡ None) × (raw.now.kind ≡ 0x8028) × (crc ≡ bit_xor (big_number 4 raw.now.value) fingerprint_mask) × (turned_bytes crc ≡ raw.now.value)) (λ error. value_refusal 0x8028 4 4 raw.now ≡ Some error) }
+{
+    let value = value_of(raw, Fingerprint::TYPE, 4, 4)?;
+    Ok(turned_number(value))
+}
+
+/// The number in four bytes, the highest first, turned.
+#[tactic(auto, using(crate::proofs::Turned::bytes_again, crate::proofs::Turned::turned_again))]
+fn turned_number(value: &[u8]) -> u32
+    requires { length value.now ≡ 4 }
+    ensures told { result ≡ bit_xor (big_number 4 value.now) fingerprint_mask }
+    ensures again { turned_bytes result ≡ value.now }
+{
+    BigEndian::read_u32(value) ^ MASK
+}

@@ -1,0 +1,54 @@
+//! Whether a FINGERPRINT is that of the message before it (RFC 8489, section 14.7).
+
+ghost use Rattle.std.specs.Prelude.{◌≡◌, ◌+◌, ◌-◌, ◌≤◌, bytes_eq, drop, length};
+ghost use Rattle.stun_types_wire.specs.Attributes.{attr_at, length_at, size_at};
+ghost use Rattle.stun_types_wire.specs.Covered.{covered_text};
+ghost use Rattle.stun_types_wire.specs.Fingerprints.{fingerprint_value, is_wrong_fingerprint};
+ghost use Rattle.stun_types_message.specs.Fronts.{TellsFront};
+
+use crate::front::Front;
+use stun_types_fingerprint::fingerprint::Fingerprint;
+use stun_types_wire::header::MessageHeader;
+use stun_types_write::attribute::AttributeStaticType;
+
+/// How many bytes a FINGERPRINT takes, its header included.
+const SIZE: usize = 8;
+
+/// Whether the attribute at the front of the rest of a message is a FINGERPRINT, and not that of the
+/// message before it.
+#[tactic(auto)]
+pub(crate) fn is_wrong(bytes: &[u8], rest: &[u8], front: Front) -> bool
+    requires front { TellsFront rest.now front }
+    requires whole { size_at rest.now ≤ length rest.now }
+    requires within { 20 + length rest.now ≤ length bytes.now }
+    requires short { length bytes.now ≤ 65_555 }
+    requires stands { drop (length bytes.now - length rest.now) bytes.now ≡ rest.now }
+    ensures { result ≡ is_wrong_fingerprint bytes.now (length bytes.now - length rest.now, attr_at rest.now) }
+{
+    front.atype == Fingerprint::TYPE && !has_value(bytes, rest, front.length)
+}
+
+/// Whether the attribute at the front of the rest of a message has the value of the FINGERPRINT of
+/// the message before it.
+#[tactic(auto, using(crate::proofs::Fingerprints::other_length))]
+fn has_value(bytes: &[u8], rest: &[u8], len: usize) -> bool
+    requires len { len ≡ length_at rest.now }
+    requires whole { size_at rest.now ≤ length rest.now }
+    requires within { 20 + length rest.now ≤ length bytes.now }
+    requires short { length bytes.now ≤ 65_555 }
+    requires stands { drop (length bytes.now - length rest.now) bytes.now ≡ rest.now }
+    ensures { result ≡ bytes_eq (attr_at rest.now).value (fingerprint_value (covered_text bytes.now (length bytes.now - length rest.now))) }
+{
+    if len != SIZE - 4 {
+        return false;
+    }
+    let offset = bytes.len() - rest.len();
+    let (front, _) = bytes.split_at(offset);
+    let (head, behind_type) = front.split_at(2);
+    let (_, tail) = behind_type.split_at(2);
+    let told = ((offset + SIZE - MessageHeader::LENGTH) as u16).to_be_bytes();
+    let own = Fingerprint::new(Fingerprint::compute_in_pieces(head, &told, tail)).value();
+    let (attribute, _) = rest.split_at(SIZE);
+    let (_, value) = attribute.split_at(4);
+    value == own.as_slice()
+}
