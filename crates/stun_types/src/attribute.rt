@@ -6,6 +6,7 @@ pub use stun_types_attribute::nonce::Nonce;
 pub use stun_types_attribute::realm::Realm;
 pub use stun_types_attribute::username::Username;
 pub use stun_types_attribute::xor_mapped_address::XorMappedAddress;
+pub use stun_types_fingerprint::fingerprint::Fingerprint;
 pub use stun_types_info::alternate_domain::AlternateDomain;
 pub use stun_types_info::alternate_server::AlternateServer;
 pub use stun_types_info::software::Software;

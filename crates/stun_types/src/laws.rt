@@ -3,7 +3,7 @@
 
 pub use stun_types_address::address::{value_is_told, xor_is_undone};
 pub use stun_types_grammar::{
-    header_refusals, message_is_text, shown_is_longest_front, text_is_read, written_is_read,
+    fingerprint_refusals, header_refusals, message_is_text, shown_is_longest_front, text_is_read, written_is_read,
 };
 pub use stun_types_laws::{covered_text_fixes_message, signed_validates};
 pub use stun_types_write::attribute::written_and_read;

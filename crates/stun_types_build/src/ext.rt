@@ -2,18 +2,21 @@
 
 ghost use Rattle.std.specs.Prelude.{◌≡◌, ◌≢◌, ◌↔◌, ◌+◌, ◌≤◌, ◌++◌, ◌∷◌, [], length, ℕ, List, IsTrue, OnOk, OnErr, IfErr, None, Some};
 ghost use Rattle.stun_types_wire.specs.Attributes.{Attr, attr_size, kind_at};
-ghost use Rattle.stun_types_wire.specs.Shape.{rank};
+ghost use Rattle.stun_types_wire.specs.Shape.{fingerprint_kind, rank};
+ghost use Rattle.stun_types_wire.specs.Fingerprints.{fingerprint_of};
 ghost use Rattle.stun_types_wire.specs.Types.{class_of, method_of, is_response_class};
 ghost use Rattle.stun_types_wire.specs.Grammar.{header_at, header_refusal, number_at};
 ghost use Rattle.stun_types_wire.specs.Text.{message_text};
-ghost use Rattle.stun_types_write.specs.Adding.{attr_of, after_add, add_refusal, IsBegun};
+ghost use Rattle.stun_types_write.specs.Adding.{attr_of, after_add, add_refusal, fingerprint_add_refusal, IsBegun};
 ghost use Rattle.stun_types_integrity.specs.Integrity.{attribute_kind};
 ghost use Rattle.stun_types_integrity.specs.Keys.{key_of};
 ghost use Rattle.stun_types_integrity.specs.Signing.{signature, signing_refusal};
 
-use crate::room::{FINGERPRINT, end_of_add};
+use crate::fingerprint::mark;
+use crate::room::end_of_add;
 use crate::signing::sign;
 use std::alloc::Global;
+use stun_types_fingerprint::fingerprint::Fingerprint;
 use stun_types_integrity::algorithm::{MESSAGE_INTEGRITY, MESSAGE_INTEGRITY_SHA256};
 use stun_types_integrity::credentials::MessageIntegrityCredentials;
 use stun_types_integrity::key::IntegrityKey;
@@ -22,7 +25,7 @@ use stun_types_wire::class::{MessageClass, MessageType, Method};
 use stun_types_wire::error::StunWriteError;
 use stun_types_wire::header::MessageHeader;
 use stun_types_wire::transaction::TransactionId;
-use stun_types_write::attribute::{Attribute, AttributeWrite};
+use stun_types_write::attribute::{Attribute, AttributeStaticType, AttributeWrite};
 use stun_types_write::writer::MessageWrite;
 
 /// The header and the adds of a message that was begun. Every writer has them.
@@ -119,6 +122,22 @@ pub trait MessageWriteExt: MessageWrite {
         ensures unchanged { OnErr result ((Self.written self.new ≡ Self.written self.old) × (Self.kinds self.new ≡ Self.kinds self.old)) }
         ensures limit { Self.limit self.new ≡ Self.limit self.old }
         ensures begun { IsBegun (Self.written self.new) };
+
+    /// Adds the FINGERPRINT of all that is written: its CRC-32, combined with `STUN` (RFC 8489, section
+    /// 14.7). Nothing can be added behind it. Refused, in this order: `FingerprintExists`; `TooLarge`
+    /// and `TooSmall` as for `add_attribute`; where memory is refused, `NoMemory`. A refused add
+    /// changes nothing.
+    fn add_fingerprint(&mut self) -> Result<(), StunWriteError>
+        requires begun { IsBegun (Self.written self.old) }
+        ensures ok { OnOk result (Self.written self.new ≡ after_add (Self.written self.old) (fingerprint_of (Self.written self.old))) }
+        ensures kinds { OnOk result (Self.kinds self.new ≡ Self.kinds self.old ++ fingerprint_kind ∷ []) }
+        // A message text becomes that text with its FINGERPRINT.
+        ensures text { OnOk result ((mtype number : ℕ) (adds : List Attr) → Self.written self.old ≡ message_text mtype number adds → Self.written self.new ≡ message_text mtype number (adds ++ fingerprint_of (message_text mtype number adds) ∷ [])) }
+        ensures accepted { OnOk result (fingerprint_add_refusal (Self.kinds self.old) (Self.limit self.old) (length (Self.written self.old)) ≡ None) }
+        ensures refused { IfErr result (λ error. error ≢ StunWriteError.NoMemory → fingerprint_add_refusal (Self.kinds self.old) (Self.limit self.old) (length (Self.written self.old)) ≡ Some error) }
+        ensures unchanged { OnErr result ((Self.written self.new ≡ Self.written self.old) × (Self.kinds self.new ≡ Self.kinds self.old)) }
+        ensures limit { Self.limit self.new ≡ Self.limit self.old }
+        ensures begun { IsBegun (Self.written self.new) };
 }
 
 impl<W: MessageWrite> MessageWriteExt for W {
@@ -152,7 +171,7 @@ impl<W: MessageWrite> MessageWriteExt for W {
 
     #[tactic(auto, unfolding(stun_types_write::specs::Adding::add_refusal), using(crate::proofs::Adds::long_enough, crate::proofs::Adds::added, crate::proofs::Adds::added_text, crate::proofs::Adds::added_begun))]
     fn add_attribute(&mut self, attribute: &dyn AttributeWrite) -> Result<(), StunWriteError> {
-        if self.has_attribute(FINGERPRINT) {
+        if self.has_attribute(Fingerprint::TYPE) {
             return Err(StunWriteError::FingerprintExists);
         }
         if self.has_attribute(MESSAGE_INTEGRITY) || self.has_attribute(MESSAGE_INTEGRITY_SHA256) {
@@ -181,6 +200,10 @@ impl<W: MessageWrite> MessageWriteExt for W {
     ) -> Result<(), StunWriteError> {
         let key = credentials.make_key(alloc, algorithm)?;
         sign(self, &key, algorithm)
+    }
+
+    fn add_fingerprint(&mut self) -> Result<(), StunWriteError> {
+        mark(self)
     }
 }
 

@@ -2,5 +2,6 @@
 #![tactic(auto)]
 
 pub mod ext;
+mod fingerprint;
 mod room;
 mod signing;

@@ -3,7 +3,6 @@
 ghost use Rattle.std.specs.Prelude.{◌≡◌, ◌+◌, ◌≤◌, length, IfOk, IfErr, IfSome, None, Some};
 ghost use Rattle.stun_types_write.specs.Adding.{greatest_size, size_refusal};
 
-use stun_types_wire::attribute::AttributeType;
 use stun_types_wire::error::StunWriteError;
 use stun_types_wire::header::MessageHeader;
 use stun_types_write::writer::MessageWrite;
@@ -13,9 +12,6 @@ const MAX_DATA_LENGTH: usize = 65_535;
 
 /// The greatest size of a message, its header included.
 const MAX_MESSAGE_LENGTH: usize = 65_555;
-
-/// The type of FINGERPRINT (RFC 8489, section 14.7).
-pub(crate) const FINGERPRINT: AttributeType = AttributeType(0x8028);
 
 /// Where a message ends to which so many bytes are added. Refused with `TooLarge` where its length
 /// field can't tell that, and with `TooSmall` where the writer has not the room.

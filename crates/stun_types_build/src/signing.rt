@@ -9,8 +9,9 @@ ghost use Rattle.stun_types_integrity.specs.Hmacs.{hmac_bytes};
 ghost use Rattle.stun_types_integrity.specs.Integrity.{attribute_kind, integrity_hmac};
 ghost use Rattle.stun_types_integrity.specs.Signing.{hmac_length as length_of_hmac, order_refusal, signature, signing_refusal};
 
-use crate::room::{FINGERPRINT, end_of_add};
+use crate::room::end_of_add;
 use stun_types_base::memory::NoMemory;
+use stun_types_fingerprint::fingerprint::Fingerprint;
 use stun_types_integrity::algorithm::{
     MESSAGE_INTEGRITY, MESSAGE_INTEGRITY_SHA256, attribute_type, hmac_length,
 };
@@ -20,7 +21,7 @@ use stun_types_wire::algorithm::IntegrityAlgorithm;
 use stun_types_wire::attribute::RawAttribute;
 use stun_types_wire::error::StunWriteError;
 use stun_types_wire::header::MessageHeader;
-use stun_types_write::attribute::{Attribute, AttributeWrite};
+use stun_types_write::attribute::{Attribute, AttributeStaticType, AttributeWrite};
 use stun_types_write::writer::MessageWrite;
 
 /// Adds the integrity attribute of an algorithm under a key. What it refuses stands at
@@ -62,7 +63,7 @@ fn may_sign<W: MessageWrite>(
 ) -> Result<(), StunWriteError>
     ensures { MatchResult result (λ _. order_refusal (W.kinds writer.now) algorithm ≡ None) (λ error. order_refusal (W.kinds writer.now) algorithm ≡ Some error) }
 {
-    if writer.has_attribute(FINGERPRINT) {
+    if writer.has_attribute(Fingerprint::TYPE) {
         return Err(StunWriteError::FingerprintExists);
     }
     match algorithm {
@@ -97,7 +98,7 @@ fn hmac_told(bytes: &[u8], len: u16, key: &IntegrityKey) -> IntegrityHmac
 
 /// `push_attribute_unchecked` of an attribute whose type is known. The two are one value, as a `dyn`
 /// and as itself.
-fn push_as<W: MessageWrite, A: AttributeWrite>(
+pub(crate) fn push_as<W: MessageWrite, A: AttributeWrite>(
     writer: &mut W,
     attribute: &dyn AttributeWrite,
     same: &A,

@@ -45,6 +45,12 @@ add_refusal kinds limit len size =
     else if has_kind integrity_kind kinds || has_kind sha256_kind kinds then Some MessageIntegrityExists
     else size_refusal limit (len + size)
 
+-- why a FINGERPRINT is not added to a message of these types, this greatest size and this length: the first cause in the order
+unfoldable pub fingerprint_add_refusal : List ℕ → Option ℕ → ℕ → Option StunWriteError
+fingerprint_add_refusal kinds limit len =
+    if has_kind fingerprint_kind kinds then Some FingerprintExists
+    else size_refusal limit (len + 8)
+
 -- a message that was begun, and can be added to: its header is there, and its length fits
 pub record IsBegun (bytes : List ℕ) : Type 0 where
   pub header : header_refusal bytes ≡ None
