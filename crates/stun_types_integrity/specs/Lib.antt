@@ -2,4 +2,5 @@ pub mod Credentials
 pub mod Hmacs
 pub mod Integrity
 pub mod Keys
+pub mod Sha256Values
 pub mod Signing

@@ -1,11 +1,12 @@
-//! What a message is protected by: credentials, the keys that are made of them, and
-//! MESSAGE-INTEGRITY (RFC 8489, sections 9 and 14.5).
+//! What a message is protected by: credentials, the keys that are made of them, MESSAGE-INTEGRITY and
+//! MESSAGE-INTEGRITY-SHA256 (RFC 8489, sections 9, 14.5 and 14.6).
 #![tactic(auto)]
 
 pub mod algorithm;
 pub mod credentials;
 pub mod hmac;
 pub mod integrity;
+pub mod integrity_sha256;
 pub mod key;
 #[cfg(test)]
 mod tests;

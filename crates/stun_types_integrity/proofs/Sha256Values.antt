@@ -1,0 +1,24 @@
+-- Bytes of a lawful length are read as a MESSAGE-INTEGRITY-SHA256.
+use Rattle.std.proofs.Common.{◌≡◌, ℕ, ◌≤◌, List, length, None, arith}
+use Rattle.std.specs.Prelude.{IsTrue}
+use Rattle.std.proofs.lemmas.Grind.{common_steps}
+use Rattle.stun_types_wire.specs.declared.algorithm.IntegrityAlgorithm.TheVariants.{Sha256}
+use Rattle.stun_types_write.specs.Adding.{attr_of}
+use Rattle.stun_types_write.proofs.Values.{value_is_accepted}
+use Rattle.stun_types_integrity.specs.Integrity.{is_lawful_length}
+use Rattle.stun_types_integrity.specs.Sha256Values.{fours_refusal, sha256_read_refusal}
+
+at_least : (len : ℕ) → IsTrue (is_lawful_length Sha256 len) → 16 ≤ len
+at_least len lawful = grind (arith, common_steps, lawful)
+
+at_most : (len : ℕ) → IsTrue (is_lawful_length Sha256 len) → len ≤ 32
+at_most len lawful = grind (arith, common_steps, lawful)
+
+in_fours : (bytes : List ℕ) → IsTrue (is_lawful_length Sha256 (length bytes)) → fours_refusal bytes ≡ None
+unfolding fours_refusal
+in_fours bytes lawful = grind (arith, common_steps, lawful)
+
+pub lawful_is_accepted : (bytes : List ℕ) → IsTrue (is_lawful_length Sha256 (length bytes)) → sha256_read_refusal (attr_of 0x001C bytes) ≡ None
+unfolding sha256_read_refusal
+lawful_is_accepted bytes lawful =
+    rw (value_is_accepted 0x001C 16 32 bytes (at_least (length bytes) lawful) (at_most (length bytes) lawful)) (in_fours bytes lawful)

@@ -1,0 +1,245 @@
+//! MESSAGE-INTEGRITY-SHA256 (RFC 8489, section 14.6).
+
+ghost use Rattle.std.specs.Prelude.{◌≡◌, ◌≢◌, ◌↔◌, ◌++◌, length, MatchResult, IsOk, IsTrue, IfErr, None, Some};
+ghost use Rattle.stun_types_wire.specs.declared.algorithm.IntegrityAlgorithm.TheVariants.{Sha256};
+ghost use Rattle.stun_types_integrity.specs.Integrity.{IsFront, integrity_hmac, is_lawful_length as is_lawful};
+ghost use Rattle.stun_types_integrity.specs.Sha256Values.{sha256_len_refusal, sha256_read_refusal};
+
+use crate::algorithm::{MESSAGE_INTEGRITY_SHA256, is_lawful_length};
+use crate::key::IntegrityKey;
+use std::alloc::Global;
+use std::convert::TryFrom;
+use std::marker::Model;
+use stun_types_base::memory::NoMemory;
+use stun_types_digest::hmac::HmacSha256;
+use stun_types_wire::algorithm::IntegrityAlgorithm;
+use stun_types_wire::attribute::{AttributeType, RawAttribute};
+use stun_types_wire::error::{StunParseError, StunWriteError, ValidateError};
+use stun_types_write::attribute::{
+    Attribute, AttributeFromRaw, AttributeStaticType, AttributeWrite,
+};
+use stun_types_write::reading::value_of;
+use stun_types_write::text::write_attribute;
+
+#[cfg(test)]
+mod tests;
+
+/// The HMAC-SHA256 of a message under a key, or the front of it: 16, 20, 24, 28 or 32 bytes.
+/// Contracts see these bytes.
+#[derive(Debug, Drop)]
+pub struct MessageIntegritySha256 {
+    hmac: [u8; 32],
+    len: usize,
+}
+
+impl Model for MessageIntegritySha256 {
+    ghost use Rattle.std.specs.Prelude.{◌≡◌, ℕ, IsTrue, List, length, take};
+    ghost use Rattle.stun_types_wire.specs.declared.algorithm.IntegrityAlgorithm.TheVariants.{Sha256};
+    ghost use Rattle.stun_types_integrity.specs.Integrity.{is_lawful_length};
+
+    ghost Value = { List ℕ };
+
+    ghost view = { λ a. take a.len a.hmac };
+
+    ghost invariant = { λ a. (length a.hmac ≡ 32) × IsTrue (is_lawful_length Sha256 a.len) };
+}
+
+impl MessageIntegritySha256 {
+    /// The attribute of an HMAC or of its front. Refused, in this order: `TooSmall` where there are
+    /// fewer than 16 bytes, `TooLarge` where there are more than 32, `OutOfRange` with their count,
+    /// 16 and 32 where that is no multiple of four.
+    pub fn new(hmac: &[u8]) -> Result<MessageIntegritySha256, StunWriteError>
+        ensures { MatchResult result (λ made. (sha256_len_refusal (length hmac.now) ≡ None) × (made ≡ hmac.now)) (λ error. sha256_len_refusal (length hmac.now) ≡ Some error) }
+    {
+        check_len(hmac.len())?;
+        Ok(of_lawful(hmac))
+    }
+
+    /// The HMAC, or the front of it.
+    pub fn hmac(&self) -> &[u8]
+        ensures value { result.now ≡ self.now }
+        ensures lawful { IsTrue (is_lawful Sha256 (length result.now)) }
+    {
+        &self.hmac[..self.len]
+    }
+
+    /// The HMAC of a text. Refused with `IntegrityFailed` where the key was made for another
+    /// algorithm.
+    pub fn compute(text: &[u8], key: &IntegrityKey) -> Result<[u8; 32], StunWriteError>
+        ensures { MatchResult result (λ hmac. (key.now.algorithm ≡ Sha256) × (hmac ≡ integrity_hmac Sha256 key.now.bytes text.now)) (λ error. (error ≡ StunWriteError.IntegrityFailed) × (key.now.algorithm ≢ Sha256)) }
+    {
+        MessageIntegritySha256::compute_in_pieces(text, &[], &[], key)
+    }
+
+    /// The HMAC of a text that comes in three pieces, as a message does whose length field is to
+    /// read otherwise: what stands before the field, the field, and what stands behind it. Otherwise
+    /// the same as `compute`.
+    pub fn compute_in_pieces(
+        head: &[u8],
+        middle: &[u8],
+        tail: &[u8],
+        key: &IntegrityKey,
+    ) -> Result<[u8; 32], StunWriteError>
+        ensures { MatchResult result (λ hmac. (key.now.algorithm ≡ Sha256) × (hmac ≡ integrity_hmac Sha256 key.now.bytes (head.now ++ middle.now ++ tail.now))) (λ error. (error ≡ StunWriteError.IntegrityFailed) × (key.now.algorithm ≢ Sha256)) }
+    {
+        if key.algorithm() != IntegrityAlgorithm::Sha256 {
+            return Err(StunWriteError::IntegrityFailed);
+        }
+        Ok(HmacSha256::of_pieces(key.bytes(), head, middle, tail))
+    }
+
+    /// Whether this is the HMAC of a text, or a front of it of a length that `new` takes. Refused with
+    /// `IntegrityFailed` where it isn't, and where the key was made for another algorithm.
+    pub fn verify(text: &[u8], key: &IntegrityKey, expected: &[u8]) -> Result<(), ValidateError>
+        ensures ok { IsOk result ↔ ((key.now.algorithm ≡ Sha256) × IsTrue (is_lawful Sha256 (length expected.now)) × IsFront expected.now (integrity_hmac Sha256 key.now.bytes text.now)) }
+        ensures refused { IfErr result (λ error. error ≡ ValidateError.IntegrityFailed) }
+    {
+        MessageIntegritySha256::verify_in_pieces(text, &[], &[], key, expected)
+    }
+
+    /// The same of a text that comes in three pieces, as for `compute_in_pieces`.
+    pub fn verify_in_pieces(
+        head: &[u8],
+        middle: &[u8],
+        tail: &[u8],
+        key: &IntegrityKey,
+        expected: &[u8],
+    ) -> Result<(), ValidateError>
+        ensures ok { IsOk result ↔ ((key.now.algorithm ≡ Sha256) × IsTrue (is_lawful Sha256 (length expected.now)) × IsFront expected.now (integrity_hmac Sha256 key.now.bytes (head.now ++ middle.now ++ tail.now))) }
+        ensures refused { IfErr result (λ error. error ≡ ValidateError.IntegrityFailed) }
+    {
+        if key.algorithm() != IntegrityAlgorithm::Sha256
+            || !is_lawful_length(IntegrityAlgorithm::Sha256, expected.len())
+            || !key.signs(head, middle, tail, expected)
+        {
+            return Err(ValidateError::IntegrityFailed);
+        }
+        Ok(())
+    }
+}
+
+impl AttributeStaticType for MessageIntegritySha256 {
+    ghost TYPE = { record { 0 = 0x001C } };
+
+    const TYPE: AttributeType = MESSAGE_INTEGRITY_SHA256;
+}
+
+impl Attribute for MessageIntegritySha256 {
+    ghost kind = { λ _. 0x001C };
+
+    ghost value = { λ a. a };
+
+    fn get_type(&self) -> AttributeType {
+        MessageIntegritySha256::TYPE
+    }
+
+    fn length(&self) -> u16 {
+        self.hmac().len() as u16
+    }
+}
+
+impl AttributeWrite for MessageIntegritySha256 {
+    fn write_into_unchecked(&self, dest: &mut [u8]) {
+        write_attribute(MessageIntegritySha256::TYPE, self.hmac(), dest);
+    }
+
+    fn to_raw(&self, _alloc: Global) -> Result<RawAttribute<'_>, NoMemory> {
+        Ok(RawAttribute::new(MessageIntegritySha256::TYPE, self.hmac()))
+    }
+}
+
+/// The bytes of an HMAC or of its front. Refused, in this order: `WrongAttributeImplementation` where
+/// it is another type, `Truncated` where the value has fewer than 16 bytes, `TooLarge` where it has
+/// more than 32, `InvalidAttributeData` where they don't come in fours.
+impl<'a, 'raw> TryFrom<&'raw RawAttribute<'a>> for MessageIntegritySha256 {
+    ghost use Rattle.std.specs.Prelude.{◌≡◌, MatchResult, Some, None};
+    ghost use Rattle.stun_types_integrity.specs.Sha256Values.{sha256_read_refusal};
+
+    type Error = StunParseError;
+
+    ghost try_from_gives = { λ raw result. MatchResult result (λ read. (sha256_read_refusal raw.now ≡ None) × (raw.now.kind ≡ 0x001C) × (read ≡ raw.now.value)) (λ error. sha256_read_refusal raw.now ≡ Some error) };
+
+    fn try_from(raw: &'raw RawAttribute<'a>) -> Result<MessageIntegritySha256, StunParseError> {
+        let value = lawful_value_of(raw)?;
+        Ok(of_lawful(value))
+    }
+}
+
+/// Refused as `try_from` is; no memory is taken.
+impl<'a> AttributeFromRaw<'a> for MessageIntegritySha256 {
+    ghost use Rattle.stun_types_integrity.specs.Sha256Values.{sha256_read_refusal};
+
+    ghost read_refusal = { sha256_read_refusal };
+
+    ghost read_value = { λ value. value };
+
+    fn from_raw_ref(
+        raw: &RawAttribute<'_>,
+        _alloc: Global,
+    ) -> Result<MessageIntegritySha256, StunParseError> {
+        MessageIntegritySha256::try_from(raw)
+    }
+
+    fn from_raw(
+        raw: RawAttribute<'a>,
+        alloc: Global,
+    ) -> Result<MessageIntegritySha256, StunParseError> {
+        MessageIntegritySha256::from_raw_ref(&raw, alloc)
+    }
+
+    #[tactic(auto, using(crate::proofs::Sha256Values::lawful_is_accepted))]
+    fn is_read_back(&self, _read: &MessageIntegritySha256) {
+        let _ = self.hmac();
+    }
+}
+
+/// Whether an attribute has so many bytes. Refused as `new` is.
+#[tactic(auto, unfolding(crate::specs::Sha256Values::sha256_len_refusal))]
+fn check_len(len: usize) -> Result<(), StunWriteError>
+    ensures { MatchResult result (λ _. (sha256_len_refusal len ≡ None) × IsTrue (is_lawful Sha256 len)) (λ error. sha256_len_refusal len ≡ Some error) }
+{
+    let (least, most) = (16, 32);
+    if len < least {
+        return Err(StunWriteError::TooSmall {
+            expected: least,
+            actual: len,
+        });
+    }
+    if len > most {
+        return Err(StunWriteError::TooLarge {
+            expected: most,
+            actual: len,
+        });
+    }
+    if len % 4 != 0 {
+        return Err(StunWriteError::OutOfRange {
+            value: len,
+            min: least,
+            max: most,
+        });
+    }
+    Ok(())
+}
+
+/// The attribute of bytes of a lawful length.
+fn of_lawful(bytes: &[u8]) -> MessageIntegritySha256
+    requires { IsTrue (is_lawful Sha256 (length bytes.now)) }
+    ensures { result ≡ bytes.now }
+{
+    let mut hmac = [0; 32];
+    let len = bytes.len();
+    hmac[..len].copy_from_slice(bytes);
+    MessageIntegritySha256 { hmac, len }
+}
+
+/// The value of a MESSAGE-INTEGRITY-SHA256. Refused as the attribute is.
+#[tactic(auto, unfolding(crate::specs::Sha256Values::sha256_read_refusal, crate::specs::Sha256Values::fours_refusal))]
+fn lawful_value_of<'raw>(raw: &'raw RawAttribute<'_>) -> Result<&'raw [u8], StunParseError>
+    ensures { MatchResult result (λ value. (sha256_read_refusal raw.now ≡ None) × (raw.now.kind ≡ 0x001C) × (value.now ≡ raw.now.value) × IsTrue (is_lawful Sha256 (length value.now))) (λ error. sha256_read_refusal raw.now ≡ Some error) }
+{
+    let value = value_of(raw, MessageIntegritySha256::TYPE, 16, 32)?;
+    if value.len() % 4 != 0 {
+        return Err(StunParseError::InvalidAttributeData);
+    }
+    Ok(value)
+}
