@@ -12,6 +12,7 @@ pub use stun_types_info::alternate_server::AlternateServer;
 pub use stun_types_info::software::Software;
 pub use stun_types_info::unknown_attributes::UnknownAttributes;
 pub use stun_types_integrity::integrity::MessageIntegrity;
+pub use stun_types_integrity::integrity_sha256::MessageIntegritySha256;
 pub use stun_types_wire::attribute::{
     AttributeHeader, AttributeType, RawAttribute, pad_attribute_len,
 };

@@ -3,7 +3,7 @@ use Rattle.std.specs.Prelude.{ℕ, ◌==◌, ◌%◌, nat_lt, List, length, Opti
 use Rattle.stun_types_wire.specs.declared.error.StunParseError.{StunParseError}
 use Rattle.stun_types_wire.specs.declared.error.StunParseError.TheVariants.{InvalidAttributeData}
 use Rattle.stun_types_wire.specs.declared.error.StunWriteError.{StunWriteError}
-use Rattle.stun_types_wire.specs.declared.error.StunWriteError.TheVariants.{OutOfRange, TooLarge, TooSmall}
+use Rattle.stun_types_wire.specs.declared.error.StunWriteError.TheVariants.{IntegrityFailed, TooLarge, TooSmall}
 use Rattle.stun_types_wire.specs.Attributes.{Attr}
 use Rattle.stun_types_wire.specs.Shape.{sha256_kind}
 use Rattle.stun_types_wire.specs.Grammar.{or_else}
@@ -15,7 +15,7 @@ sha256_len_refusal len =
     if nat_lt len 16 then Some (TooSmall 16 len)
     else if nat_lt 32 len then Some (TooLarge 32 len)
     else if len % 4 == 0 then None
-    else Some (OutOfRange len 16 32)
+    else Some IntegrityFailed
 
 -- bytes that don't come in fours
 unfoldable pub fours_refusal : List ℕ → Option StunParseError

@@ -46,8 +46,8 @@ impl Model for MessageIntegritySha256 {
 
 impl MessageIntegritySha256 {
     /// The attribute of an HMAC or of its front. Refused, in this order: `TooSmall` where there are
-    /// fewer than 16 bytes, `TooLarge` where there are more than 32, `OutOfRange` with their count,
-    /// 16 and 32 where that is no multiple of four.
+    /// fewer than 16 bytes, `TooLarge` where there are more than 32, `IntegrityFailed` where their
+    /// count is no multiple of four.
     pub fn new(hmac: &[u8]) -> Result<MessageIntegritySha256, StunWriteError>
         ensures { MatchResult result (λ made. (sha256_len_refusal (length hmac.now) ≡ None) × (made ≡ hmac.now)) (λ error. sha256_len_refusal (length hmac.now) ≡ Some error) }
     {
@@ -212,11 +212,7 @@ fn check_len(len: usize) -> Result<(), StunWriteError>
         });
     }
     if len % 4 != 0 {
-        return Err(StunWriteError::OutOfRange {
-            value: len,
-            min: least,
-            max: most,
-        });
+        return Err(StunWriteError::IntegrityFailed);
     }
     Ok(())
 }

@@ -88,11 +88,7 @@ fn bytes_that_are_none(rt: HostRuntime) {
             expected: 32,
             actual: 36,
         },
-        StunWriteError::OutOfRange {
-            value: 18,
-            min: 16,
-            max: 32,
-        },
+        StunWriteError::IntegrityFailed,
     ];
     let unread = [
         StunParseError::Truncated {
