@@ -4,6 +4,8 @@ pub mod Data
 pub mod Family
 pub mod Fingerprints
 pub mod Grammar
+pub mod Names
+pub mod NamesView
 pub mod Number
 pub mod RawBytes
 pub mod Shape

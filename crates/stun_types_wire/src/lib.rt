@@ -9,5 +9,6 @@ pub mod data;
 pub mod error;
 pub mod family;
 pub mod header;
+pub mod names;
 pub mod transaction;
 pub mod transport;

@@ -1,0 +1,130 @@
+//! The names of methods and of types of attributes, by which a program prints them.
+
+ghost use Rattle.std.specs.Prelude.{◌≡◌, OnOk, OnErr};
+ghost use Rattle.std.specs.FinMap as map;
+ghost use Rattle.std.specs.Option.{option_copied};
+ghost use Rattle.stun_types_wire.specs.Names.{method_name, attribute_name, known_method, known_attribute};
+
+use crate::attribute::AttributeType;
+use crate::class::Method;
+use std::alloc::Global;
+use std::collections::BTreeMap;
+use std::marker::Model;
+use stun_types_base::memory::NoMemory;
+
+/// Names of methods and of types of attributes that a program adds to those of RFC 8489. A value has
+/// one name: the one added last. Contracts see the record `Named` of `specs/Names.antt`.
+#[derive(Debug, Drop)]
+pub struct Names {
+    methods: BTreeMap<u16, &'static str>,
+    attributes: BTreeMap<u16, &'static str>,
+}
+
+impl Model for Names {
+    ghost use Rattle.stun_types_wire.specs.Names.{Named, named_code};
+
+    ghost Value = { Named };
+
+    ghost coded = { named_code };
+
+    ghost use Rattle.stun_types_wire.specs.NamesView.{named_by};
+
+    ghost view = { named_by };
+}
+
+impl Names {
+    /// No names but those of RFC 8489. It keeps the allocator, and holds no memory yet.
+    pub fn new(alloc: Global) -> Names
+        ensures { result ≡ record { methods = map.empty; attributes = map.empty } }
+    {
+        Names {
+            methods: BTreeMap::new(alloc),
+            attributes: BTreeMap::new(alloc),
+        }
+    }
+
+    /// Names a method, in place of the name that it has. Where memory is refused, nothing changes.
+    pub fn add_method(&mut self, method: Method, name: &'static str) -> Result<(), NoMemory>
+        ensures ok { OnOk result
+            (self.new ≡ record self.old { methods = map.insert self.old.methods method.0 name.now }) }
+        ensures err { OnErr result (self.new ≡ self.old) }
+    {
+        self.methods.insert(method.0, name)?;
+        Ok(())
+    }
+
+    /// Names a type of attributes, in place of the name that it has. Where memory is refused,
+    /// nothing changes.
+    pub fn add_attribute(
+        &mut self,
+        atype: AttributeType,
+        name: &'static str,
+    ) -> Result<(), NoMemory>
+        ensures ok { OnOk result
+            (self.new ≡ record self.old { attributes = map.insert self.old.attributes atype.0 name.now }) }
+        ensures err { OnErr result (self.new ≡ self.old) }
+    {
+        self.attributes.insert(atype.0, name)?;
+        Ok(())
+    }
+}
+
+impl Method {
+    /// The name that was added last for the method; where there is none, `BINDING` for BINDING, and
+    /// `unknown` for any other.
+    pub fn name(self, names: &Names) -> &'static str
+        ensures { result.now ≡ method_name names.now self.0 }
+    {
+        match names.methods.get(&self.0) {
+            Some(name) => *name,
+            None => known_method_name(self),
+        }
+    }
+}
+
+impl AttributeType {
+    /// The name that was added last for the type; where there is none, its name in RFC 8489 for the
+    /// types of that RFC that this library reads, and `unknown` for any other.
+    pub fn name(self, names: &Names) -> &'static str
+        ensures { result.now ≡ attribute_name names.now self.0 }
+    {
+        match names.attributes.get(&self.0) {
+            Some(name) => *name,
+            None => known_attribute_name(self),
+        }
+    }
+}
+
+/// The name of a method to which none was added.
+fn known_method_name(method: Method) -> &'static str
+    ensures { result.now ≡ known_method method.0 }
+{
+    match method.0 {
+        0x001 => "BINDING",
+        _ => "unknown",
+    }
+}
+
+/// The name of a type to which none was added.
+fn known_attribute_name(atype: AttributeType) -> &'static str
+    ensures { result.now ≡ known_attribute atype.0 }
+{
+    match atype.0 {
+        0x0006 => "USERNAME",
+        0x0008 => "MESSAGE-INTEGRITY",
+        0x0009 => "ERROR-CODE",
+        0x000A => "UNKNOWN-ATTRIBUTES",
+        0x0014 => "REALM",
+        0x0015 => "NONCE",
+        0x001C => "MESSAGE-INTEGRITY-SHA256",
+        0x001D => "PASSWORD-ALGORITHM",
+        0x001E => "USERHASH",
+        0x0020 => "XOR-MAPPED-ADDRESS",
+        0x8002 => "PASSWORD-ALGORITHMS",
+        0x8003 => "ALTERNATE-DOMAIN",
+        0x8022 => "SOFTWARE",
+        0x8023 => "ALTERNATE-SERVER",
+        0x8028 => "FINGERPRINT",
+        _ => "unknown",
+    }
+}
