@@ -1,6 +1,6 @@
 //! Bytes that are to be sent, or were received.
 
-ghost use Rattle.std.specs.Prelude.{◌≡◌, IfOk, true};
+ghost use Rattle.std.specs.Prelude.{◌≡◌, IfOk, Ok, true};
 ghost use Rattle.stun_types_wire.specs.Data.{data_bytes, is_owned};
 
 use std::alloc::Global;
@@ -55,11 +55,12 @@ impl<T> Transmit<T> {
 }
 
 impl<'a> Transmit<Data<'a>> {
-    /// The same with owned bytes: those that are borrowed are copied. Where memory is refused,
-    /// `NoMemory`.
+    /// The same with owned bytes: those that are borrowed are copied, and those that are owned stay
+    /// in their box, which asks for no memory. Where memory is refused, `NoMemory`.
     pub fn into_owned<'b>(self, alloc: Global) -> Result<Transmit<Data<'b>>, NoMemory>
         ensures bytes { IfOk result (λ owned. data_bytes owned.bytes ≡ data_bytes self.entry.bytes) }
         ensures owned { IfOk result (λ owned. is_owned owned.bytes ≡ true) }
+        ensures stays { is_owned self.entry.bytes ≡ true → result ≡ Ok self.entry }
         ensures transport { IfOk result (λ owned. owned.transport ≡ self.entry.transport) }
         ensures from { IfOk result (λ owned. owned.from ≡ self.entry.from) }
         ensures to { IfOk result (λ owned. owned.to ≡ self.entry.to) }

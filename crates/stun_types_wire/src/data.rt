@@ -1,6 +1,6 @@
 //! Bytes that are borrowed or owned.
 
-ghost use Rattle.std.specs.Prelude.{◌≡◌, IfOk, true};
+ghost use Rattle.std.specs.Prelude.{◌≡◌, IfOk, Ok, true};
 ghost use Rattle.std.specs.Box.{boxed_slice_items};
 ghost use Rattle.stun_types_wire.specs.Data.{data_bytes, is_owned};
 
@@ -121,10 +121,11 @@ impl<'a> Data<'a> {
     }
 
     /// The same bytes, owned: those that are borrowed are copied, and those that are owned stay in
-    /// their box. Where memory is refused, `NoMemory`.
+    /// their box, which asks for no memory. Where memory is refused, `NoMemory`.
     pub fn into_owned<'b>(self, alloc: Global) -> Result<Data<'b>, NoMemory>
         ensures bytes { IfOk result (λ owned. data_bytes owned ≡ data_bytes self.entry) }
         ensures owned { IfOk result (λ owned. is_owned owned ≡ true) }
+        ensures stays { is_owned self.entry ≡ true → result ≡ Ok self.entry }
     {
         match self {
             Data::Borrowed(slice) => Ok(Data::Owned(slice.to_owned(alloc)?)),
