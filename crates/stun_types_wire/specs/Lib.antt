@@ -3,6 +3,7 @@ pub mod Covered
 pub mod Data
 pub mod Family
 pub mod Fingerprints
+pub mod Generated
 pub mod Grammar
 pub mod Names
 pub mod NamesView

@@ -1,9 +1,13 @@
 //! The numbers of transactions.
 
-ghost use Rattle.std.specs.Prelude.{◌≡◌, ◌%◌, ◌^◌};
+ghost use Rattle.std.specs.Prelude.{◌≡◌};
+ghost use Rattle.stun_types_base.specs.Words.{stream_after};
+ghost use Rattle.stun_types_wire.specs.Generated.{drawn_number, number_words};
 
+use rand_core::Rng;
 use std::fmt;
 use std::marker::Model;
+use stun_types_base::words::draw_words;
 
 /// The cookie in every header (RFC 8489, section 5).
 pub const MAGIC_COOKIE: u32 = 0x2112_A442;
@@ -24,6 +28,20 @@ impl Model for TransactionId {
     ghost invariant = { λ number. number.id < 2 ^ 96 };
 
     ghost inverse = { λ n. record { id = n } };
+}
+
+impl TransactionId {
+    /// A number of three words of 32 bits that are drawn from a generator, the first of them highest.
+    #[tactic(auto, unfolding(stun_types_base::specs::Words::words_of, crate::specs::Generated::drawn_number))]
+    pub fn generate<R: Rng>(rng: &mut R) -> TransactionId
+        ensures number { result ≡ drawn_number (R.stream rng.old) }
+        ensures stream { R.stream rng.new ≡ stream_after number_words (R.stream rng.old) }
+    {
+        let [high, middle, low]: [u32; 3] = draw_words(rng);
+        TransactionId {
+            id: (u128::from(high) << 64) + (u128::from(middle) << 32) + u128::from(low),
+        }
+    }
 }
 
 /// Prints `0x` and 24 hex digits.
