@@ -1,17 +1,20 @@
 //! Messages that are begun, in any writer.
 
-ghost use Rattle.std.specs.Prelude.{◌≡◌, ◌≤◌, [], length, IfOk, IfSome};
+ghost use Rattle.std.specs.Prelude.{◌≡◌, ◌<◌, ◌≤◌, ◌^◌, [], length, IfOk, IfSome};
 ghost use Rattle.stun_types_wire.specs.Attributes.{kind_at};
 ghost use Rattle.stun_types_wire.specs.Types.{class_of, method_of, type_of};
 ghost use Rattle.stun_types_wire.specs.Grammar.{number_at};
 ghost use Rattle.stun_types_wire.specs.Text.{message_text};
 ghost use Rattle.stun_types_write.specs.Adding.{IsBegun};
 ghost use Rattle.stun_types_wire.specs.declared.class.MessageClass.{MessageClass as Class};
-ghost use Rattle.stun_types_wire.specs.declared.class.MessageClass.TheVariants.{Request, Success, Error};
+ghost use Rattle.stun_types_wire.specs.Generated.{drawn_number, number_words};
+ghost use Rattle.stun_types_base.specs.Words.{stream_after};
+ghost use Rattle.stun_types_wire.specs.declared.class.MessageClass.TheVariants.{Request, Indication, Success, Error};
 
 use crate::message::Message;
+use rand_core::Rng;
 use stun_types_base::memory::NoMemory;
-use stun_types_wire::class::{MessageClass, MessageType};
+use stun_types_wire::class::{MessageClass, MessageType, Method};
 use stun_types_wire::header::MessageHeader;
 use stun_types_wire::transaction::TransactionId;
 use stun_types_write::writer::MessageWrite;
@@ -38,6 +41,47 @@ impl<'a> Message<'a> {
         let header = MessageHeader::new(mtype, 0, transaction_id);
         writer.push_data(&header.to_bytes())?;
         Ok(writer)
+    }
+
+    /// Begins a request of a method of twelve bits, with a number of three words that are drawn from a generator, the
+    /// first of them highest. They are drawn in any case. Otherwise the same as `builder`.
+    pub fn builder_request<W: MessageWrite + Drop, R: Rng>(
+        method: Method,
+        rng: &mut R,
+        writer: W,
+    ) -> Result<W, NoMemory>
+        requires short { method.0 < 2 ^ 12 }
+        requires empty { W.written writer ≡ [] }
+        requires no_kinds { W.kinds writer ≡ [] }
+        requires room { IfSome (W.limit writer) (λ most. 20 ≤ most) }
+        ensures text { IfOk result (λ begun. W.written begun ≡ message_text (type_of Request method.0) (drawn_number (R.stream rng.old)) []) }
+        ensures begun { IfOk result (λ begun. IsBegun (W.written begun)) }
+        ensures size { IfOk result (λ begun. length (W.written begun) ≡ 20) }
+        ensures kinds { IfOk result (λ begun. W.kinds begun ≡ []) }
+        ensures limit { IfOk result (λ begun. W.limit begun ≡ W.limit writer) }
+        ensures stream { R.stream rng.new ≡ stream_after number_words (R.stream rng.old) }
+    {
+        begin_generated(MessageClass::Request, method, rng, writer)
+    }
+
+    /// Begins an indication of a method. Otherwise the same as `builder_request`.
+    pub fn builder_indication<W: MessageWrite + Drop, R: Rng>(
+        method: Method,
+        rng: &mut R,
+        writer: W,
+    ) -> Result<W, NoMemory>
+        requires short { method.0 < 2 ^ 12 }
+        requires empty { W.written writer ≡ [] }
+        requires no_kinds { W.kinds writer ≡ [] }
+        requires room { IfSome (W.limit writer) (λ most. 20 ≤ most) }
+        ensures text { IfOk result (λ begun. W.written begun ≡ message_text (type_of Indication method.0) (drawn_number (R.stream rng.old)) []) }
+        ensures begun { IfOk result (λ begun. IsBegun (W.written begun)) }
+        ensures size { IfOk result (λ begun. length (W.written begun) ≡ 20) }
+        ensures kinds { IfOk result (λ begun. W.kinds begun ≡ []) }
+        ensures limit { IfOk result (λ begun. W.limit begun ≡ W.limit writer) }
+        ensures stream { R.stream rng.new ≡ stream_after number_words (R.stream rng.old) }
+    {
+        begin_generated(MessageClass::Indication, method, rng, writer)
     }
 
     /// Begins the success response to a request, with its method and number. Otherwise the same as
@@ -77,6 +121,29 @@ impl<'a> Message<'a> {
     {
         begin_response(MessageClass::Error, request, writer)
     }
+}
+
+/// Begins a message of a class and a method, with a number that is drawn before memory is asked for.
+fn begin_generated<W: MessageWrite + Drop, R: Rng>(
+    class: MessageClass,
+    method: Method,
+    rng: &mut R,
+    writer: W,
+) -> Result<W, NoMemory>
+    requires short { method.0 < 2 ^ 12 }
+    requires empty { W.written writer ≡ [] }
+    requires no_kinds { W.kinds writer ≡ [] }
+    requires room { IfSome (W.limit writer) (λ most. 20 ≤ most) }
+    ensures text { IfOk result (λ begun. W.written begun ≡ message_text (type_of class method.0) (drawn_number (R.stream rng.old)) []) }
+    ensures begun { IfOk result (λ begun. IsBegun (W.written begun)) }
+    ensures size { IfOk result (λ begun. length (W.written begun) ≡ 20) }
+    ensures kinds { IfOk result (λ begun. W.kinds begun ≡ []) }
+    ensures limit { IfOk result (λ begun. W.limit begun ≡ W.limit writer) }
+    ensures stream { R.stream rng.new ≡ stream_after number_words (R.stream rng.old) }
+{
+    let transaction_id = TransactionId::generate(rng);
+    let mtype = MessageType::from_class_method(class, method);
+    Message::builder(mtype, transaction_id, writer)
 }
 
 /// Begins a message of a class, with the method and the number of a request.
