@@ -2,3 +2,4 @@ pub mod Fingerprints
 pub mod Scanning
 pub mod Refusals
 pub mod Validating
+pub mod Refusing

@@ -3,3 +3,4 @@ pub mod Stages
 pub mod Fronts
 pub mod Validation
 pub mod Reading
+pub mod Objections

@@ -6,6 +6,7 @@ mod fingerprint;
 mod front;
 pub mod iter;
 pub mod message;
+pub mod refuse;
 mod stage;
 pub mod typed;
 pub mod validate;

@@ -1,0 +1,101 @@
+-- Error responses to requests that are refused: what they show, their size, and why they are not written.
+use Rattle.std.specs.Prelude.{◌≡◌, ℕ, ◌+◌, ◌*◌, List, [], ◌∷◌, length, Option, Some, None}
+use Rattle.std.proofs.Common.{refl, sym, ap, ◌∙◌, arith}
+use Rattle.std.proofs.lemmas.List.{length-append}
+use Rattle.byteorder.specs.Endian.{big_bytes}
+use Rattle.stun_types_wire.specs.declared.error.StunWriteError.{StunWriteError}
+use Rattle.stun_types_wire.specs.Attributes.{Attr, attr_size, padded}
+use Rattle.stun_types_wire.specs.Text.{header_text, attribute_text, body_text, message_text}
+use Rattle.stun_types_write.specs.Adding.{add_refusal, attr_of, room_refusal, size_refusal}
+use Rattle.stun_types_build.proofs.Adds.{length-attribute_text}
+use Rattle.stun_types_attribute.specs.Errors.{CodeAndOther, CodeAndReason, error_value, reason_for, reason_of}
+use Rattle.stun_types_info.specs.Types.{types_refusal, types_value}
+use Rattle.stun_types_message.specs.Objections.{error_attribute, unknown_attribute, unknown_refusal, unknown_response_attributes}
+
+-- ---- sizes
+
+text-length : (kind number : ℕ) (all : List Attr) → length (message_text kind number all) ≡ 20 + length (body_text all)
+unfolding message_text header_text
+text-length kind number all = omega arith
+
+body-length : (all : List Attr) (a : Attr) → length (body_text (a ∷ all)) ≡ attr_size a + length (body_text all)
+unfolding body_text
+body-length all a = omega (arith, length-append (attribute_text a) (body_text all), length-attribute_text a)
+
+no_body : length (body_text []) ≡ 0
+unfolding body_text
+no_body = refl
+
+-- a message of one attribute
+pub one-length : (bytes : List ℕ) (kind number : ℕ) (a : Attr) → bytes ≡ message_text kind number (a ∷ []) → length bytes ≡ 20 + attr_size a
+one-length bytes kind number a text =
+    let all = text-length kind number (a ∷ []) in
+    let body = body-length [] a in
+    ap length text ∙ omega (arith, all, body, no_body)
+
+types_value-length : (kinds : List ℕ) → length (types_value kinds) ≡ 2 * length kinds
+unfolding types_value
+types_value-length [] = refl
+types_value-length (kind ∷ kinds) =
+    let rest = types_value-length kinds in
+    omega (arith, rest, length-append (big_bytes 2 kind) (types_value kinds))
+
+-- UNKNOWN-ATTRIBUTES of so many types
+pub unknown-size : (kinds : List ℕ) (count : ℕ) → length kinds ≡ count → attr_size (unknown_attribute kinds) ≡ 4 + padded (2 * count)
+unknown-size kinds count counted = ap (λ (n : ℕ). 4 + padded n) (types_value-length kinds ∙ ap (λ (n : ℕ). 2 * n) counted)
+
+-- a response with 48 bytes before UNKNOWN-ATTRIBUTES
+pub unknown-length : (bytes : List ℕ) (kind number count : ℕ) (kinds : List ℕ) → length kinds ≡ count → bytes ≡ message_text kind number (unknown_response_attributes kinds) → length bytes ≡ 52 + padded (2 * count)
+unknown-length bytes kind number count kinds counted text =
+    let all = text-length kind number (unknown_response_attributes kinds) in
+    let first = body-length (unknown_attribute kinds ∷ []) (error_attribute 420) in
+    let second = body-length [] (unknown_attribute kinds) in
+    let size = unknown-size kinds count counted in
+    ap length text ∙ omega (arith, all, first, second, no_body, size)
+
+-- ---- the error code
+
+-- the reason that goes with a code
+pub default_error : (b : CodeAndOther) (made : CodeAndReason) (code : ℕ) → b.code ≡ code → b.reason ≡ None → made.code ≡ b.code → made.reason ≡ reason_of b → attr_of 0x0009 (error_value made) ≡ error_attribute code
+default_error b made code own none is told =
+    let number : made.code ≡ code = is ∙ own in
+    let reason : made.reason ≡ reason_for code = rw (told, none, own) refl in
+    λ i. attr_of 0x0009 (error_value (record { code = number i; reason = reason i }))
+
+-- ---- refusals
+
+-- the first add is refused by its size alone
+pub first_add : (kinds : List ℕ) (limit : Option ℕ) (len size : ℕ) → kinds ≡ [] → add_refusal kinds limit len size ≡ size_refusal limit (len + size)
+unfolding add_refusal
+first_add kinds limit len size none = rw none refl
+
+-- and so is that behind ERROR-CODE
+pub second_add : (kinds : List ℕ) (limit : Option ℕ) (len size : ℕ) → kinds ≡ 0x0009 ∷ [] → add_refusal kinds limit len size ≡ size_refusal limit (len + size)
+unfolding add_refusal
+second_add kinds limit len size one = rw one refl
+
+-- why the first attribute of a message is refused, or that it is not
+pub first_answer : (kinds : List ℕ) (limit own : Option ℕ) (len : ℕ) (a b : Attr) (answer : Option StunWriteError) → kinds ≡ [] → limit ≡ own → len ≡ 20 → a ≡ b → add_refusal kinds limit len (attr_size a) ≡ answer → size_refusal own (20 + attr_size b) ≡ answer
+first_answer kinds limit own len a b answer none same counted is h =
+    let moved : size_refusal limit (len + attr_size a) ≡ size_refusal own (20 + attr_size b) = λ i. size_refusal (same i) (counted i + attr_size (is i)) in
+    sym moved ∙ sym (first_add kinds limit len (attr_size a) none) ∙ h
+
+-- too many types
+pub too_many : (limit : Option ℕ) (count : ℕ) (error : StunWriteError) → types_refusal count ≡ Some error → unknown_refusal limit count ≡ Some error
+unfolding unknown_refusal
+too_many limit count error h = rw h refl
+
+-- no room for header and ERROR-CODE
+pub no_room : (limit : Option ℕ) (count : ℕ) (error : StunWriteError) → types_refusal count ≡ None → room_refusal limit 48 ≡ Some error → unknown_refusal limit count ≡ Some error
+unfolding unknown_refusal
+no_room limit count error few h = rw (few, h) refl
+
+-- UNKNOWN-ATTRIBUTES is refused, or nothing is
+pub second_answer : (kinds list : List ℕ) (limit own : Option ℕ) (len count : ℕ) (answer : Option StunWriteError) → kinds ≡ 0x0009 ∷ [] → limit ≡ own → len ≡ 48 → length list ≡ count → types_refusal count ≡ None → room_refusal own 48 ≡ None
+    → add_refusal kinds limit len (attr_size (unknown_attribute list)) ≡ answer → unknown_refusal own count ≡ answer
+unfolding unknown_refusal
+second_answer kinds list limit own len count answer one same counted many few room h =
+    let size = unknown-size list count many in
+    let end : len + attr_size (unknown_attribute list) ≡ 52 + padded (2 * count) = omega (arith, counted, size) in
+    let moved : size_refusal limit (len + attr_size (unknown_attribute list)) ≡ size_refusal own (52 + padded (2 * count)) = λ i. size_refusal (same i) (end i) in
+    rw (few, room) (sym moved ∙ sym (second_add kinds limit len (attr_size (unknown_attribute list)) one) ∙ h)

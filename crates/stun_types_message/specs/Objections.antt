@@ -1,0 +1,79 @@
+-- What is wrong with the attributes that a request shows, and the error response to it (RFC 8489, sections 6.3.1, 14.8 and 14.13).
+use Rattle.std.specs.Prelude.{ℕ, ◌+◌, ◌*◌, ◌==◌, ◌&&◌, nat_lt, Bool, not, List, [], ◌∷◌, length, filter, Option, Some, None, if◌then◌else◌}
+use Rattle.std.specs.List.{list_any}
+use Rattle.std.specs.Option.{option_or}
+use Rattle.stun_types_wire.specs.declared.class.MessageClass.TheVariants.{Error}
+use Rattle.stun_types_wire.specs.declared.error.StunWriteError.{StunWriteError}
+use Rattle.stun_types_wire.specs.Attributes.{Attr, kind_at, padded}
+use Rattle.stun_types_wire.specs.Shape.{kinds_of}
+use Rattle.stun_types_wire.specs.Types.{method_of, type_of}
+use Rattle.stun_types_write.specs.Adding.{has_kind, room_refusal, size_refusal}
+use Rattle.stun_types_attribute.specs.Errors.{error_value, reason_for}
+use Rattle.stun_types_info.specs.Types.{types_refusal, types_value}
+
+-- ---- the types
+
+-- a type that has to be understood, and is not among those that are supported
+abbrev pub is_unknown : List ℕ → ℕ → Bool
+is_unknown supported kind = nat_lt kind 0x8000 && not (has_kind kind supported)
+
+-- each number once, where it stands first
+unfoldable pub each_once : List ℕ → List ℕ
+each_once [] = []
+each_once (n ∷ rest) = n ∷ filter (λ m. not (m == n)) (each_once rest)
+
+-- the unknown types that are shown, each once, where it is shown first
+unfoldable pub unknown_kinds : List Attr → List ℕ → List ℕ
+unknown_kinds all supported = each_once (filter (is_unknown supported) (kinds_of all))
+
+-- a required type is not shown
+abbrev pub is_missing : List Attr → List ℕ → Bool
+is_missing all required = list_any (λ kind. not (has_kind kind (kinds_of all))) required
+
+-- ---- the responses
+
+-- the type of the error response to a request
+abbrev pub error_type : List ℕ → ℕ
+error_type request = type_of Error (method_of (kind_at request))
+
+-- ERROR-CODE, with the reason that goes with the code
+abbrev pub error_attribute : ℕ → Attr
+error_attribute code = record { kind = 0x0009; value = error_value (record { code = code; reason = reason_for code }) }
+
+-- UNKNOWN-ATTRIBUTES of these types
+abbrev pub unknown_attribute : List ℕ → Attr
+unknown_attribute kinds = record { kind = 0x000A; value = types_value kinds }
+
+-- ERROR-CODE 400 (Bad Request)
+abbrev pub bad_request_attributes : List Attr
+bad_request_attributes = error_attribute 400 ∷ []
+
+-- ERROR-CODE 420 (Unknown Attribute), and the types
+abbrev pub unknown_response_attributes : List ℕ → List Attr
+unknown_response_attributes kinds = error_attribute 420 ∷ unknown_attribute kinds ∷ []
+
+-- what the response shows to a request that shows these attributes: unknown types come before missing ones, and where there are neither, nothing is wrong
+abbrev pub objection_to : List ℕ → Bool → Option (List Attr)
+objection_to [] missing = if missing then Some bad_request_attributes else None
+objection_to (kind ∷ kinds) missing = Some (unknown_response_attributes (kind ∷ kinds))
+
+abbrev pub objection : List Attr → List ℕ → List ℕ → Option (List Attr)
+objection all supported required = objection_to (unknown_kinds all supported) (is_missing all required)
+
+-- ---- why a response is not written
+
+-- an error response of 400 has 40 bytes
+abbrev pub bad_request_refusal : Option ℕ → Option StunWriteError
+bad_request_refusal limit = room_refusal limit 40
+
+-- an error response of 420: so many types are too many for a value, there is no room for header and ERROR-CODE, which take 48 bytes, or UNKNOWN-ATTRIBUTES is too long or has no room
+unfoldable pub unknown_refusal : Option ℕ → ℕ → Option StunWriteError
+unknown_refusal limit count = option_or (types_refusal count) (option_or (room_refusal limit 48) (size_refusal limit (52 + padded (2 * count))))
+
+-- the response to a request that shows these attributes
+abbrev pub objection_refusal_to : Option ℕ → List ℕ → Bool → Option StunWriteError
+objection_refusal_to limit [] missing = if missing then bad_request_refusal limit else None
+objection_refusal_to limit (kind ∷ kinds) missing = unknown_refusal limit (length (kind ∷ kinds))
+
+abbrev pub objection_refusal : Option ℕ → List Attr → List ℕ → List ℕ → Option StunWriteError
+objection_refusal limit all supported required = objection_refusal_to limit (unknown_kinds all supported) (is_missing all required)

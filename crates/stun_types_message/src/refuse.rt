@@ -1,0 +1,107 @@
+//! Error responses to requests that are refused by their form (RFC 8489, section 6.3.1).
+
+ghost use Rattle.std.specs.Prelude.{◌≡◌, ◌≢◌, ◌≤◌, ◌∷◌, ◌+◌, ◌*◌, [], length, map, IfOk, IfErr, OnOk, IfSome, None, Some};
+ghost use Rattle.stun_types_wire.specs.Attributes.{attr_size, kind_at, padded};
+ghost use Rattle.stun_types_wire.specs.Types.{class_of};
+ghost use Rattle.stun_types_wire.specs.Grammar.{number_at, shown};
+ghost use Rattle.stun_types_wire.specs.Text.{message_text};
+ghost use Rattle.stun_types_wire.specs.declared.class.MessageClass.TheVariants.{Request};
+ghost use Rattle.stun_types_write.specs.Adding.{IsBegun, size_refusal};
+ghost use Rattle.stun_types_attribute.specs.Errors.{error_refusal, reason_for};
+ghost use Rattle.stun_types_message.specs.Objections.{bad_request_attributes, bad_request_refusal, error_attribute, error_type, unknown_refusal, unknown_response_attributes};
+
+use crate::message::Message;
+use std::alloc::Global;
+use stun_types_attribute::error_code::ErrorCode;
+use stun_types_build::ext::add_as;
+use stun_types_info::unknown_attributes::UnknownAttributes;
+use stun_types_wire::attribute::AttributeType;
+use stun_types_wire::error::StunWriteError;
+use stun_types_write::writer::MessageWrite;
+
+impl<'a> Message<'a> {
+    /// Writes the error response to a request that shows ERROR-CODE 400 (Bad Request) alone, in an
+    /// empty writer with room for a header, and gives the writer back. Refused with `TooSmall` where
+    /// the writer has not the room for its 40 bytes; where memory is refused, with `NoMemory`. A
+    /// refusal drops the writer.
+    #[tactic(auto, unfolding(stun_types_attribute::specs::Errors::error_refusal))]
+    pub fn bad_request<W: MessageWrite + Drop>(
+        alloc: Global,
+        request: &Message,
+        writer: W,
+    ) -> Result<W, StunWriteError>
+        requires request { class_of (kind_at request.now) ≡ Request }
+        requires empty { W.written writer ≡ [] }
+        requires no_kinds { W.kinds writer ≡ [] }
+        requires room { IfSome (W.limit writer) (λ most. 20 ≤ most) }
+        ensures text { IfOk result (λ reply. W.written reply ≡ message_text (error_type request.now) (number_at request.now) bad_request_attributes) }
+        ensures begun { IfOk result (λ reply. IsBegun (W.written reply)) }
+        ensures size { IfOk result (λ reply. length (W.written reply) ≡ 40) }
+        ensures kinds { IfOk result (λ reply. W.kinds reply ≡ 0x0009 ∷ []) }
+        ensures limit { IfOk result (λ reply. W.limit reply ≡ W.limit writer) }
+        ensures accepted { OnOk result (bad_request_refusal (W.limit writer) ≡ None) }
+        ensures refused { IfErr result (λ error. error ≢ StunWriteError.NoMemory → bad_request_refusal (W.limit writer) ≡ Some error) }
+    {
+        write_error(alloc, ErrorCode::BAD_REQUEST, request, writer)
+    }
+
+    /// Writes the error response to a request that shows ERROR-CODE 420 (Unknown Attribute) and
+    /// UNKNOWN-ATTRIBUTES of these types, in their order and as often as they stand there, in an empty
+    /// writer with room for a header, and gives the writer back. Refused, in this order: `TooLarge`
+    /// where there are more than 32,767 types, `TooSmall` where the writer has not the room for header
+    /// and ERROR-CODE, which take 48 bytes, `TooLarge` where the length field would pass 65,535,
+    /// `TooSmall` where the writer has not the room for UNKNOWN-ATTRIBUTES; where memory is refused,
+    /// `NoMemory`. A refusal drops the writer.
+    #[tactic(auto, using(crate::proofs::Refusing::too_many, crate::proofs::Refusing::no_room), unfolding(stun_types_attribute::specs::Errors::error_refusal))]
+    pub fn unknown_attributes<W: MessageWrite + Drop>(
+        alloc: Global,
+        request: &Message,
+        types: &[AttributeType],
+        writer: W,
+    ) -> Result<W, StunWriteError>
+        requires request { class_of (kind_at request.now) ≡ Request }
+        requires empty { W.written writer ≡ [] }
+        requires no_kinds { W.kinds writer ≡ [] }
+        requires room { IfSome (W.limit writer) (λ most. 20 ≤ most) }
+        ensures text { IfOk result (λ reply. W.written reply ≡ message_text (error_type request.now) (number_at request.now) (unknown_response_attributes (map (λ t. t.0) types.now))) }
+        ensures begun { IfOk result (λ reply. IsBegun (W.written reply)) }
+        ensures size { IfOk result (λ reply. length (W.written reply) ≡ 52 + padded (2 * length types.now)) }
+        ensures kinds { IfOk result (λ reply. W.kinds reply ≡ 0x0009 ∷ 0x000A ∷ []) }
+        ensures limit { IfOk result (λ reply. W.limit reply ≡ W.limit writer) }
+        ensures accepted { OnOk result (unknown_refusal (W.limit writer) (length types.now) ≡ None) }
+        ensures refused { IfErr result (λ error. error ≢ StunWriteError.NoMemory → unknown_refusal (W.limit writer) (length types.now) ≡ Some error) }
+    {
+        let unknown = UnknownAttributes::new(alloc, types)?;
+        let mut reply = write_error(alloc, ErrorCode::UNKNOWN_ATTRIBUTE, request, writer)?;
+        add_as(&mut reply, &unknown, &unknown)?;
+        Ok(reply)
+    }
+}
+
+/// Writes the error response to a request that shows ERROR-CODE of a code, with the reason that goes
+/// with it, and nothing else.
+#[tactic(auto, unfolding(stun_types_write::specs::Adding::add_refusal, stun_types_attribute::specs::Errors::error_refusal))]
+fn write_error<W: MessageWrite + Drop>(
+    alloc: Global,
+    code: u16,
+    request: &Message,
+    writer: W,
+) -> Result<W, StunWriteError>
+    requires lawful { error_refusal code (reason_for code) ≡ None }
+    requires request { class_of (kind_at request.now) ≡ Request }
+    requires empty { W.written writer ≡ [] }
+    requires no_kinds { W.kinds writer ≡ [] }
+    requires room { IfSome (W.limit writer) (λ most. 20 ≤ most) }
+    ensures text { IfOk result (λ reply. W.written reply ≡ message_text (error_type request.now) (number_at request.now) (error_attribute code ∷ [])) }
+    ensures begun { IfOk result (λ reply. IsBegun (W.written reply)) }
+    ensures size { IfOk result (λ reply. length (W.written reply) ≡ 20 + attr_size (error_attribute code)) }
+    ensures kinds { IfOk result (λ reply. W.kinds reply ≡ 0x0009 ∷ []) }
+    ensures limit { IfOk result (λ reply. W.limit reply ≡ W.limit writer) }
+    ensures accepted { OnOk result (size_refusal (W.limit writer) (20 + attr_size (error_attribute code)) ≡ None) }
+    ensures refused { IfErr result (λ error. error ≢ StunWriteError.NoMemory → size_refusal (W.limit writer) (20 + attr_size (error_attribute code)) ≡ Some error) }
+{
+    let error = ErrorCode::builder(code).build(alloc)?;
+    let mut reply = Message::builder_error(request, writer)?;
+    add_as(&mut reply, &error, &error)?;
+    Ok(reply)
+}
