@@ -3,3 +3,4 @@ pub mod Scanning
 pub mod Refusals
 pub mod Validating
 pub mod Refusing
+pub mod Listing

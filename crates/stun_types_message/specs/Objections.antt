@@ -9,7 +9,7 @@ use Rattle.stun_types_wire.specs.Shape.{kinds_of}
 use Rattle.stun_types_wire.specs.Types.{method_of, type_of}
 use Rattle.stun_types_write.specs.Adding.{has_kind, room_refusal, size_refusal}
 use Rattle.stun_types_attribute.specs.Errors.{error_value, reason_for}
-use Rattle.stun_types_info.specs.Types.{types_refusal, types_value}
+use Rattle.stun_types_info.specs.Types.{types_refusal, types_value, with_type}
 
 -- ---- the types
 
@@ -20,11 +20,15 @@ is_unknown supported kind = nat_lt kind 0x8000 && not (has_kind kind supported)
 -- each number once, where it stands first
 unfoldable pub each_once : List ℕ → List ℕ
 each_once [] = []
-each_once (n ∷ rest) = n ∷ filter (λ m. not (m == n)) (each_once rest)
+each_once (n ∷ rest) = n ∷ filter (λ m. not (n == m)) (each_once rest)
 
 -- the unknown types that are shown, each once, where it is shown first
 unfoldable pub unknown_kinds : List Attr → List ℕ → List ℕ
 unknown_kinds all supported = each_once (filter (is_unknown supported) (kinds_of all))
+
+-- types that are listed with one more at the end, if it is unknown and not there
+abbrev pub with_unknown : List ℕ → List ℕ → ℕ → List ℕ
+with_unknown supported listed kind = if is_unknown supported kind then with_type kind listed else listed
 
 -- a required type is not shown
 abbrev pub is_missing : List Attr → List ℕ → Bool

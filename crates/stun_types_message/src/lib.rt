@@ -10,3 +10,4 @@ pub mod refuse;
 mod stage;
 pub mod typed;
 pub mod validate;
+pub mod check;
