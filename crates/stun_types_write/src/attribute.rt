@@ -114,6 +114,10 @@ pub trait AttributeFromRaw<'a>: Attribute {
     // A value as this attribute writes it again: what is not looked at is zero.
     ghost read_value: { List ℕ → List ℕ };
 
+    // Why what an attribute writes is not read. There is no cause, but for a value that can be made and
+    // is not read.
+    ghost written_refusal: { Self → Option ParseError } = { λ _. None };
+
     /// The attribute of a type and a value. Refused, in this order: `WrongAttributeImplementation`
     /// where it is another type, `Truncated` where the value is too short, `TooLarge` where it is too
     /// long, `InvalidAttributeData` where it is no value of this type; where memory is refused,
@@ -127,22 +131,22 @@ pub trait AttributeFromRaw<'a>: Attribute {
         ensures ok { IfOk result (λ read. (read_refusal raw.entry ≡ None) × (Self.kind read ≡ raw.entry.kind) × (Self.value read ≡ read_value raw.entry.value)) }
         ensures refused { IfErr result (λ error. error ≢ StunParseError.NoMemory → read_refusal raw.entry ≡ Some error) };
 
-    /// Says that what an attribute writes is read, and that what is read of it is that attribute. It
+    /// Says whether what an attribute writes is read, and that what is read of it is that attribute. It
     /// does nothing.
     fn is_read_back(&self, read: &Self)
-        ensures accepted { read_refusal (attr_of (Self.kind self.now) (Self.value self.now)) ≡ None }
+        ensures accepted { read_refusal (attr_of (Self.kind self.now) (Self.value self.now)) ≡ written_refusal self.now }
         ensures kept { read_value (Self.value self.now) ≡ Self.value self.now }
         ensures same { Self.value read.now ≡ Self.value self.now → read.now ≡ self.now };
 }
 
 /// What an attribute writes, read again: the same attribute. Refused where memory is, with `NoMemory`,
-/// and for no other cause.
+/// and for no other cause, but where the attribute itself is one that is made and not read.
 pub fn written_and_read<'a, A: AttributeWrite + AttributeFromRaw<'a>>(
     attribute: &A,
     alloc: Global,
 ) -> Result<A, StunParseError>
-    ensures ok { IfOk result (λ read. read ≡ attribute.now) }
-    ensures refused { IfErr result (λ error. error ≡ StunParseError.NoMemory) }
+    ensures ok { IfOk result (λ read. (read ≡ attribute.now) × (A.written_refusal attribute.now ≡ None)) }
+    ensures refused { IfErr result (λ error. error ≢ StunParseError.NoMemory → A.written_refusal attribute.now ≡ Some error) }
 {
     attribute.is_read_back(attribute);
     let raw = attribute.to_raw(alloc)?;
