@@ -1,0 +1,2 @@
+pub mod Algorithms
+pub mod Lists

@@ -1,0 +1,3 @@
+pub mod Algorithms
+pub mod Entries
+pub mod Userhashes

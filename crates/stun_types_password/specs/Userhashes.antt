@@ -1,0 +1,11 @@
+-- The hash of a user's name in a realm (RFC 8489, section 14.4).
+use Rattle.std.specs.Prelude.{ℕ, List, ◌++◌, codes}
+use Rattle.sha2.specs.Sha256.{sha256}
+
+-- the SHA-256 of username ":" realm
+abbrev pub userhash_of : List ℕ → List ℕ → List ℕ
+userhash_of username realm = sha256 (username ++ codes ":" ++ realm)
+
+-- how many bytes a hash has
+abbrev pub userhash_length : ℕ
+userhash_length = 32
