@@ -13,6 +13,10 @@ pub use stun_types_info::software::Software;
 pub use stun_types_info::unknown_attributes::UnknownAttributes;
 pub use stun_types_integrity::integrity::MessageIntegrity;
 pub use stun_types_integrity::integrity_sha256::MessageIntegritySha256;
+pub use stun_types_password::algorithm::PasswordAlgorithmValue;
+pub use stun_types_password::password_algorithm::PasswordAlgorithm;
+pub use stun_types_password::password_algorithms::PasswordAlgorithms;
+pub use stun_types_password::userhash::Userhash;
 pub use stun_types_wire::attribute::{
     AttributeHeader, AttributeType, RawAttribute, pad_attribute_len,
 };

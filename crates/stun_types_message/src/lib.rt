@@ -2,6 +2,7 @@
 #![tactic(auto)]
 
 pub mod builder;
+pub mod check;
 mod fingerprint;
 mod front;
 pub mod iter;
@@ -10,4 +11,3 @@ pub mod refuse;
 mod stage;
 pub mod typed;
 pub mod validate;
-pub mod check;
