@@ -1,2 +1,3 @@
+pub mod Lent
 pub mod Types
 pub mod Values

@@ -3,6 +3,7 @@
 
 pub mod attribute;
 pub mod reading;
+pub mod slice;
 pub mod text;
 pub mod vec;
 pub mod writer;

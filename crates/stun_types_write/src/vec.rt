@@ -61,11 +61,13 @@ impl MessageWriteVec {
 }
 
 impl MessageWrite for MessageWriteVec {
-    ghost use Rattle.std.specs.Prelude.{◌≡◌, None};
+    ghost use Rattle.std.specs.Prelude.{◌≡◌, [], None};
 
     type Output = Vec<u8>;
 
     ghost written = { λ writer. writer.bytes };
+
+    ghost behind = { λ _. [] };
 
     ghost kinds = { λ writer. writer.kinds };
 
