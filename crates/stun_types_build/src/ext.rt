@@ -1,6 +1,6 @@
 //! The header and the adds of a message that is written, over any writer.
 
-ghost use Rattle.std.specs.Prelude.{◌≡◌, ◌≢◌, ◌↔◌, ◌+◌, ◌≤◌, ◌++◌, ◌∷◌, [], length, ℕ, List, IsTrue, OnOk, OnErr, IfErr, None, Some};
+ghost use Rattle.std.specs.Prelude.{◌≡◌, ◌≢◌, ◌↔◌, ◌+◌, ◌≤◌, ◌++◌, ◌∷◌, [], length, drop, ℕ, List, IsTrue, OnOk, OnErr, IfErr, MatchResult, None, Some};
 ghost use Rattle.stun_types_wire.specs.Attributes.{Attr, attr_size, kind_at};
 ghost use Rattle.stun_types_wire.specs.Shape.{fingerprint_kind, rank};
 ghost use Rattle.stun_types_wire.specs.Fingerprints.{fingerprint_of};
@@ -10,7 +10,7 @@ ghost use Rattle.stun_types_wire.specs.Text.{message_text};
 ghost use Rattle.stun_types_write.specs.Adding.{attr_of, after_add, add_refusal, fingerprint_add_refusal, IsBegun};
 ghost use Rattle.stun_types_integrity.specs.Integrity.{attribute_kind};
 ghost use Rattle.stun_types_integrity.specs.Keys.{key_of};
-ghost use Rattle.stun_types_integrity.specs.Signing.{signature, signing_refusal};
+ghost use Rattle.stun_types_integrity.specs.Signing.{hmac_length, signature, signing_refusal};
 
 use crate::fingerprint::mark;
 use crate::room::end_of_add;
@@ -79,6 +79,7 @@ pub trait MessageWriteExt: MessageWrite {
         ensures accepted { OnOk result (add_refusal (Self.kinds self.old) (Self.limit self.old) (length (Self.written self.old)) (attr_size (attr_of (kind attribute.now) (value attribute.now))) ≡ None) }
         ensures refused { IfErr result (λ error. error ≢ StunWriteError.NoMemory → add_refusal (Self.kinds self.old) (Self.limit self.old) (length (Self.written self.old)) (attr_size (attr_of (kind attribute.now) (value attribute.now))) ≡ Some error) }
         ensures unchanged { OnErr result ((Self.written self.new ≡ Self.written self.old) × (Self.kinds self.new ≡ Self.kinds self.old)) }
+        ensures behind { MatchResult result (λ _. Self.behind self.new ≡ drop (attr_size (attr_of (kind attribute.now) (value attribute.now))) (Self.behind self.old)) (λ _. Self.behind self.new ≡ Self.behind self.old) }
         ensures limit { Self.limit self.new ≡ Self.limit self.old }
         ensures begun { IsBegun (Self.written self.new) };
 
@@ -101,6 +102,7 @@ pub trait MessageWriteExt: MessageWrite {
         ensures accepted { OnOk result (signing_refusal (Self.kinds self.old) (Self.limit self.old) (length (Self.written self.old)) key.now.algorithm algorithm ≡ None) }
         ensures refused { IfErr result (λ error. error ≢ StunWriteError.NoMemory → signing_refusal (Self.kinds self.old) (Self.limit self.old) (length (Self.written self.old)) key.now.algorithm algorithm ≡ Some error) }
         ensures unchanged { OnErr result ((Self.written self.new ≡ Self.written self.old) × (Self.kinds self.new ≡ Self.kinds self.old)) }
+        ensures behind { MatchResult result (λ _. Self.behind self.new ≡ drop (4 + hmac_length algorithm) (Self.behind self.old)) (λ _. Self.behind self.new ≡ Self.behind self.old) }
         ensures limit { Self.limit self.new ≡ Self.limit self.old }
         ensures begun { IsBegun (Self.written self.new) };
 
@@ -120,6 +122,7 @@ pub trait MessageWriteExt: MessageWrite {
         ensures accepted { OnOk result (signing_refusal (Self.kinds self.old) (Self.limit self.old) (length (Self.written self.old)) algorithm algorithm ≡ None) }
         ensures refused { IfErr result (λ error. error ≢ StunWriteError.NoMemory → signing_refusal (Self.kinds self.old) (Self.limit self.old) (length (Self.written self.old)) algorithm algorithm ≡ Some error) }
         ensures unchanged { OnErr result ((Self.written self.new ≡ Self.written self.old) × (Self.kinds self.new ≡ Self.kinds self.old)) }
+        ensures behind { MatchResult result (λ _. Self.behind self.new ≡ drop (4 + hmac_length algorithm) (Self.behind self.old)) (λ _. Self.behind self.new ≡ Self.behind self.old) }
         ensures limit { Self.limit self.new ≡ Self.limit self.old }
         ensures begun { IsBegun (Self.written self.new) };
 
@@ -224,6 +227,7 @@ pub fn add_as<W: MessageWrite, A: AttributeWrite>(
     ensures accepted { OnOk result (add_refusal (W.kinds writer.old) (W.limit writer.old) (length (W.written writer.old)) (attr_size (attr_of (A.kind same.now) (A.value same.now))) ≡ None) }
     ensures refused { IfErr result (λ error. error ≢ StunWriteError.NoMemory → add_refusal (W.kinds writer.old) (W.limit writer.old) (length (W.written writer.old)) (attr_size (attr_of (A.kind same.now) (A.value same.now))) ≡ Some error) }
     ensures unchanged { OnErr result ((W.written writer.new ≡ W.written writer.old) × (W.kinds writer.new ≡ W.kinds writer.old)) }
+    ensures behind { MatchResult result (λ _. W.behind writer.new ≡ drop (attr_size (attr_of (A.kind same.now) (A.value same.now))) (W.behind writer.old)) (λ _. W.behind writer.new ≡ W.behind writer.old) }
     ensures limit { W.limit writer.new ≡ W.limit writer.old }
     ensures begun { IsBegun (W.written writer.new) }
 {

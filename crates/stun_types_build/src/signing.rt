@@ -1,6 +1,6 @@
 //! The integrity attribute, added at the end of a message (RFC 8489, sections 14.5 and 14.6).
 
-ghost use Rattle.std.specs.Prelude.{◌≡◌, ◌≢◌, ◌+◌, ◌≤◌, ◌^◌, ◌++◌, ◌∷◌, [], length, ℕ, List, OnOk, OnErr, IfErr, IfSome, MatchResult, None, Some};
+ghost use Rattle.std.specs.Prelude.{◌≡◌, ◌≢◌, ◌+◌, ◌≤◌, ◌^◌, ◌++◌, ◌∷◌, [], length, drop, ℕ, List, OnOk, OnErr, IfErr, IfSome, MatchResult, None, Some};
 ghost use Rattle.stun_types_wire.specs.Attributes.{Attr, padded};
 ghost use Rattle.stun_types_wire.specs.Text.{attribute_text, message_text};
 ghost use Rattle.stun_types_write.specs.Adding.{after_add, attr_of, greatest_size, IsBegun};
@@ -39,6 +39,7 @@ pub(crate) fn sign<W: MessageWrite>(
     ensures accepted { OnOk result (signing_refusal (W.kinds writer.old) (W.limit writer.old) (length (W.written writer.old)) key.now.algorithm algorithm ≡ None) }
     ensures refused { IfErr result (λ error. error ≢ StunWriteError.NoMemory → signing_refusal (W.kinds writer.old) (W.limit writer.old) (length (W.written writer.old)) key.now.algorithm algorithm ≡ Some error) }
     ensures unchanged { OnErr result ((W.written writer.new ≡ W.written writer.old) × (W.kinds writer.new ≡ W.kinds writer.old)) }
+    ensures behind { MatchResult result (λ _. W.behind writer.new ≡ drop (4 + length_of_hmac algorithm) (W.behind writer.old)) (λ _. W.behind writer.new ≡ W.behind writer.old) }
     ensures limit { W.limit writer.new ≡ W.limit writer.old }
     ensures begun { IsBegun (W.written writer.new) }
 {
@@ -110,6 +111,7 @@ pub(crate) fn push_as<W: MessageWrite, A: AttributeWrite>(
     ensures ok { OnOk result (W.written writer.new ≡ W.written writer.old ++ attribute_text (attr_of (A.kind same.now) (A.value same.now))) }
     ensures ok_kinds { OnOk result (W.kinds writer.new ≡ W.kinds writer.old ++ A.kind same.now ∷ []) }
     ensures err { OnErr result ((W.written writer.new ≡ W.written writer.old) × (W.kinds writer.new ≡ W.kinds writer.old)) }
+    ensures behind { MatchResult result (λ _. W.behind writer.new ≡ drop (4 + padded (length (A.value same.now))) (W.behind writer.old)) (λ _. W.behind writer.new ≡ W.behind writer.old) }
     ensures limit { W.limit writer.new ≡ W.limit writer.old }
 {
     writer.push_attribute_unchecked(attribute)

@@ -1,6 +1,6 @@
 //! Messages that are begun, in any writer.
 
-ghost use Rattle.std.specs.Prelude.{◌≡◌, ◌<◌, ◌≤◌, ◌^◌, [], length, IfOk, IfSome};
+ghost use Rattle.std.specs.Prelude.{◌≡◌, ◌<◌, ◌≤◌, ◌^◌, [], drop, length, IfOk, IfSome};
 ghost use Rattle.stun_types_wire.specs.Attributes.{kind_at};
 ghost use Rattle.stun_types_wire.specs.Types.{class_of, method_of, type_of};
 ghost use Rattle.stun_types_wire.specs.Grammar.{number_at};
@@ -35,6 +35,7 @@ impl<'a> Message<'a> {
         ensures begun { IfOk result (λ begun. IsBegun (W.written begun)) }
         ensures size { IfOk result (λ begun. length (W.written begun) ≡ 20) }
         ensures kinds { IfOk result (λ begun. W.kinds begun ≡ []) }
+        ensures behind { IfOk result (λ begun. W.behind begun ≡ drop 20 (W.behind writer)) }
         ensures limit { IfOk result (λ begun. W.limit begun ≡ W.limit writer) }
     {
         let mut writer = writer;
@@ -58,6 +59,7 @@ impl<'a> Message<'a> {
         ensures begun { IfOk result (λ begun. IsBegun (W.written begun)) }
         ensures size { IfOk result (λ begun. length (W.written begun) ≡ 20) }
         ensures kinds { IfOk result (λ begun. W.kinds begun ≡ []) }
+        ensures behind { IfOk result (λ begun. W.behind begun ≡ drop 20 (W.behind writer)) }
         ensures limit { IfOk result (λ begun. W.limit begun ≡ W.limit writer) }
         ensures stream { R.stream rng.new ≡ stream_after number_words (R.stream rng.old) }
     {
@@ -78,6 +80,7 @@ impl<'a> Message<'a> {
         ensures begun { IfOk result (λ begun. IsBegun (W.written begun)) }
         ensures size { IfOk result (λ begun. length (W.written begun) ≡ 20) }
         ensures kinds { IfOk result (λ begun. W.kinds begun ≡ []) }
+        ensures behind { IfOk result (λ begun. W.behind begun ≡ drop 20 (W.behind writer)) }
         ensures limit { IfOk result (λ begun. W.limit begun ≡ W.limit writer) }
         ensures stream { R.stream rng.new ≡ stream_after number_words (R.stream rng.old) }
     {
@@ -98,6 +101,7 @@ impl<'a> Message<'a> {
         ensures begun { IfOk result (λ begun. IsBegun (W.written begun)) }
         ensures size { IfOk result (λ begun. length (W.written begun) ≡ 20) }
         ensures kinds { IfOk result (λ begun. W.kinds begun ≡ []) }
+        ensures behind { IfOk result (λ begun. W.behind begun ≡ drop 20 (W.behind writer)) }
         ensures limit { IfOk result (λ begun. W.limit begun ≡ W.limit writer) }
     {
         begin_response(MessageClass::Success, request, writer)
@@ -117,6 +121,7 @@ impl<'a> Message<'a> {
         ensures begun { IfOk result (λ begun. IsBegun (W.written begun)) }
         ensures size { IfOk result (λ begun. length (W.written begun) ≡ 20) }
         ensures kinds { IfOk result (λ begun. W.kinds begun ≡ []) }
+        ensures behind { IfOk result (λ begun. W.behind begun ≡ drop 20 (W.behind writer)) }
         ensures limit { IfOk result (λ begun. W.limit begun ≡ W.limit writer) }
     {
         begin_response(MessageClass::Error, request, writer)
@@ -138,6 +143,7 @@ fn begin_generated<W: MessageWrite + Drop, R: Rng>(
     ensures begun { IfOk result (λ begun. IsBegun (W.written begun)) }
     ensures size { IfOk result (λ begun. length (W.written begun) ≡ 20) }
     ensures kinds { IfOk result (λ begun. W.kinds begun ≡ []) }
+    ensures behind { IfOk result (λ begun. W.behind begun ≡ drop 20 (W.behind writer)) }
     ensures limit { IfOk result (λ begun. W.limit begun ≡ W.limit writer) }
     ensures stream { R.stream rng.new ≡ stream_after number_words (R.stream rng.old) }
 {
@@ -159,6 +165,7 @@ fn begin_response<W: MessageWrite + Drop>(
     ensures begun { IfOk result (λ begun. IsBegun (W.written begun)) }
     ensures size { IfOk result (λ begun. length (W.written begun) ≡ 20) }
     ensures kinds { IfOk result (λ begun. W.kinds begun ≡ []) }
+    ensures behind { IfOk result (λ begun. W.behind begun ≡ drop 20 (W.behind writer)) }
     ensures limit { IfOk result (λ begun. W.limit begun ≡ W.limit writer) }
 {
     let mtype = MessageType::from_class_method(class, request.method());
