@@ -12,5 +12,6 @@ pub use stun_types_wire::class::{BINDING, MessageClass, MessageType, Method};
 pub use stun_types_wire::error::{StunParseError, StunWriteError, ValidateError};
 pub use stun_types_wire::header::MessageHeader;
 pub use stun_types_wire::transaction::{MAGIC_COOKIE, TransactionId};
+pub use stun_types_write::slice::MessageWriteMutSlice;
 pub use stun_types_write::vec::MessageWriteVec;
 pub use stun_types_write::writer::MessageWrite;

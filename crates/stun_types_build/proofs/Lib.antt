@@ -1,3 +1,4 @@
 pub mod Adds
+pub mod Agree
 pub mod Signs
 pub mod Marks

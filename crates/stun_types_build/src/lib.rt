@@ -1,6 +1,7 @@
 //! What is added to a message that was begun, by any writer.
 #![tactic(auto)]
 
+pub mod agreement;
 pub mod ext;
 mod fingerprint;
 mod room;
