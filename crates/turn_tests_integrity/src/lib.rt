@@ -9,4 +9,6 @@ mod samples;
 #[cfg(test)]
 mod signing;
 #[cfg(test)]
+mod slices;
+#[cfg(test)]
 mod validating;
