@@ -7,4 +7,5 @@ pub use stun_types_grammar::{
     fingerprint_refusals, header_refusals, message_is_text, shown_is_longest_front, text_is_read, written_is_read,
 };
 pub use stun_types_laws::{covered_text_fixes_message, signed_validates};
+pub use stun_types_message::check::unknown_types_are_listed;
 pub use stun_types_write::attribute::written_and_read;

@@ -1,6 +1,7 @@
 pub mod Fingerprints
 pub mod Scanning
 pub mod Refusals
+pub mod Unknown
 pub mod Validating
 pub mod Refusing
 pub mod Listing

@@ -1,6 +1,6 @@
 -- What is wrong with the attributes that a request shows, and the error response to it (RFC 8489, sections 6.3.1, 14.8 and 14.13).
-use Rattle.std.specs.Prelude.{ℕ, ◌+◌, ◌*◌, ◌==◌, ◌&&◌, nat_lt, Bool, not, List, [], ◌∷◌, length, filter, Option, Some, None, if◌then◌else◌}
-use Rattle.std.specs.List.{list_any}
+use Rattle.std.specs.Prelude.{◌≡◌, ℕ, ◌+◌, ◌*◌, ◌==◌, ◌&&◌, eqb, nat_lt, Bool, false, not, List, [], ◌∷◌, ◌++◌, ⊤, length, filter, Option, Some, None, if◌then◌else◌}
+use Rattle.std.specs.List.{AllByRecursion, IsDistinct, list_any}
 use Rattle.std.specs.Option.{option_or}
 use Rattle.stun_types_wire.specs.declared.class.MessageClass.TheVariants.{Error}
 use Rattle.stun_types_wire.specs.declared.error.StunWriteError.{StunWriteError}
@@ -25,6 +25,24 @@ each_once (n ∷ rest) = n ∷ filter (λ m. not (n == m)) (each_once rest)
 -- the unknown types that are shown, each once, where it is shown first
 unfoldable pub unknown_kinds : List Attr → List ℕ → List ℕ
 unknown_kinds all supported = each_once (filter (is_unknown supported) (kinds_of all))
+
+-- the first of two types is shown before the second is: it stands with none of the second before it
+pub record IsShownBefore (kinds : List ℕ) (first second : ℕ) : Type 0 where
+  pub before : List ℕ
+  pub behind : List ℕ
+  pub parts : kinds ≡ before ++ first ∷ behind
+  pub none : has_kind second before ≡ false
+
+-- each type of a list is shown before those that follow it there
+unfoldable pub IsInOrder : List ℕ → List ℕ → Type 0
+IsInOrder kinds [] = ⊤
+IsInOrder kinds (kind ∷ list) = AllByRecursion (IsShownBefore kinds kind) list × IsInOrder kinds list
+
+-- a list of the unknown types among those that are shown: none twice, these and no others, in the order in which they are first shown
+pub record IsUnknownList (kinds supported list : List ℕ) : Type 0 where
+  pub distinct : IsDistinct eqb list
+  pub listed : (kind : ℕ) → has_kind kind list ≡ (is_unknown supported kind && has_kind kind kinds)
+  pub order : IsInOrder kinds list
 
 -- types that are listed with one more at the end, if it is unknown and not there
 abbrev pub with_unknown : List ℕ → List ℕ → ℕ → List ℕ

@@ -1,16 +1,16 @@
 //! Requests checked for the attributes that they show (RFC 8489, section 6.3.1).
 
-ghost use Rattle.std.specs.Prelude.{◌≡◌, ◌≢◌, ◌≤◌, ◌==◌, [], map, not, is_some, find, length, IfOk, IfErr, OnOk, IfSome, None, Some};
+ghost use Rattle.std.specs.Prelude.{◌≡◌, ◌≢◌, ◌≤◌, ◌==◌, ℕ, List, [], map, not, is_some, find, length, IfOk, IfErr, OnOk, IfSome, None, Some};
 ghost use Rattle.std.specs.List.{list_any};
 ghost use Rattle.std.specs.Option.{option_map};
-ghost use Rattle.stun_types_wire.specs.Attributes.{kind_at};
+ghost use Rattle.stun_types_wire.specs.Attributes.{Attr, kind_at};
 ghost use Rattle.stun_types_wire.specs.Shape.{kinds_of};
 ghost use Rattle.stun_types_wire.specs.Types.{class_of};
 ghost use Rattle.stun_types_wire.specs.Grammar.{number_at, shown};
 ghost use Rattle.stun_types_wire.specs.Text.{message_text};
 ghost use Rattle.stun_types_wire.specs.declared.class.MessageClass.TheVariants.{Request};
 ghost use Rattle.stun_types_write.specs.Adding.{IsBegun, has_kind};
-ghost use Rattle.stun_types_message.specs.Objections.{error_type, is_missing, is_unknown, objection, objection_refusal, unknown_kinds, with_unknown};
+ghost use Rattle.stun_types_message.specs.Objections.{IsUnknownList, error_type, is_missing, is_unknown, objection, objection_refusal, unknown_kinds, with_unknown};
 
 use crate::message::Message;
 use std::alloc::Global;
@@ -58,6 +58,12 @@ impl<'a> Message<'a> {
         Ok(None)
     }
 }
+
+/// The law of what is listed: the types of attributes that have to be understood and are not supported,
+/// none of them twice, these and no others, in the order in which they are first shown.
+pub fn unknown_types_are_listed()
+    ensures { (all : List Attr) (supported : List ℕ) → IsUnknownList (kinds_of all) supported (unknown_kinds all supported) }
+{}
 
 /// The types that a message shows, that have to be understood and are not supported, each once, in the
 /// order in which they are first shown.
