@@ -139,6 +139,7 @@ pub trait MessageWriteExt: MessageWrite {
         ensures accepted { OnOk result (fingerprint_add_refusal (Self.kinds self.old) (Self.limit self.old) (length (Self.written self.old)) ≡ None) }
         ensures refused { IfErr result (λ error. error ≢ StunWriteError.NoMemory → fingerprint_add_refusal (Self.kinds self.old) (Self.limit self.old) (length (Self.written self.old)) ≡ Some error) }
         ensures unchanged { OnErr result ((Self.written self.new ≡ Self.written self.old) × (Self.kinds self.new ≡ Self.kinds self.old)) }
+        ensures behind { MatchResult result (λ _. Self.behind self.new ≡ drop 8 (Self.behind self.old)) (λ _. Self.behind self.new ≡ Self.behind self.old) }
         ensures limit { Self.limit self.new ≡ Self.limit self.old }
         ensures begun { IsBegun (Self.written self.new) };
 }

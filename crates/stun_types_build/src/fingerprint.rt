@@ -1,6 +1,6 @@
 //! FINGERPRINT, added at the end of a message (RFC 8489, section 14.7).
 
-ghost use Rattle.std.specs.Prelude.{◌≡◌, ◌≢◌, ◌≤◌, ◌++◌, ◌∷◌, [], length, ℕ, List, OnOk, OnErr, IfErr, None, Some};
+ghost use Rattle.std.specs.Prelude.{◌≡◌, ◌≢◌, ◌≤◌, ◌++◌, ◌∷◌, [], length, drop, ℕ, List, OnOk, OnErr, IfErr, MatchResult, None, Some};
 ghost use Rattle.stun_types_wire.specs.Attributes.{Attr};
 ghost use Rattle.stun_types_wire.specs.Covered.{with_length};
 ghost use Rattle.stun_types_wire.specs.Fingerprints.{fingerprint_of, fingerprint_value};
@@ -30,6 +30,7 @@ pub(crate) fn mark<W: MessageWrite>(writer: &mut W) -> Result<(), StunWriteError
     ensures accepted { OnOk result (fingerprint_add_refusal (W.kinds writer.old) (W.limit writer.old) (length (W.written writer.old)) ≡ None) }
     ensures refused { IfErr result (λ error. error ≢ StunWriteError.NoMemory → fingerprint_add_refusal (W.kinds writer.old) (W.limit writer.old) (length (W.written writer.old)) ≡ Some error) }
     ensures unchanged { OnErr result ((W.written writer.new ≡ W.written writer.old) × (W.kinds writer.new ≡ W.kinds writer.old)) }
+    ensures behind { MatchResult result (λ _. W.behind writer.new ≡ drop 8 (W.behind writer.old)) (λ _. W.behind writer.new ≡ W.behind writer.old) }
     ensures limit { W.limit writer.new ≡ W.limit writer.old }
     ensures begun { IsBegun (W.written writer.new) }
 {

@@ -1,6 +1,6 @@
 //! Error responses to requests that are refused by their form (RFC 8489, section 6.3.1).
 
-ghost use Rattle.std.specs.Prelude.{◌≡◌, ◌≢◌, ◌≤◌, ◌∷◌, ◌+◌, ◌*◌, [], length, map, IfOk, IfErr, OnOk, IfSome, None, Some};
+ghost use Rattle.std.specs.Prelude.{◌≡◌, ◌≢◌, ◌≤◌, ◌∷◌, ◌+◌, ◌*◌, [], drop, length, map, IfOk, IfErr, OnOk, IfSome, None, Some};
 ghost use Rattle.stun_types_wire.specs.Attributes.{attr_size, kind_at, padded};
 ghost use Rattle.stun_types_wire.specs.Types.{class_of};
 ghost use Rattle.stun_types_wire.specs.Grammar.{number_at, shown};
@@ -38,6 +38,7 @@ impl<'a> Message<'a> {
         ensures begun { IfOk result (λ reply. IsBegun (W.written reply)) }
         ensures size { IfOk result (λ reply. length (W.written reply) ≡ 40) }
         ensures kinds { IfOk result (λ reply. W.kinds reply ≡ 0x0009 ∷ []) }
+        ensures behind { IfOk result (λ reply. W.behind reply ≡ drop 40 (W.behind writer)) }
         ensures limit { IfOk result (λ reply. W.limit reply ≡ W.limit writer) }
         ensures accepted { OnOk result (bad_request_refusal (W.limit writer) ≡ None) }
         ensures refused { IfErr result (λ error. error ≢ StunWriteError.NoMemory → bad_request_refusal (W.limit writer) ≡ Some error) }
@@ -67,6 +68,7 @@ impl<'a> Message<'a> {
         ensures begun { IfOk result (λ reply. IsBegun (W.written reply)) }
         ensures size { IfOk result (λ reply. length (W.written reply) ≡ 52 + padded (2 * length types.now)) }
         ensures kinds { IfOk result (λ reply. W.kinds reply ≡ 0x0009 ∷ 0x000A ∷ []) }
+        ensures behind { IfOk result (λ reply. W.behind reply ≡ drop (52 + padded (2 * length types.now)) (W.behind writer)) }
         ensures limit { IfOk result (λ reply. W.limit reply ≡ W.limit writer) }
         ensures accepted { OnOk result (unknown_refusal (W.limit writer) (length types.now) ≡ None) }
         ensures refused { IfErr result (λ error. error ≢ StunWriteError.NoMemory → unknown_refusal (W.limit writer) (length types.now) ≡ Some error) }
@@ -96,6 +98,7 @@ fn write_error<W: MessageWrite + Drop>(
     ensures begun { IfOk result (λ reply. IsBegun (W.written reply)) }
     ensures size { IfOk result (λ reply. length (W.written reply) ≡ 20 + attr_size (error_attribute code)) }
     ensures kinds { IfOk result (λ reply. W.kinds reply ≡ 0x0009 ∷ []) }
+    ensures behind { IfOk result (λ reply. W.behind reply ≡ drop (20 + attr_size (error_attribute code)) (W.behind writer)) }
     ensures limit { IfOk result (λ reply. W.limit reply ≡ W.limit writer) }
     ensures accepted { OnOk result (size_refusal (W.limit writer) (20 + attr_size (error_attribute code)) ≡ None) }
     ensures refused { IfErr result (λ error. error ≢ StunWriteError.NoMemory → size_refusal (W.limit writer) (20 + attr_size (error_attribute code)) ≡ Some error) }

@@ -5,7 +5,7 @@ use Rattle.std.proofs.Math.Seq.{drop-append_seam, drop-append-add}
 use Rattle.stun_types_wire.specs.Attributes.{Attr, attr_size, padding_len}
 use Rattle.stun_types_wire.specs.Text.{attribute_text, padded_text}
 use Rattle.byteorder.specs.Endian.{big_bytes}
-use Rattle.stun_types_write.specs.Adding.{with_length}
+use Rattle.stun_types_wire.specs.Covered.{with_length}
 
 -- what lies behind the written bytes begins where they end
 from_end : (lent : List ℕ) (len : ℕ) → drop (length (take len lent)) lent ≡ drop len lent
