@@ -1,7 +1,7 @@
 -- Error responses to requests that are refused: what they show, their size, and why they are not written.
-use Rattle.std.specs.Prelude.{◌≡◌, ℕ, ◌+◌, ◌*◌, List, [], ◌∷◌, length, Option, Some, None}
+use Rattle.std.specs.Prelude.{◌≡◌, ℕ, ◌+◌, ◌*◌, List, [], ◌∷◌, drop, length, Option, Some, None}
 use Rattle.std.proofs.Common.{refl, sym, ap, ◌∙◌, arith}
-use Rattle.std.proofs.lemmas.List.{length-append}
+use Rattle.std.proofs.lemmas.List.{drop-drop, length-append}
 use Rattle.byteorder.specs.Endian.{big_bytes}
 use Rattle.stun_types_wire.specs.declared.error.StunWriteError.{StunWriteError}
 use Rattle.stun_types_wire.specs.Attributes.{Attr, attr_size, padded}
@@ -52,6 +52,12 @@ unknown-length bytes kind number count kinds counted text =
     let second = body-length [] (unknown_attribute kinds) in
     let size = unknown-size kinds count counted in
     ap length text ∙ omega (arith, all, first, second, no_body, size)
+
+-- ---- the lent bytes behind a message
+
+-- after one add and another
+pub behind_both : (behind before after : List ℕ) (m n whole : ℕ) → before ≡ drop m behind → after ≡ drop n before → m + n ≡ whole → after ≡ drop whole behind
+behind_both behind before after m n whole first second sum = second ∙ ap (drop n) first ∙ drop-drop n m behind ∙ ap (λ k. drop k behind) sum
 
 -- ---- the error code
 
