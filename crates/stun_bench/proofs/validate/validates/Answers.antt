@@ -1,0 +1,7 @@
+use Rattle.stun_bench.proofs.Signed.{holds_signed}
+use Rattle.stun_bench.proofs.validate.validates.Goals as goal
+
+pub returns-in-Ok : goal.returns-in-Ok
+returns-in-Ok c =
+    let valid = c.validate_integrity_with_key.ensures in
+    holds_signed c.args.bytes.now _ c.args.password.now c.args.algorithm _ c.validate_integrity_with_key.result c.is_ok.result c.in_ok-key.ensures c.in-Ok.ensures.0 valid.valid valid.accepted c.is_ok.ensures.value

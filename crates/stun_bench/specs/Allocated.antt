@@ -1,0 +1,78 @@
+-- What the success response to an ALLOCATE tells (RFC 8656, section 7.3), and its text.
+use Rattle.std.specs.Prelude.{◌≡◌, ℕ, ◌==◌, Bool, IsTrue, List, [], ◌∷◌, ◌++◌, length, drop, find, is_some, None, IsSomeAnd}
+use Rattle.std.specs.declared.net.socket_addr.SocketAddr.TheVariants.{V4}
+use Rattle.std.specs.declared.net.socket_addr.SocketAddrV4.{SocketAddrV4}
+use Rattle.std.specs.Net.Addr.{ipv4_bits}
+use Rattle.std.specs.Net.Socket.{v4_ip, v4_port}
+use Rattle.byteorder.specs.Endian.{big_bytes, big_number}
+use Rattle.stun_types_wire.specs.declared.algorithm.IntegrityAlgorithm.{IntegrityAlgorithm}
+use Rattle.stun_types_wire.specs.Attributes.{Attr}
+use Rattle.stun_types_wire.specs.Grammar.{number_at, shown}
+use Rattle.stun_types_wire.specs.Text.{message_text}
+use Rattle.stun_types_write.specs.Reading.{value_refusal}
+use Rattle.stun_types_address.specs.Addresses.{address_again, address_of, address_read_refusal, value_of_parts}
+use Rattle.stun_types_address.specs.Xor.{xored}
+use Rattle.stun_types_integrity.specs.Signing.{signature}
+use Rattle.stun_bench.specs.declared.allocation.Allocation.{Allocation}
+
+-- ---- what is read
+
+-- a message shows an attribute of this type
+abbrev pub shows_kind : ℕ → List ℕ → Bool
+shows_kind kind bytes = is_some (find (λ a. a.kind == kind) (shown bytes))
+
+-- the first attribute of this type that a message shows tells this address of IPv4
+abbrev pub TellsAddress : ℕ → List ℕ → SocketAddrV4 → Type 0
+TellsAddress kind bytes addr =
+    IsSomeAnd (find (λ a. a.kind == kind) (shown bytes)) (λ a. (address_read_refusal kind a ≡ None) × (address_of (xored (number_at bytes) (address_again a.value)) ≡ V4 addr))
+
+-- the first LIFETIME that a message shows tells so many seconds
+abbrev pub TellsLifetime : List ℕ → ℕ → Type 0
+TellsLifetime bytes seconds =
+    IsSomeAnd (find (λ a. a.kind == 0x000D) (shown bytes)) (λ a. (value_refusal 0x000D 4 4 a ≡ None) × (seconds ≡ big_number 4 a.value))
+
+-- an address, as its number and its port
+pub record IsPlace (ip port : ℕ) (addr : SocketAddrV4) : Type 0 where
+  pub has_ip : ip ≡ ipv4_bits (v4_ip addr)
+  pub has_port : port ≡ v4_port addr
+
+-- a message shows the attributes of an allocation, and SOFTWARE and MESSAGE-INTEGRITY
+pub record Tells (bytes : List ℕ) (told : Allocation) : Type 0 where
+  pub relayed : SocketAddrV4
+  pub is_relayed : TellsAddress 0x0016 bytes relayed
+  pub relayed_place : IsPlace told.relayed_ip told.relayed_port relayed
+  pub mapped : SocketAddrV4
+  pub is_mapped : TellsAddress 0x0020 bytes mapped
+  pub mapped_place : IsPlace told.mapped_ip told.mapped_port mapped
+  pub lifetime : TellsLifetime bytes told.lifetime
+  pub software : IsTrue (shows_kind 0x8022 bytes)
+  pub integrity : IsTrue (shows_kind 0x0008 bytes)
+
+-- ---- what is written
+
+-- the value of an address of IPv4
+abbrev pub place_value : ℕ → ℕ → List ℕ
+place_value ip port = value_of_parts 1 port (big_bytes 4 ip)
+
+-- XOR-RELAYED-ADDRESS, LIFETIME, XOR-MAPPED-ADDRESS, SOFTWARE
+abbrev pub allocated : Allocation → ℕ → List ℕ → List Attr
+allocated told number software =
+    record { kind = 0x0016; value = xored number (place_value told.relayed_ip told.relayed_port) }
+    ∷ record { kind = 0x000D; value = big_bytes 4 told.lifetime }
+    ∷ record { kind = 0x0020; value = xored number (place_value told.mapped_ip told.mapped_port) }
+    ∷ record { kind = 0x8022; value = software }
+    ∷ []
+
+-- the text of the response
+abbrev pub allocated_text : Allocation → ℕ → List ℕ → List ℕ
+allocated_text told number software = message_text 0x0103 number (allocated told number software)
+
+-- the text of the response, signed under a key
+abbrev pub signed_text : IntegrityAlgorithm → List ℕ → Allocation → ℕ → List ℕ → List ℕ
+signed_text algorithm key told number software =
+    message_text 0x0103 number (allocated told number software ++ signature algorithm key (allocated_text told number software) ∷ [])
+
+-- a text stands at the front of bytes, and the rest is as it was
+pub record IsWritten (text before after : List ℕ) (size : ℕ) : Type 0 where
+  pub has_size : size ≡ length text
+  pub bytes : after ≡ text ++ drop size before
