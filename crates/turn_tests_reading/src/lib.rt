@@ -1,8 +1,11 @@
-//! Tests that cross crates, of attributes that are read and of the small types of the wire. Expected
-//! bytes come from outside: from RFCs, from recorded messages, or worked by hand.
+//! Tests that cross crates, of attributes that are read, of the small types of the wire, and of
+//! requests that are begun and refused. Expected bytes come from outside: from RFCs, from recorded
+//! messages, or worked by hand.
 #![tactic(auto)]
 
 #[cfg(test)]
 mod reading;
+#[cfg(test)]
+mod refusing;
 #[cfg(test)]
 mod small_types;
