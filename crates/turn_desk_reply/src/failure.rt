@@ -32,7 +32,8 @@ pub fn failure(alloc: Global, request: &Message, code: u16) -> Result<MessageWri
 }
 
 /// The error response to a request that shows the code, REALM and NONCE: a challenge (RFC 8489,
-/// section 9.2.4). Where memory is refused, `NoMemory`.
+/// section 9.2.4). Where memory is refused, `NoMemory`; so too where a realm or a nonce has more than
+/// 763 bytes, as those of a server have not.
 pub fn challenge(
     alloc: Global,
     request: &Message,
