@@ -1,24 +1,23 @@
 -- A message is the text of what is read of it.
-use Rattle.std.proofs.Common.{◌≡◌, ◌⊎◌, ℕ, zero, suc, ◌+◌, ◌-◌, ◌*◌, ◌/◌, ◌%◌, ◌^◌, ◌<◌, ◌≤◌, Bool, true, false, ltb, eqb, List, [], ◌∷◌, ◌++◌, length, take, drop, Option, Some, None, refl, sym, ap, subst, ◌∙◌, append_assoc, arith, inl, inr}
+use Rattle.std.proofs.Common.{◌≡◌, ℕ, zero, suc, ◌+◌, ◌≤◌, true, false, ltb, eqb, List, [], ◌∷◌, ◌++◌, length, take, drop, Option, Some, None, refl, sym, ap, ◌∙◌, append_assoc, arith, inl, inr}
 use Rattle.std.specs.List.{AllByRecursion}
-use Rattle.std.proofs.lemmas.Bool.{cases_Bool, ltb-true, ltb-false, ne_eqb}
-use Rattle.std.proofs.lemmas.List.{length-append, length-take, length-drop, take-append-drop, drop-drop}
-use Rattle.byteorder.specs.Endian.{big_bytes, big_number}
+use Rattle.std.proofs.lemmas.Bool.{cases_Bool, ltb-false, ne_eqb}
+use Rattle.std.proofs.lemmas.List.{length-take, length-drop, take-append-drop, drop-drop}
+use Rattle.byteorder.specs.Endian.{big_bytes}
 use Rattle.byteorder.specs.Numbers.{big_from-lt}
 use Rattle.stun_types_wire.specs.declared.error.StunParseError.{StunParseError}
-use Rattle.stun_types_wire.specs.declared.error.StunParseError.TheVariants.{Truncated, TooLarge, NotStun}
-use Rattle.stun_types_wire.specs.Attributes.{Attr, attr_size, attr_at, kind_at, length_at, size_at, padded, padding_len, is_whole, attributes, numbered}
+use Rattle.stun_types_wire.specs.Attributes.{Attr, attr_at, kind_at, length_at, size_at, padding_len, is_whole, attributes, numbered}
 use Rattle.stun_types_wire.specs.Shape.{rank, may_follow, shown_after, behind_shown, shown_rank, last_rank, kinds_of, shape_front, IsShape}
 use Rattle.stun_types_wire.specs.Grammar.{may_begin, header_refusal, length_refusal, fingerprint_refusal, rest_refusal, body_refusal, refusal, shown, number_at, or_else}
-use Rattle.stun_types_wire.specs.Text.{header_text, padded_text, Part, part_text, parts_text, attributes_of, FitsAttribute, FitsPart, IsTextOf}
+use Rattle.stun_types_wire.specs.Text.{header_text, padded_text, Part, part_text, parts_text, attributes_of, FitsPart, IsTextOf}
 use Rattle.stun_types_grammar.specs.Fingerprinted.{AreRightFingerprints}
 use Rattle.stun_types_grammar.proofs.Fingerprints.{right_where_not_refused}
 use Rattle.stun_types_grammar.specs.Headers.{AreBytes}
 use Rattle.stun_types_grammar.proofs.Numbers.{byte_below}
-use Rattle.stun_types_grammar.proofs.Whole.{whole_long, size_whole, attributes_short}
+use Rattle.stun_types_grammar.proofs.Whole.{whole_long}
 use Rattle.stun_types_grammar.proofs.Scan.{shown_step, shown_short, shown_stops, behind_step, behind_stops}
 use Rattle.stun_types_grammar.proofs.Longest.{front_follows, follows_shape}
-use Rattle.stun_types_grammar.proofs.HeaderLaws.{are_parts, first_bytes, header_cases, HeaderCase, wrong, short, whole, tells_header}
+use Rattle.stun_types_grammar.proofs.HeaderLaws.{are_parts, first_bytes, header_cases, wrong, short, whole, tells_header}
 use Rattle.stun_types_grammar.proofs.Texts.{Ended, leaves_by}
 
 -- ---- one attribute

@@ -1,10 +1,9 @@
 -- Which FINGERPRINT is right, and that a writer's is.
-use Rattle.std.proofs.Common.{◌≡◌, ◌⊎◌, ℕ, ◌+◌, ◌-◌, ◌^◌, ◌<◌, Bool, true, false, not, ◌||◌, ◌&&◌, eqb, cond, bytes_eq, List, [], ◌∷◌, ◌++◌, length, Some, None, refl, sym, ap, subst, ◌∙◌, arith, inl, inr}
+use Rattle.std.proofs.Common.{◌≡◌, ℕ, ◌+◌, ◌-◌, ◌^◌, ◌<◌, false, eqb, bytes_eq, List, [], ◌∷◌, ◌++◌, length, None, refl, sym, ap, subst, ◌∙◌, arith, inl, inr}
 use Rattle.std.specs.Prelude.{sum_by}
-use Rattle.std.specs.List.{AllByRecursion, list_any}
+use Rattle.std.specs.List.{list_any}
 use Rattle.std.proofs.lemmas.Bool.{cases_Bool, eq-eqb, eqb-true}
 use Rattle.std.proofs.lemmas.Slice.Eq.{bytes_eq-Decides}
-use Rattle.stun_types_wire.specs.declared.error.StunParseError.TheVariants.{FingerprintMismatch}
 use Rattle.stun_types_wire.specs.Attributes.{Attr, attr_size, numbered}
 use Rattle.stun_types_wire.specs.Shape.{fingerprint_kind}
 use Rattle.stun_types_wire.specs.Covered.{covered_text, with_length}

@@ -1,13 +1,12 @@
 -- What the refusals of a header mean.
-use Rattle.std.proofs.Common.{◌≡◌, ◌⊎◌, ℕ, zero, suc, ◌+◌, ◌*◌, ◌/◌, ◌%◌, ◌^◌, ◌<◌, ◌≤◌, Bool, true, false, not, ltb, eqb, ◌&&◌, cond, List, [], ◌∷◌, ◌++◌, length, take, drop, slice_index, replicate, Option, Some, None, refl, sym, ap, subst, ◌∙◌, append_assoc, arith, inl, inr}
+use Rattle.std.proofs.Common.{◌≡◌, ℕ, ◌^◌, ◌<◌, ◌≤◌, Bool, true, false, ltb, eqb, ◌&&◌, List, [], ◌∷◌, ◌++◌, length, take, drop, slice_index, Some, None, refl, sym, ap, ◌∙◌, append_assoc, arith, inl, inr}
 use Rattle.std.specs.Prelude.{◌↔◌}
 use Rattle.std.specs.List.{list_all, starts_with}
-use Rattle.std.proofs.lemmas.Bool.{cases_Bool, and_parts, and_from, eqb-true, ltb-true, ltb-false, lt-ltb, le-ltb}
+use Rattle.std.proofs.lemmas.Bool.{cases_Bool, and_parts, and_from, eqb-true, ltb-true, ltb-false}
 use Rattle.std.proofs.lemmas.List.Folds.{list_all-append}
 use Rattle.std.proofs.lemmas.List.{length-append, length-take, length-drop, take-append-drop, drop-drop}
-use Rattle.byteorder.specs.Endian.{big_from, big_number, big_bytes}
-use Rattle.byteorder.specs.Numbers.{big_from-cons, big_from-lt, big_from-take}
-use Rattle.stun_types_wire.specs.declared.error.StunParseError.{StunParseError}
+use Rattle.byteorder.specs.Endian.{big_number, big_bytes}
+use Rattle.byteorder.specs.Numbers.{big_from-lt, big_from-take}
 use Rattle.stun_types_wire.specs.declared.error.StunParseError.TheVariants.{NotStun, Truncated}
 use Rattle.stun_types_wire.specs.Attributes.{kind_at, length_at}
 use Rattle.stun_types_wire.specs.Grammar.{cookie, may_begin, header_refusal, number_at}

@@ -1,17 +1,16 @@
 -- One step of the scan over attributes, on what it is to show and to refuse.
-use Rattle.std.proofs.Common.{◌≡◌, ◌⊎◌, ℕ, ◌+◌, ◌-◌, ◌<◌, ◌≤◌, Bool, true, false, not, ltb, eqb, ◌||◌, cond, bytes_eq, List, [], ◌∷◌, length, drop, Option, Some, None, refl, sym, ap, ◌∙◌, arith, inl, inr}
+use Rattle.std.proofs.Common.{◌≡◌, ℕ, ◌+◌, ◌-◌, ◌<◌, ◌≤◌, Bool, true, false, not, eqb, cond, bytes_eq, List, [], ◌∷◌, length, drop, Some, None, refl, sym, ap, ◌∙◌, arith, inl, inr}
 use Rattle.std.specs.Prelude.{sum_by}
 use Rattle.std.specs.List.{list_any}
 use Rattle.std.proofs.lemmas.Bool.{cases_Bool, lt-ltb, le-ltb, eq-eqb, ne_eqb}
 use Rattle.std.proofs.lemmas.List.{drop-drop, length-drop}
 use Rattle.std.proofs.lemmas.List.Sums.{sum_by-cons}
-use Rattle.stun_types_wire.specs.declared.error.StunParseError.{StunParseError}
 use Rattle.stun_types_wire.specs.declared.error.StunParseError.TheVariants.{Truncated, FingerprintMismatch}
-use Rattle.stun_types_wire.specs.Attributes.{Attr, attr_size, attr_at, kind_at, size_at, is_whole, attributes, numbered}
+use Rattle.stun_types_wire.specs.Attributes.{Attr, attr_size, attr_at, kind_at, size_at, is_whole, numbered}
 use Rattle.stun_types_wire.specs.Shape.{rank, may_follow, shape_front, last_rank, shown_after, behind_shown, shown_rank, fingerprint_kind}
 use Rattle.stun_types_wire.specs.Covered.{covered_text}
 use Rattle.stun_types_wire.specs.Fingerprints.{fingerprint_value, is_wrong_fingerprint}
-use Rattle.stun_types_wire.specs.Grammar.{rest_refusal, body_refusal, fingerprint_refusal, or_else}
+use Rattle.stun_types_wire.specs.Grammar.{rest_refusal, body_refusal, fingerprint_refusal}
 use Rattle.stun_types_grammar.proofs.Whole.{whole_from, whole_long, not_whole, attributes_whole, attributes_short, size_whole}
 
 -- ---- what is shown

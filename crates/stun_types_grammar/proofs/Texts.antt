@@ -1,24 +1,22 @@
 -- The text of a message is read as that message.
-use Rattle.std.proofs.Common.{◌≡◌, ◌⊎◌, ℕ, zero, suc, ◌+◌, ◌-◌, ◌*◌, ◌/◌, ◌%◌, ◌^◌, ◌<◌, ◌≤◌, Bool, true, false, leb, ltb, eqb, List, [], ◌∷◌, ◌++◌, length, take, drop, replicate, map, Option, Some, None, refl, sym, ap, subst, ◌∙◌, append_assoc, arith, inl, inr}
+use Rattle.std.proofs.Common.{◌≡◌, ◌⊎◌, ℕ, ◌+◌, ◌^◌, ◌<◌, ◌≤◌, true, false, List, [], ◌∷◌, ◌++◌, length, take, drop, None, refl, sym, ap, subst, ◌∙◌, append_assoc, arith, inl, inr}
 use Rattle.std.specs.Prelude.{sum_by}
-use Rattle.std.specs.List.{flat_map, AllByRecursion}
-use Rattle.std.proofs.lemmas.Bool.{cases_Bool, lt-ltb, le-ltb, ne_eqb, eq-eqb, ltb-true, ltb-false, eqb-true}
-use Rattle.std.proofs.lemmas.List.{length-append, take_at, drop_at, append-nil, length-take, length-drop, take-append-drop, drop-drop}
+use Rattle.std.specs.List.{AllByRecursion}
+use Rattle.std.proofs.lemmas.Bool.{cases_Bool, le-ltb, ne_eqb}
+use Rattle.std.proofs.lemmas.List.{length-append, take_at, drop_at}
 use Rattle.std.proofs.lemmas.List.Sums.{sum_by-cons}
-use Rattle.byteorder.specs.Endian.{big_bytes, big_number}
-use Rattle.byteorder.specs.Numbers.{big_number-reads_back, length-bytes_high_first}
-use Rattle.stun_types_wire.specs.declared.error.StunParseError.{StunParseError}
-use Rattle.stun_types_wire.specs.declared.error.StunParseError.TheVariants.{Truncated}
-use Rattle.stun_types_wire.specs.Attributes.{Attr, attr_size, attr_at, kind_at, length_at, size_at, padded, padding_len, is_whole, numbered}
+use Rattle.byteorder.specs.Endian.{big_bytes}
+use Rattle.byteorder.specs.Numbers.{big_number-reads_back}
+use Rattle.stun_types_wire.specs.Attributes.{Attr, attr_size, attr_at, kind_at, length_at, size_at, padded, is_whole, numbered}
 use Rattle.stun_types_wire.specs.Shape.{rank, may_follow, shown_after, behind_shown, shown_rank, last_rank, IsShape, kinds_of}
-use Rattle.stun_types_wire.specs.Grammar.{cookie, header_refusal, length_refusal, fingerprint_refusal, rest_refusal, body_refusal, refusal, shown, number_at, or_else}
-use Rattle.stun_types_wire.specs.Text.{header_text, padded_text, Part, part_text, parts_text, attributes_of, FitsAttribute, FitsPart, LeavesShape, IsTextOf}
+use Rattle.stun_types_wire.specs.Grammar.{cookie, header_refusal, length_refusal, fingerprint_refusal, rest_refusal, body_refusal, refusal, shown, number_at}
+use Rattle.stun_types_wire.specs.Text.{header_text, padded_text, Part, part_text, parts_text, attributes_of, FitsPart, LeavesShape, IsTextOf}
 use Rattle.stun_types_wire.proofs.Headers.{header_front}
 use Rattle.stun_types_grammar.specs.Fingerprinted.{AreRightFingerprints}
 use Rattle.stun_types_grammar.specs.Reading.{IsReadAs}
 use Rattle.stun_types_grammar.proofs.Fingerprints.{not_refused}
 use Rattle.stun_types_grammar.proofs.Whole.{whole_from, not_whole}
-use Rattle.stun_types_grammar.proofs.Scan.{shown_step, shown_short, shown_stops, rank_stops, behind_step, behind_stops}
+use Rattle.stun_types_grammar.proofs.Scan.{shown_step, shown_short, shown_stops}
 use Rattle.stun_types_grammar.proofs.Longest.{Follows, shape_follows, follows_shape}
 
 -- ---- one attribute with its padding

@@ -1,5 +1,5 @@
 -- The list of whole attributes at the front of some bytes, one by one.
-use Rattle.std.proofs.Common.{◌≡◌, ◌⊎◌, ℕ, zero, suc, ◌+◌, ◌<◌, ◌≤◌, Bool, true, false, leb, List, [], ◌∷◌, length, take, drop, refl, sym, ap, arith, inl, inr}
+use Rattle.std.proofs.Common.{◌≡◌, ◌⊎◌, ℕ, zero, suc, ◌+◌, ◌<◌, ◌≤◌, true, false, leb, List, [], ◌∷◌, length, take, drop, refl, sym, ap, arith, inl, inr}
 use Rattle.std.proofs.lemmas.Bool.{cases_Bool, and_parts, and_from, and_left, and_right, leb-true, le-leb, lt-leb}
 use Rattle.std.proofs.lemmas.List.{length-drop, length-take}
 use Rattle.stun_types_wire.specs.Attributes.{Attr, attr_size, attr_at, length_at, size_at, padded, is_whole, first_attributes, attributes}

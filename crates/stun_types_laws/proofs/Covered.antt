@@ -1,27 +1,27 @@
 -- A covered text fixes the message but for a FINGERPRINT.
-use Rattle.std.proofs.Common.{◌≡◌, ℕ, zero, suc, ◌+◌, ◌-◌, ◌/◌, ◌*◌, ◌%◌, ◌^◌, ◌<◌, ◌≤◌, Bool, true, false, not, eqb, ltb, leb, ◌&&◌, cond, List, [], ◌∷◌, ◌++◌, length, take, drop, map, Option, Some, None, refl, sym, ap, subst, ◌∙◌, arith, inl, inr}
+use Rattle.std.proofs.Common.{◌≡◌, ℕ, ◌+◌, ◌-◌, ◌%◌, ◌^◌, ◌<◌, ◌≤◌, true, false, not, eqb, ltb, leb, ◌&&◌, List, [], ◌∷◌, ◌++◌, length, take, drop, map, None, refl, sym, ap, subst, ◌∙◌, arith, inl, inr}
 use Rattle.std.specs.Prelude.{IsTrue}
-use Rattle.std.specs.List.{AllByRecursion, filter}
+use Rattle.std.specs.List.{AllByRecursion}
 use Rattle.std.proofs.lemmas.Bool.{cases_Bool, ltb-true, eqb-true, ne_eqb, and_parts}
-use Rattle.std.proofs.lemmas.List.{append-nil, length-append, length-drop, length-take, take-append-drop, take-append-le, drop-append-le, append_cancel_left, map-append}
+use Rattle.std.proofs.lemmas.List.{length-drop, length-take, take-append-drop, drop-append-le, map-append}
 use Rattle.std.proofs.lemmas.List.Elements.{filter-append}
-use Rattle.byteorder.specs.Endian.{big_bytes, big_number, big_from}
+use Rattle.byteorder.specs.Endian.{big_from}
 use Rattle.byteorder.specs.Numbers.{big_from-append, big_number-reads_back}
 use Rattle.stun_types_wire.specs.declared.algorithm.IntegrityAlgorithm.{IntegrityAlgorithm}
 use Rattle.stun_types_wire.specs.declared.algorithm.IntegrityAlgorithm.TheVariants.{Sha1, Sha256}
-use Rattle.stun_types_wire.specs.Attributes.{Attr, attr_size, attr_at, kind_at, length_at, size_at, padded, is_whole, numbered}
+use Rattle.stun_types_wire.specs.Attributes.{Attr, attr_size, kind_at, length_at, size_at, padded, numbered}
 use Rattle.stun_types_wire.specs.Shape.{integrity_kind, sha256_kind, fingerprint_kind, rank, may_follow, kinds_of, shown_after}
 use Rattle.stun_types_wire.specs.Grammar.{IsMessage, shown, number_at}
-use Rattle.stun_types_wire.specs.Text.{IsTextOf, header_text, parts_text}
+use Rattle.stun_types_wire.specs.Text.{header_text, parts_text}
 use Rattle.stun_types_grammar.specs.Headers.{AreBytes}
 use Rattle.stun_types_grammar.proofs.Whole.{whole_long, size_whole}
 use Rattle.stun_types_grammar.proofs.Left.{left_at, map_numbered}
 use Rattle.stun_types_grammar.proofs.Longest.{Follows, front_follows}
 use Rattle.stun_types_grammar.proofs.Converse.{has_text}
 use Rattle.stun_types_wire.specs.Covered.{covered_text, with_length}
-use Rattle.stun_types_integrity.specs.Integrity.{IsFront, IsSigned, Validates, algorithm_of, attribute_kind, integrity_hmac, is_lawful_length}
+use Rattle.stun_types_integrity.specs.Integrity.{Validates, algorithm_of, attribute_kind, is_lawful_length}
 use Rattle.stun_types_laws.specs.Same.{ShowSame, without_fingerprint}
-use Rattle.stun_types_laws.proofs.Splits.{Stands, stands, not_before, same_before}
+use Rattle.stun_types_laws.proofs.Splits.{stands, not_before, same_before}
 
 -- ---- the length in the header
 

@@ -1,12 +1,12 @@
 -- The FINGERPRINT at the front of the rest of a message, in the names of the code.
-use Rattle.std.proofs.Common.{◌≡◌, ◌↔◌, ℕ, ◌+◌, ◌-◌, ◌<◌, ◌≤◌, Bool, true, false, not, ◌&&◌, eqb, bytes_eq, List, [], ◌∷◌, ◌++◌, length, take, drop, refl, sym, ap, ◌∙◌, arith, inl, inr}
-use Rattle.std.proofs.lemmas.Bool.{cases_Bool, eqb-true}
+use Rattle.std.proofs.Common.{◌≡◌, ℕ, ◌+◌, ◌-◌, ◌≤◌, false, bytes_eq, List, [], ◌∷◌, ◌++◌, length, take, drop, refl, sym, ap, ◌∙◌, arith, inl, inr}
+use Rattle.std.proofs.lemmas.Bool.{cases_Bool}
 use Rattle.std.proofs.lemmas.List.{length-drop, length-take}
 use Rattle.std.proofs.lemmas.Slice.Eq.{bytes_eq-Decides}
 use Rattle.byteorder.specs.Endian.{big_bytes}
 use Rattle.stun_types_wire.specs.Attributes.{attr_at, length_at, size_at, padded}
 use Rattle.stun_types_wire.specs.Covered.{covered_text}
-use Rattle.stun_types_wire.specs.Fingerprints.{fingerprint_value, is_wrong_fingerprint}
+use Rattle.stun_types_wire.specs.Fingerprints.{fingerprint_value}
 use Rattle.stun_types_message.specs.Validation.{StandsAt}
 use Rattle.stun_types_message.proofs.Validating.{covered_pieces}
 

@@ -1,14 +1,12 @@
 -- The steps of a scan, in the names of the code.
-use Rattle.std.proofs.Common.{◌≡◌, ℕ, ◌<◌, ◌≤◌, true, false, eqb, Some, None, List, length, drop, sym, ap, ◌∙◌, refl, inl, inr}
-use Rattle.std.proofs.lemmas.Bool.{cases_Bool, eqb-true}
+use Rattle.std.proofs.Common.{◌≡◌, ℕ, ◌<◌, ◌≤◌, true, false, Some, None, List, length, drop, sym, ap, ◌∙◌}
 use Rattle.stun_types_wire.specs.declared.error.StunParseError.TheVariants.{Truncated, FingerprintMismatch}
 use Rattle.stun_types_wire.specs.Attributes.{kind_at}
-use Rattle.stun_types_wire.specs.Shape.{rank, may_follow, fingerprint_kind, integrity_kind, sha256_kind}
+use Rattle.stun_types_wire.specs.Shape.{rank, may_follow}
 use Rattle.stun_types_wire.specs.Grammar.{body_refusal}
 use Rattle.stun_types_grammar.proofs.Scan.{Continues, is_wrong_at, refuses_cut, refuses_fingerprint, ends_other, goes_on_at}
 use Rattle.stun_types_message.specs.declared.front.Front.{Front}
 use Rattle.stun_types_message.specs.declared.stage.Stage.{Stage}
-use Rattle.stun_types_message.specs.declared.stage.Stage.TheVariants.{Fingerprint}
 use Rattle.stun_types_message.specs.Fronts.{TellsFront}
 use Rattle.stun_types_message.specs.Stages.{stage_rank}
 

@@ -1,5 +1,5 @@
 -- Attributes that are added to a reply one after another.
-use Rattle.std.specs.Prelude.{◌≡◌, ℕ, ◌+◌, ◌≤◌, List, [], ◌∷◌, ◌++◌, length, map, slice_get, option_to_list, Option, Some, None, MatchOption, ◌<◌}
+use Rattle.std.specs.Prelude.{◌≡◌, ℕ, ◌≤◌, List, [], ◌∷◌, ◌++◌, length, slice_get, option_to_list, Option, Some, None, MatchOption, ◌<◌}
 use Rattle.std.specs.List.{HoldsAt}
 use Rattle.std.specs.Option.{option_copied}
 use Rattle.std.specs.declared.net.socket_addr.SocketAddr.{SocketAddr}

@@ -1,7 +1,7 @@
 -- How a reply is read, signed or not.
-use Rattle.std.specs.Prelude.{◌≡◌, ℕ, ◌+◌, ◌≤◌, ◌<◌, ◌^◌, List, [], ◌∷◌, ◌++◌, length, false}
+use Rattle.std.specs.Prelude.{◌≡◌, ℕ, ◌≤◌, ◌<◌, ◌^◌, List, [], ◌∷◌, length, false}
 use Rattle.std.specs.declared.net.socket_addr.SocketAddr.{SocketAddr}
-use Rattle.std.proofs.Common.{refl, sym, ap, ◌∙◌, arith, inl}
+use Rattle.std.proofs.Common.{refl, arith, inl}
 use Rattle.std.specs.List.{AllByRecursion}
 use Rattle.stun_types_wire.specs.declared.algorithm.IntegrityAlgorithm.{IntegrityAlgorithm}
 use Rattle.stun_types_wire.specs.declared.algorithm.IntegrityAlgorithm.TheVariants.{Sha1, Sha256}
@@ -11,7 +11,6 @@ use Rattle.stun_types_wire.specs.Fingerprints.{shows_fingerprint}
 use Rattle.stun_types_wire.specs.Text.{FitsAttribute, body_text, message_text}
 use Rattle.stun_types_write.specs.Adding.{attr_of}
 use Rattle.stun_types_address.specs.Addresses.{address_value}
-use Rattle.stun_types_address.specs.Xor.{xored}
 use Rattle.stun_types_attribute.specs.Errors.{reason_for}
 use Rattle.stun_types_grammar.specs.Reading.{IsReadAs}
 use Rattle.stun_types_grammar.proofs.Longest.{Follows, follows_shape}
@@ -19,7 +18,7 @@ use Rattle.stun_types_grammar.proofs.Written.{written_read}
 use Rattle.stun_types_integrity.specs.Signing.{signature}
 use Rattle.stun_types_laws.proofs.Signed.{signature_length}
 use Rattle.turn_desk_reply.specs.Replies.{IsReadable, IsReadableSigned, allocated_attributes, challenge_attributes, error_attribute, failure_attributes, relayed_attribute, signed_attributes}
-use Rattle.turn_desk_reply.proofs.Sizes.{body-length, end-length, lifetime_of, mapped_of, no_body, relayed-length, xored_short}
+use Rattle.turn_desk_reply.proofs.Sizes.{body-length, lifetime_of, mapped_of, no_body, relayed-length, xored_short}
 
 -- short attributes in the lawful order are read as they are written
 read_as : (kind number : ℕ) (all : List Attr) → kind < 2 ^ 14 → number < 2 ^ 96 → AllByRecursion FitsAttribute all → Follows 0 (kinds_of all) → length (body_text all) ≤ 4096 → shows_fingerprint all ≡ false

@@ -1,4 +1,4 @@
-use Rattle.std.proofs.Common.{rules, ℕ, List, ◌≡◌, ◌-◌, length, ap, ◌∙◌}
+use Rattle.std.proofs.Common.{ℕ, List, ◌-◌, ap, ◌∙◌}
 use Rattle.stun_types_wire.specs.Covered.{with_length}
 use Rattle.stun_types_wire.specs.Fingerprints.{fingerprint_value}
 use Rattle.stun_types_fingerprint.specs.Fingerprints.{turned_bytes}

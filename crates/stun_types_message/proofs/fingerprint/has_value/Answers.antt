@@ -1,5 +1,4 @@
-use Rattle.std.proofs.Common.{rules, ◌≡◌, ℕ, List, bytes_eq, ◌+◌, ◌-◌, length, refl, sym, ap, ◌∙◌}
-use Rattle.stun_types_wire.specs.Covered.{covered_text}
+use Rattle.std.proofs.Common.{◌≡◌, ℕ, List, bytes_eq, refl, sym, ap, ◌∙◌}
 use Rattle.stun_types_wire.specs.Attributes.{attr_at, length_at}
 use Rattle.stun_types_wire.specs.Fingerprints.{fingerprint_value}
 use Rattle.stun_types_fingerprint.specs.Fingerprints.{turned_bytes}

@@ -1,8 +1,8 @@
-use Rattle.std.proofs.Common.{rules, ◌≡◌, ◌≤◌, length, ℕ, List, [], ◌∷◌, ◌++◌, ap, ◌∙◌, sym, refl, append_assoc}
+use Rattle.std.proofs.Common.{◌≡◌, []}
 use Rattle.std.specs.Prelude.{slice_get}
 use Rattle.std.specs.Option.{option_copied}
 use Rattle.stun_types_wire.specs.Grammar.{number_at}
-use Rattle.turn_desk_reply.specs.Replies.{IsReply, allocated_attributes, relayed_attributes, success_type}
+use Rattle.turn_desk_reply.specs.Replies.{IsReply, success_type}
 use Rattle.turn_desk_reply.proofs.Adding.{allocated_reply, second_of}
 use Rattle.turn_desk_reply.proofs.Readable.{allocated_signed}
 use Rattle.turn_desk_reply.proofs.Sizes.{allocated_signable}

@@ -1,7 +1,6 @@
-use Rattle.std.proofs.Common.{rules, ◌≡◌, ◌≤◌, length, ℕ, List, ap, ◌∙◌, sym, refl}
+use Rattle.std.proofs.Common.{rules, ◌≡◌, ◌≤◌, length, ◌∙◌}
 use Rattle.stun_types_wire.specs.Grammar.{number_at}
-use Rattle.stun_types_attribute.specs.Errors.{CodeAndOther, CodeAndReason, reason_for, reason_of}
-use Rattle.std.specs.Prelude.{None}
+use Rattle.stun_types_attribute.specs.Errors.{reason_for}
 use Rattle.turn_desk_reply.specs.Replies.{IsReply, error_type, failure_attributes}
 use Rattle.turn_desk_reply.proofs.Readable.{failure_readable, failure_signed}
 use Rattle.turn_desk_reply.proofs.Sizes.{default_reason, failure_signable}
