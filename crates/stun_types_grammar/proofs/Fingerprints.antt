@@ -61,9 +61,9 @@ other_kinds bytes offset (a ∷ all) h =
     elim (cases_Bool (eqb a.kind fingerprint_kind)) [
       | inl is ↦ absurd (let p = rw is at h in cc)
       | inr other ↦ (
-          λ is. absurd (let p = eq-eqb a.kind fingerprint_kind is in let q = sym p ∙ other in cc),
-          other_kinds bytes (offset + attr_size a) all (let p = rw other at h in p),
-        )
+        λ is. absurd (let p = eq-eqb a.kind fingerprint_kind is in let q = sym p ∙ other in cc),
+        other_kinds bytes (offset + attr_size a) all (let p = rw other at h in p),
+      )
     ]
 
 both_right : (bytes : List ℕ) (xs ys : List (ℕ × Attr)) → AreRightFingerprints bytes xs → AreRightFingerprints bytes ys → AreRightFingerprints bytes (xs ++ ys)
