@@ -1,9 +1,8 @@
 //! Tests that cross crates, of messages that are signed and validated. Expected bytes come from
-//! outside: from RFCs, from recorded messages, or worked by hand.
+//! outside: from Python's hmac and hashlib, or worked by hand. Whole messages of RFC 5769 and of other
+//! programs are tested in `turn_tests_vectors`.
 #![tactic(auto)]
 
-#[cfg(test)]
-mod recorded;
 #[cfg(test)]
 mod samples;
 #[cfg(test)]

@@ -1,9 +1,8 @@
 //! Messages that are signed, and success responses.
 
-ghost use Rattle.std.specs.Prelude.{◌≡◌, ◌+◌, ◌≤◌, [], length, IfOk, OnOk};
-ghost use Rattle.stun_types_wire.specs.Attributes.{attr_size};
+ghost use Rattle.std.specs.Prelude.{◌≡◌, [], length, IfOk, OnOk};
 ghost use Rattle.stun_types_wire.specs.Text.{message_text};
-ghost use Rattle.stun_types_write.specs.Adding.{attr_of, IsBegun};
+ghost use Rattle.stun_types_write.specs.Adding.{IsBegun};
 
 use crate::samples::{SIGNED_BY_BOTH, SIGNED_BY_SHA1, SIGNED_BY_SHA256, credentials_of_user};
 use std::alloc::Global;
@@ -14,7 +13,7 @@ use stun_types::message::{
     BINDING, IntegrityAlgorithm, IntegrityKey, Message, MessageClass, MessageType, MessageWriteVec,
     StunWriteError, TransactionId, ValidateError, add_as,
 };
-use stun_types::prelude::{Attribute, AttributeWrite, MessageWrite, MessageWriteExt};
+use stun_types::prelude::{MessageWrite, MessageWriteExt};
 
 /// A BINDING request that is begun, of the number of the signed samples.
 fn begun(rt: &HostRuntime) -> Result<MessageWriteVec, StunWriteError>
@@ -151,39 +150,6 @@ fn integrity_past_the_length_field_is_refused(rt: HostRuntime) -> Result<(), Fai
     assert_eq!(rt; refused, Some(too_large));
     writer.add_message_integrity_with_key(&short_key, sha1)?;
     assert_eq!(rt; writer.len(), 20 + 65_532);
-    Ok(())
-}
-
-/// Pushes an attribute, which may be one that ends a message, to a message that is short.
-fn push_as<A: AttributeWrite>(
-    writer: &mut MessageWriteVec,
-    attribute: &dyn AttributeWrite,
-    same: &A,
-) -> Result<(), StunWriteError>
-    requires begun { IsBegun writer.old.bytes }
-    requires short { length writer.old.bytes + attr_size (attr_of (A.kind same.now) (A.value same.now)) ≤ 65_555 }
-    requires kind { (⟦<dyn AttributeWrite as Attribute>⟧ attribute.now.0).kind attribute.now.1 ≡ A.kind same.now }
-    requires value { (⟦<dyn AttributeWrite as Attribute>⟧ attribute.now.0).value attribute.now.1 ≡ A.value same.now }
-    ensures { OnOk result (IsBegun writer.new.bytes) }
-{
-    writer.push_attribute_unchecked(attribute)?;
-    Ok(())
-}
-
-#[test]
-fn integrity_after_a_fingerprint_is_refused(rt: HostRuntime) -> Result<(), Fail> {
-    let credentials = credentials_of_user(rt.alloc(), "pass")?;
-    let algorithm = IntegrityAlgorithm::Sha1;
-    let key = credentials.make_key(rt.alloc(), algorithm)?;
-    let mut writer = begun(&rt)?;
-    let fingerprint = RawAttribute::new(AttributeType(0x8028), &[0; 4]);
-    push_as(&mut writer, &fingerprint, &fingerprint)?;
-    let refused = refusal(&rt, rt.alloc(), &mut writer, &key, algorithm)?;
-    assert_eq!(rt; refused, Some(StunWriteError::FingerprintExists));
-    let before = writer.as_slice().to_vec(rt.alloc())?;
-    let answer = writer.add_message_integrity(rt.alloc(), &credentials, algorithm);
-    assert_eq!(rt; answer.err(), Some(StunWriteError::FingerprintExists));
-    assert_eq!(rt; writer.as_slice(), before.as_slice());
     Ok(())
 }
 
