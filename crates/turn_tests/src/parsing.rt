@@ -10,10 +10,6 @@ use stun_types::message::{
 /// A BINDING request with one PASSWORD-ALGORITHM.
 const BINDING_REQUEST: &str = "000100082112a442000000000000000000007392001d000400020000";
 
-/// The sample request of RFC 5769, section 2.1. It ends in a FINGERPRINT, which is not checked yet.
-const SAMPLE_REQUEST: &str =
-    "000100582112a442b7e7a701bc34d686fa87dfae802200105354554e207465737420636c69656e74002400046e0001ff80290008932ff9b151263b36000600096576746a3a68367659202020000800149aeaa70cbfd8cb56781ef2b5b2d3f249c1b571a280280004e57a3bcf";
-
 #[test]
 fn binding_request_with_password_algorithm(rt: HostRuntime) -> Result<(), Fail> {
     let bytes = hex::decode(rt.alloc(), BINDING_REQUEST)?;
@@ -97,8 +93,19 @@ fn messages_are_refused(rt: HostRuntime) -> Result<(), Fail> {
 #[test]
 fn fingerprints_are_refused(rt: HostRuntime) -> Result<(), Fail> {
     for (text, expected) in [
+        // another value
         (
             "000100082112a4420000000000000000000073928028000400020000",
+            StunParseError::FingerprintMismatch,
+        ),
+        // three bytes of the right value
+        (
+            "000100082112a44200000000000000000000739280280003a8b921ab",
+            StunParseError::FingerprintMismatch,
+        ),
+        // the right value, and one byte more
+        (
+            "0001000c2112a44200000000000000000000739280280005dbb1066400000000",
             StunParseError::FingerprintMismatch,
         ),
         // one that is not there whole
@@ -106,7 +113,6 @@ fn fingerprints_are_refused(rt: HostRuntime) -> Result<(), Fail> {
             "000100082112a4420000000000000000000073928028000500020000",
             truncated(12, 8),
         ),
-        (SAMPLE_REQUEST, StunParseError::FingerprintMismatch),
     ] {
         are_refused(&rt, text, expected)?;
     }
@@ -115,12 +121,25 @@ fn fingerprints_are_refused(rt: HostRuntime) -> Result<(), Fail> {
 
 #[test]
 fn past_the_shape_nothing_is_shown(rt: HostRuntime) -> Result<(), Fail> {
-    // MESSAGE-INTEGRITY-SHA256, then MESSAGE-INTEGRITY with a length that is not there
-    let text = "000100082112a442000000000000000000007392001c00000008ffff";
-    let bytes = hex::decode(rt.alloc(), text)?;
-    let message = Message::from_bytes(bytes.as_slice())?;
-    assert!(rt; message.has_attribute(AttributeType(0x001C)));
-    assert!(rt; !message.has_attribute(AttributeType(0x0008)));
+    for (text, last, behind) in [
+        // MESSAGE-INTEGRITY-SHA256, then MESSAGE-INTEGRITY with a length that is not there
+        (
+            "000100082112a442000000000000000000007392001c00000008ffff",
+            0x001C,
+            0x0008,
+        ),
+        // a FINGERPRINT, whose CRC-32 counts the length through itself, then SOFTWARE
+        (
+            "000100102112a44200000000000000000000739280280004a8b921ab8022000461626364",
+            0x8028,
+            0x8022,
+        ),
+    ] {
+        let bytes = hex::decode(rt.alloc(), text)?;
+        let message = Message::from_bytes(bytes.as_slice())?;
+        assert!(rt; message.has_attribute(AttributeType(last)), "{text}");
+        assert!(rt; !message.has_attribute(AttributeType(behind)), "{text}");
+    }
     Ok(())
 }
 
