@@ -2,7 +2,7 @@
 
 use std::process::Abort;
 use std::test::Fail;
-use stun_types::attribute::AttributeType;
+use stun_types::attribute::{AttributeType, PasswordAlgorithm, PasswordAlgorithmValue};
 use stun_types::message::{
     BINDING, Message, MessageClass, MessageHeader, StunParseError, TransactionId,
 };
@@ -28,6 +28,8 @@ fn binding_request_with_password_algorithm(rt: HostRuntime) -> Result<(), Fail> 
     assert_eq!(rt; offset, 20);
     assert!(rt; left.next().is_none());
     assert!(rt; left.next().is_none());
+    let chosen = message.attribute::<PasswordAlgorithm>(rt.alloc())?;
+    assert_eq!(rt; chosen.algorithm(), PasswordAlgorithmValue::SHA256);
     Ok(())
 }
 
