@@ -26,6 +26,7 @@ void stun_bench_sha256(const uint8_t *text, size_t len, uint8_t digest[32]);
 uint32_t stun_bench_crc32(const uint8_t *text, size_t len);
 bool stun_bench_parse(const uint8_t *bytes, size_t len);
 bool stun_bench_shows(const uint8_t *bytes, size_t len, const uint16_t *types, size_t count);
+bool stun_bench_look_up(const uint8_t *bytes, size_t len);
 bool stun_bench_read(const uint8_t *bytes, size_t len, struct allocation *told, bool *fingerprint);
 struct answer stun_bench_validate_sha1(const uint8_t *password, size_t password_len,
                                        const uint8_t *bytes, size_t len);
@@ -70,7 +71,7 @@ static uint8_t large[4096];
 
 #define KEY key, 16
 #define RESPONSE &granted, number, software, 12, out, sizeof out
-#define TYPES request_types, 6
+#define REQUEST_TYPES request_types, 6
 
 // ---- what is timed: each takes how often it is to run
 
@@ -95,10 +96,11 @@ TIMED(parse_response, sink += stun_bench_parse(response_sha1, sizeof response_sh
 TIMED(read_response,
       sink += stun_bench_read(response_sha1, sizeof response_sha1, &told, &fingerprint))
 TIMED(parse_whole, sink += stun_bench_parse(response_whole, sizeof response_whole))
+TIMED(look_up_whole, sink += stun_bench_look_up(response_whole, sizeof response_whole))
 TIMED(read_whole,
       sink += stun_bench_read(response_whole, sizeof response_whole, &told, &fingerprint))
 TIMED(parse_request, sink += stun_bench_parse(request_sha1, sizeof request_sha1))
-TIMED(look_up_request, sink += stun_bench_shows(request_sha1, sizeof request_sha1, TYPES))
+TIMED(look_up_request, sink += stun_bench_shows(request_sha1, sizeof request_sha1, REQUEST_TYPES))
 TIMED(key_alone, sink += stun_bench_validate_sha1(KEY, response_sha1, 0).known)
 TIMED(validate_response_sha1,
       sink += stun_bench_validate_sha1(KEY, response_sha1, sizeof response_sha1).holds)
@@ -122,7 +124,7 @@ enum {
     SHA1_FIVE, SHA256_FIVE, CRC_LONG, CRC_SHORT, PARSE_RESPONSE, READ_RESPONSE, PARSE_REQUEST,
     LOOK_UP_REQUEST, KEY_ALONE, VALIDATE_RESPONSE_SHA1, VALIDATE_REQUEST_SHA1,
     VALIDATE_RESPONSE_SHA256, VALIDATE_REQUEST_SHA256, BUILD, SIGN_SHA1, SIGN_SHA256, PARSE_WHOLE,
-    READ_WHOLE, ROWS
+    LOOK_UP_WHOLE, READ_WHOLE, ROWS
 };
 
 static const struct row rows[ROWS] = {
@@ -131,7 +133,7 @@ static const struct row rows[ROWS] = {
     [CRC_LONG] = {"CRC-32, 4096 bytes", crc_long, 4},
     [CRC_SHORT] = {"CRC-32, 92 bytes", crc_short, 128},
     [PARSE_RESPONSE] = {"parse response", parse_response, 256},
-    [READ_RESPONSE] = {"parse response and look up six", read_response, 128},
+    [READ_RESPONSE] = {"parse response and read it", read_response, 128},
     [PARSE_REQUEST] = {"parse request", parse_request, 256},
     [LOOK_UP_REQUEST] = {"parse request and look up six", look_up_request, 128},
     [KEY_ALONE] = {"key", key_alone, 128},
@@ -143,7 +145,8 @@ static const struct row rows[ROWS] = {
     [SIGN_SHA1] = {"key, build and sign response, SHA-1", sign_sha1, 16},
     [SIGN_SHA256] = {"key, build and sign response, SHA-256", sign_sha256, 16},
     [PARSE_WHOLE] = {"parse response with FINGERPRINT", parse_whole, 64},
-    [READ_WHOLE] = {"the same and look up six", read_whole, 64},
+    [LOOK_UP_WHOLE] = {"the same and look up six", look_up_whole, 64},
+    [READ_WHOLE] = {"the same and read it", read_whole, 64},
 };
 
 // the least time of one call, in nanoseconds, and the allocations of one call
@@ -176,7 +179,11 @@ static void check_reading(void) {
     must(!stun_bench_parse(response_sha1, sizeof response_sha1 - 1), "parse of a part");
     must(stun_bench_read(response_sha1, sizeof response_sha1, &told, &fingerprint), "read");
     must(memcmp(&told, &granted, sizeof told) == 0 && !fingerprint, "what is read");
-    must(stun_bench_shows(request_sha1, sizeof request_sha1, TYPES), "look-ups");
+    must(stun_bench_shows(request_sha1, sizeof request_sha1, REQUEST_TYPES), "look-ups");
+    must(stun_bench_look_up(response_whole, sizeof response_whole), "look-ups");
+    must(!stun_bench_look_up(response_sha1, sizeof response_sha1), "no FINGERPRINT");
+    must(stun_bench_read(response_whole, sizeof response_whole, &told, &fingerprint), "read");
+    must(fingerprint, "FINGERPRINT is shown");
     must(validates(stun_bench_validate_sha1(KEY, response_sha1, sizeof response_sha1)), "SHA-1");
     must(validates(stun_bench_validate_sha1(KEY, request_sha1, sizeof request_sha1)), "SHA-1");
     must(validates(stun_bench_validate_sha256(KEY, response_sha256, sizeof response_sha256)),
@@ -205,15 +212,15 @@ static double now(void) {
     return (double)at.tv_sec * 1e9 + (double)at.tv_nsec;
 }
 
-static void time_rows(unsigned rounds, unsigned last) {
-    for (unsigned i = 0; i < last; i++) {
+static void time_rows(unsigned rounds) {
+    for (unsigned i = 0; i < ROWS; i++) {
         size_t before = allocations;
         rows[i].run(1);
         taken[i] = allocations - before;
         least[i] = 1e18;
     }
     for (unsigned round = 0; round < rounds; round++) {
-        for (unsigned i = 0; i < last; i++) {
+        for (unsigned i = 0; i < ROWS; i++) {
             double start = now();
             rows[i].run(rows[i].count);
             double each = (now() - start) / rows[i].count;
@@ -246,8 +253,14 @@ static void print_ratios(void) {
                 (least[VALIDATE_REQUEST_SHA256] - key_cost) / least[SHA256_FIVE], sha256);
     print_ratio("sign response, SHA-256",
                 (least[SIGN_SHA256] - least[BUILD] - key_cost) / least[SHA256_FIVE], sha256);
-    print_ratio("parse response and look up six", least[READ_RESPONSE] / validation,
+    print_ratio("parse request and look up six",
+                least[LOOK_UP_REQUEST] / (least[VALIDATE_REQUEST_SHA1] - key_cost),
                 "of its validation");
+    print_ratio("parse response and look up six, CRC-32 apart",
+                (least[LOOK_UP_WHOLE] - least[PARSE_WHOLE] + least[PARSE_RESPONSE]) / validation,
+                "of its validation");
+    print_ratio("parse response and look up six, with its CRC-32",
+                least[LOOK_UP_WHOLE] / validation, "of its validation");
     print_ratio("CRC-32", least[CRC_LONG] / sizeof large, "ns a byte");
     print_ratio("CRC-32, at 150 ns a SHA-1 block",
                 least[CRC_LONG] / sizeof large * 150 / (least[SHA1_FIVE] / 5), "ns a byte");
@@ -258,15 +271,10 @@ int main(int argc, char **argv) {
     check_digests();
     check_reading();
     check_writing();
-    bool reads_fingerprints = stun_bench_parse(response_whole, sizeof response_whole);
-    unsigned last = reads_fingerprints ? ROWS : PARSE_WHOLE;
-    time_rows(rounds, last);
+    time_rows(rounds);
     printf("%-40s %10s %12s\n", "", "ns", "allocations");
-    for (unsigned i = 0; i < last; i++) {
+    for (unsigned i = 0; i < ROWS; i++) {
         printf("%-40s %10.1f %12zu\n", rows[i].name, least[i], taken[i]);
-    }
-    if (!reads_fingerprints) {
-        printf("a message that shows FINGERPRINT is refused\n");
     }
     printf("\n");
     print_ratios();

@@ -21,6 +21,14 @@ use Rattle.stun_bench.specs.declared.allocation.Allocation.{Allocation}
 abbrev pub shows_kind : ℕ → List ℕ → Bool
 shows_kind kind bytes = is_some (find (λ a. a.kind == kind) (shown bytes))
 
+-- a message shows the two addresses and the LIFETIME of an allocation
+abbrev pub ShowsAllocated : List ℕ → Type 0
+ShowsAllocated bytes = IsTrue (shows_kind 0x0016 bytes) × IsTrue (shows_kind 0x000D bytes) × IsTrue (shows_kind 0x0020 bytes)
+
+-- a message shows SOFTWARE, MESSAGE-INTEGRITY and FINGERPRINT
+abbrev pub ShowsEnd : List ℕ → Type 0
+ShowsEnd bytes = IsTrue (shows_kind 0x8022 bytes) × IsTrue (shows_kind 0x0008 bytes) × IsTrue (shows_kind 0x8028 bytes)
+
 -- the first attribute of this type that a message shows tells this address of IPv4
 abbrev pub TellsAddress : ℕ → List ℕ → SocketAddrV4 → Type 0
 TellsAddress kind bytes addr =
