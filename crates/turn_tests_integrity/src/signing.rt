@@ -11,7 +11,7 @@ use std::test::Fail;
 use stun_types::attribute::{AttributeType, RawAttribute, Realm, Username};
 use stun_types::message::{
     BINDING, IntegrityAlgorithm, IntegrityKey, Message, MessageClass, MessageType, MessageWriteVec,
-    StunWriteError, TransactionId, ValidateError, add_as,
+    StunWriteError, TransactionId, add_as,
 };
 use stun_types::prelude::{MessageWrite, MessageWriteExt};
 
@@ -41,27 +41,20 @@ fn unsigned(rt: &HostRuntime) -> Result<MessageWriteVec, StunWriteError>
 }
 
 #[test]
-fn signed_messages_are_validated(rt: HostRuntime) -> Result<(), Fail> {
-    let right = credentials_of_user(rt.alloc(), "pass")?;
-    let wrong = credentials_of_user(rt.alloc(), "past")?;
+fn messages_are_signed_under_credentials_and_under_their_key(rt: HostRuntime) -> Result<(), Fail> {
+    let credentials = credentials_of_user(rt.alloc(), "pass")?;
     for (algorithm, text) in [
         (IntegrityAlgorithm::Sha1, SIGNED_BY_SHA1),
         (IntegrityAlgorithm::Sha256, SIGNED_BY_SHA256),
     ] {
         let expected = hex::decode(rt.alloc(), text)?;
+        let key = credentials.make_key(rt.alloc(), algorithm)?;
         let mut by_key = unsigned(&rt)?;
-        let key = right.make_key(rt.alloc(), algorithm)?;
         by_key.add_message_integrity_with_key(&key, algorithm)?;
         assert_eq!(rt; by_key.as_slice(), expected.as_slice());
         let mut writer = unsigned(&rt)?;
-        writer.add_message_integrity(rt.alloc(), &right, algorithm)?;
-        let written = writer.finish();
-        assert_eq!(rt; written.as_slice(), expected.as_slice());
-        let message = Message::from_bytes(written.as_slice())?;
-        let answer = message.validate_integrity(rt.alloc(), &right);
-        assert_eq!(rt; answer, Ok(algorithm));
-        let answer = message.validate_integrity(rt.alloc(), &wrong);
-        assert_eq!(rt; answer, Err(ValidateError::IntegrityFailed));
+        writer.add_message_integrity(rt.alloc(), &credentials, algorithm)?;
+        assert_eq!(rt; writer.finish().as_slice(), expected.as_slice());
     }
     Ok(())
 }

@@ -38,6 +38,7 @@ fn messages_without_an_integrity_attribute_are_refused(rt: HostRuntime) -> Resul
 #[test]
 fn keys_name_the_attribute_and_credentials_the_last_one(rt: HostRuntime) -> Result<(), Fail> {
     let credentials = credentials_of_user(rt.alloc(), "pass")?;
+    let wrong = credentials_of_user(rt.alloc(), "past")?;
     let (sha1, sha256) = (IntegrityAlgorithm::Sha1, IntegrityAlgorithm::Sha256);
     let short_key = credentials.make_key(rt.alloc(), sha1)?;
     let long_key = credentials.make_key(rt.alloc(), sha256)?;
@@ -50,6 +51,8 @@ fn keys_name_the_attribute_and_credentials_the_last_one(rt: HostRuntime) -> Resu
         let message = Message::from_bytes(bytes.as_slice())?;
         let answer = message.validate_integrity(rt.alloc(), &credentials);
         assert_eq!(rt; answer, Ok(last), "{text}");
+        let answer = message.validate_integrity(rt.alloc(), &wrong);
+        assert_eq!(rt; answer, Err(ValidateError::IntegrityFailed), "{text}");
         let answer = message.validate_integrity_with_key(&short_key);
         assert_eq!(rt; answer, by_short_key, "{text}");
         let answer = message.validate_integrity_with_key(&long_key);
