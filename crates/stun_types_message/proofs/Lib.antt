@@ -1,5 +1,6 @@
 pub mod Fingerprints
 pub mod Scanning
+pub mod Shows
 pub mod Refusals
 pub mod Unknown
 pub mod Validating

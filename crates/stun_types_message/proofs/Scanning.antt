@@ -1,10 +1,10 @@
 -- The steps of a scan, in the names of the code.
-use Rattle.std.proofs.Common.{◌≡◌, ℕ, ◌<◌, ◌≤◌, true, false, Some, None, List, length, drop, sym, ap, ◌∙◌}
+use Rattle.std.proofs.Common.{◌≡◌, ℕ, ◌<◌, ◌≤◌, true, false, Some, None, List, [], length, drop, sym, ap, ◌∙◌}
 use Rattle.stun_types_wire.specs.declared.error.StunParseError.TheVariants.{Truncated, FingerprintMismatch}
 use Rattle.stun_types_wire.specs.Attributes.{kind_at}
-use Rattle.stun_types_wire.specs.Shape.{rank, may_follow}
+use Rattle.stun_types_wire.specs.Shape.{rank, may_follow, shown_after}
 use Rattle.stun_types_wire.specs.Grammar.{body_refusal}
-use Rattle.stun_types_grammar.proofs.Scan.{Continues, is_wrong_at, refuses_cut, refuses_fingerprint, ends_other, goes_on_at}
+use Rattle.stun_types_grammar.proofs.Scan.{Continues, is_wrong_at, refuses_cut, refuses_fingerprint, ends_other, goes_on_at, shown_stops}
 use Rattle.stun_types_message.specs.declared.front.Front.{Front}
 use Rattle.stun_types_message.specs.declared.stage.Stage.{Stage}
 use Rattle.stun_types_message.specs.Fronts.{TellsFront}
@@ -31,3 +31,7 @@ pub step_at : (stage next : Stage) (front : Front) (rest after bytes : List ℕ)
     → front.size ≤ length rest → is_wrong_at bytes rest ≡ false → after ≡ drop front.size rest → Continues (stage_rank next) after bytes
 step_at stage next front rest after bytes so_far tells follows next-is long right after-is =
     goes_on_at (stage_rank stage) (stage_rank next) front.size front.atype.0 rest after bytes so_far tells.four tells.kind next-is (ap (may_follow (stage_rank stage)) next-is ∙ follows) tells.size long right after-is
+
+-- a type that doesn't continue the shape ends what is shown
+pub none_after : (stage : Stage) (front : Front) (rest : List ℕ) → TellsFront rest front → may_follow (stage_rank stage) (rank front.atype.0) ≡ false → shown_after (stage_rank stage) rest ≡ []
+none_after stage front rest tells stops = shown_stops (stage_rank stage) rest (follows_at (stage_rank stage) front.atype.0 rest false tells.kind stops)

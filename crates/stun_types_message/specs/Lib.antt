@@ -1,6 +1,7 @@
-pub mod Parsed
-pub mod Stages
 pub mod Fronts
-pub mod Validation
-pub mod Reading
 pub mod Objections
+pub mod Parsed
+pub mod Reading
+pub mod Shows
+pub mod Stages
+pub mod Validation

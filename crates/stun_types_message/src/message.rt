@@ -1,7 +1,7 @@
 //! Messages over borrowed bytes.
 
-ghost use Rattle.std.specs.Prelude.{◌≡◌, ◌==◌, ◌+◌, ◌<◌, ◌≤◌, ◌^◌, ◌↔◌, IsTrue, None, Some, MatchResult, find, is_some, length};
-ghost use Rattle.stun_types_wire.specs.Attributes.{kind_at, numbered};
+ghost use Rattle.std.specs.Prelude.{◌≡◌, ◌==◌, ◌+◌, ◌<◌, ◌≤◌, ◌^◌, ◌↔◌, IsTrue, None, Some, MatchResult, find, is_some, length, sum_by, IfOk};
+ghost use Rattle.stun_types_wire.specs.Attributes.{attr_size, kind_at, numbered};
 ghost use Rattle.stun_types_wire.specs.Types.{class_of, method_of, is_response_class};
 ghost use Rattle.stun_types_wire.specs.Grammar.{body_refusal, refusal, shown, number_at};
 
@@ -17,11 +17,14 @@ use stun_types_wire::error::StunParseError;
 use stun_types_wire::header::MessageHeader;
 use stun_types_wire::transaction::TransactionId;
 
-/// A message in borrowed bytes. Contracts see the bytes, of which no refusal holds.
+/// A message in borrowed bytes. Contracts see the bytes, of which no refusal holds. `shown` is the part
+/// of them that holds the attributes which are shown: a look-up goes over it, and need not ask again
+/// where the shape ends.
 #[derive(Debug, Drop)]
 pub struct Message<'a> {
     header: MessageHeader,
     bytes: &'a [u8],
+    shown: &'a [u8],
 }
 
 impl<'a> Model for Message<'a> {
@@ -30,10 +33,11 @@ impl<'a> Model for Message<'a> {
     ghost Value = { List ℕ };
 
     ghost use Rattle.stun_types_message.specs.Parsed.{IsParsed};
+    ghost use Rattle.stun_types_message.specs.Shows.{IsShownText};
 
     ghost view = { λ m. m.bytes.now };
 
-    ghost invariant = { λ m. IsParsed m.bytes.now m.header };
+    ghost invariant = { λ m. IsParsed m.bytes.now m.header × IsShownText m.bytes.now m.shown.now };
 }
 
 impl<'a> Message<'a> {
@@ -64,8 +68,14 @@ impl<'a> Message<'a> {
                 actual: bytes.len(),
             });
         }
-        scan(bytes)?;
-        Ok(Message { header, bytes })
+        let end = scan(bytes)?;
+        let (front, _) = bytes.split_at(end);
+        let (_, shown) = front.split_at(MessageHeader::LENGTH);
+        Ok(Message {
+            header,
+            bytes,
+            shown,
+        })
     }
 
     /// The bytes of the message.
@@ -145,14 +155,19 @@ impl<'a> Message<'a> {
     }
 
     /// The first attribute of a type, where one is shown.
-    #[tactic(auto, using(stun_types_grammar::proofs::Left::map_numbered))]
     pub fn raw_attribute(&self, atype: AttributeType) -> Option<RawAttribute<'a>>
         ensures { result ≡ find (λ a. a.kind == atype.0) (shown self.now) }
     {
-        for (_, attribute) in self.iter_attributes() {
-            if attribute.get_type() == atype {
-                return Some(attribute);
+        let mut left = self.shown;
+        while !left.is_empty() {
+            let front = Front::at(left);
+            let (attribute, behind) = left.split_at(front.size);
+            if front.atype == atype {
+                let (_, behind_header) = attribute.split_at(4);
+                let (value, _) = behind_header.split_at(front.length);
+                return Some(RawAttribute::new(front.atype, value));
             }
+            left = behind;
         }
         None
     }
@@ -179,12 +194,13 @@ impl<'a> TryFrom<&'a [u8]> for Message<'a> {
     }
 }
 
-/// Whether the bytes behind the header of a message are its attributes.
+/// Where the attributes end that a message shows behind its header.
 #[tactic(auto, using(stun_types_grammar::proofs::Scan::refuses_short, stun_types_grammar::proofs::Scan::ends_all, stun_types_grammar::proofs::Scan::begins, crate::proofs::Scanning::ends_at, crate::proofs::Scanning::cut_at, crate::proofs::Scanning::wrong_at))]
-fn scan(bytes: &[u8]) -> Result<(), StunParseError>
+fn scan(bytes: &[u8]) -> Result<usize, StunParseError>
     requires header { 20 ≤ length bytes.now }
     requires short { length bytes.now ≤ 65_555 }
-    ensures { MatchResult result (λ _. body_refusal bytes.now ≡ None) (λ error. body_refusal bytes.now ≡ Some error) }
+    ensures answer { MatchResult result (λ _. body_refusal bytes.now ≡ None) (λ error. body_refusal bytes.now ≡ Some error) }
+    ensures end { IfOk result (λ end. (end ≡ 20 + sum_by attr_size (shown bytes.now)) × (end ≤ length bytes.now)) }
 {
     let (_, mut rest) = bytes.split_at(MessageHeader::LENGTH);
     let mut stage = Stage::Ordinary;
@@ -196,7 +212,7 @@ fn scan(bytes: &[u8]) -> Result<(), StunParseError>
             });
         };
         let Some(next) = stage.after(front.atype) else {
-            return Ok(());
+            return Ok(bytes.len() - rest.len());
         };
         if rest.len() < front.size {
             return Err(StunParseError::Truncated {
@@ -211,5 +227,5 @@ fn scan(bytes: &[u8]) -> Result<(), StunParseError>
         rest = after;
         stage = next;
     }
-    Ok(())
+    Ok(bytes.len())
 }

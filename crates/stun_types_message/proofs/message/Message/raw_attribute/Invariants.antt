@@ -1,11 +1,14 @@
-use Rattle.std.proofs.Common.{◌≡◌, eqb, map}
-use Rattle.std.specs.Prelude.{find}
+use Rattle.std.proofs.Common.{◌≡◌, eqb, length}
+use Rattle.std.specs.Prelude.{find, sum_by}
+use Rattle.stun_types_wire.specs.Attributes.{attr_size, attributes}
 use Rattle.stun_types_wire.specs.Grammar.{shown}
 use Rattle.stun_types_message.proofs.message.Message.raw_attribute.Given as goal
 
--- the first of what is left is the first of what is shown
-abbrev pub invariant-loop-attribute : goal.invariant-loop-attribute
-invariant-loop-attribute l =
-    (goal.iterator-loop-attribute).can_next l.attribute-iterator ×
-    (goal.iterator-loop-attribute).is_finite l.attribute-iterator ×
-    (find (λ a. eqb a.kind l.atype.0) (map (λ x. x.1) l.attribute-iterator) ≡ find (λ a. eqb a.kind l.atype.0) (shown l.fn.self))
+-- the first of what is left is the first of what is shown, and what is left is whole
+abbrev pub invariant-loop-left : goal.invariant-loop-left
+invariant-loop-left l =
+    (find (λ a. eqb a.kind l.atype.0) (attributes l.left) ≡ find (λ a. eqb a.kind l.atype.0) (shown l.fn.self)) ×
+    (sum_by attr_size (attributes l.left) ≡ length l.left)
+
+abbrev pub decreases-loop-left : goal.decreases-loop-left
+decreases-loop-left l = length l.left
