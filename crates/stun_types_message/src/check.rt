@@ -1,6 +1,6 @@
 //! Requests checked for the attributes that they show (RFC 8489, section 6.3.1).
 
-ghost use Rattle.std.specs.Prelude.{◌≡◌, ◌≢◌, ◌≤◌, ◌==◌, ℕ, List, [], map, not, is_some, find, length, IfOk, IfErr, OnOk, IfSome, None, Some};
+ghost use Rattle.std.specs.Prelude.{◌≡◌, ◌≢◌, ◌≤◌, ◌==◌, ℕ, List, [], map, not, is_some, find, length, drop, IfOk, IfErr, OnOk, IfSome, None, Some};
 ghost use Rattle.std.specs.List.{list_any};
 ghost use Rattle.std.specs.Option.{option_map};
 ghost use Rattle.stun_types_wire.specs.Attributes.{Attr, kind_at};
@@ -17,6 +17,7 @@ use std::alloc::Global;
 use stun_types_base::memory::NoMemory;
 use stun_types_wire::attribute::AttributeType;
 use stun_types_wire::error::StunWriteError;
+use stun_types_write::among::has_type;
 use stun_types_write::writer::MessageWrite;
 
 impl<'a> Message<'a> {
@@ -42,6 +43,8 @@ impl<'a> Message<'a> {
         ensures text { IfOk result (λ answered. option_map (λ reply. W.written reply) answered ≡ option_map (message_text (error_type msg.now) (number_at msg.now)) (objection (shown msg.now) (map (λ t. t.0) supported.now) (map (λ t. t.0) required.now))) }
         ensures kinds { IfOk result (λ answered. option_map (λ reply. W.kinds reply) answered ≡ option_map kinds_of (objection (shown msg.now) (map (λ t. t.0) supported.now) (map (λ t. t.0) required.now))) }
         ensures begun { IfOk result (λ answered. IfSome answered (λ reply. IsBegun (W.written reply))) }
+        // Lent bytes behind the response stay.
+        ensures behind { IfOk result (λ answered. IfSome answered (λ reply. W.behind reply ≡ drop (length (W.written reply)) (W.behind writer))) }
         ensures limit { IfOk result (λ answered. IfSome answered (λ reply. W.limit reply ≡ W.limit writer)) }
         ensures accepted { OnOk result (objection_refusal (W.limit writer) (shown msg.now) (map (λ t. t.0) supported.now) (map (λ t. t.0) required.now) ≡ None) }
         ensures refused { IfErr result (λ error. error ≢ StunWriteError.NoMemory → objection_refusal (W.limit writer) (shown msg.now) (map (λ t. t.0) supported.now) (map (λ t. t.0) required.now) ≡ Some error) }
@@ -104,13 +107,6 @@ fn is_unknown_type(atype: AttributeType, supported: &[AttributeType]) -> bool
     ensures { result ≡ is_unknown (map (λ t. t.0) supported.now) atype.0 }
 {
     atype.comprehension_required() && !has_type(supported, atype)
-}
-
-/// Whether a type is among these.
-fn has_type(atypes: &[AttributeType], atype: AttributeType) -> bool
-    ensures { result ≡ list_any (λ t. t.0 == atype.0) atypes.now }
-{
-    atypes.iter().any(|t| t.0 == atype.0)
 }
 
 /// Whether a required type is not shown.

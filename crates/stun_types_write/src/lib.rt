@@ -1,6 +1,7 @@
 //! What an attribute is to a writer, and where messages are written.
 #![tactic(auto)]
 
+pub mod among;
 pub mod attribute;
 pub mod reading;
 pub mod slice;

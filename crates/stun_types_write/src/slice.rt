@@ -2,9 +2,9 @@
 
 ghost use Rattle.std.specs.Prelude.{◌≡◌, ◌++◌, [], length};
 
+use crate::among::{first_among, has_type};
 use crate::attribute::AttributeWrite;
 use crate::text::write_length;
-use crate::vec::{first_among, has_type};
 use crate::writer::MessageWrite;
 use std::alloc::Global;
 use std::marker::Model;

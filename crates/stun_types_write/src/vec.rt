@@ -1,10 +1,8 @@
 //! A writer into memory of its own.
 
-ghost use Rattle.std.specs.Prelude.{◌≡◌, ◌==◌, ◌≤◌, [], OnOk, IfOk, find, map, length};
-ghost use Rattle.std.specs.Option.{option_map};
-ghost use Rattle.std.specs.List.{list_any};
-ghost use Rattle.stun_types_write.specs.Adding.{has_kind, is_among};
+ghost use Rattle.std.specs.Prelude.{◌≡◌, [], IfOk};
 
+use crate::among::{first_among, has_type};
 use crate::attribute::AttributeWrite;
 use crate::text::write_length;
 use crate::writer::MessageWrite;
@@ -12,6 +10,9 @@ use std::alloc::Global;
 use std::marker::Model;
 use stun_types_base::memory::NoMemory;
 use stun_types_wire::attribute::AttributeType;
+
+/// For the types of how many attributes `with_capacity` makes room; few messages have more.
+const USUAL_TYPES: usize = 8;
 
 /// A writer into a vector. It has no greatest size but that of a message, and gives the vector.
 #[derive(Debug, Drop)]
@@ -41,14 +42,15 @@ impl MessageWriteVec {
         }
     }
 
-    /// An empty writer with room for this many bytes. Where memory is refused, `NoMemory`.
+    /// An empty writer with room for this many bytes, and for the types of eight attributes. Where
+    /// memory is refused, `NoMemory`.
     pub fn with_capacity(alloc: Global, capacity: usize) -> Result<MessageWriteVec, NoMemory>
         ensures bytes { IfOk result (λ writer. writer.bytes ≡ []) }
         ensures kinds { IfOk result (λ writer. writer.kinds ≡ []) }
     {
         Ok(MessageWriteVec {
             bytes: Vec::with_capacity(alloc, capacity)?,
-            atypes: Vec::new(alloc),
+            atypes: Vec::with_capacity(alloc, USUAL_TYPES)?,
         })
     }
 
@@ -126,21 +128,4 @@ impl MessageWrite for MessageWriteVec {
         let MessageWriteVec { bytes, atypes: _ } = self;
         bytes
     }
-}
-
-/// Whether a type is among these.
-pub(crate) fn has_type(atypes: &[AttributeType], atype: AttributeType) -> bool
-    ensures { result ≡ list_any (λ t. t.0 == atype.0) atypes.now }
-{
-    atypes.iter().any(|t| t.0 == atype.0)
-}
-
-/// The first of these types that is among those asked for.
-pub(crate) fn first_among(
-    atypes: &[AttributeType],
-    asked: &[AttributeType],
-) -> Option<AttributeType>
-    ensures { result ≡ find (λ t. list_any (λ a. a.0 == t.0) asked.now) atypes.now }
-{
-    atypes.iter().copied().find(|t| has_type(asked, *t))
 }
