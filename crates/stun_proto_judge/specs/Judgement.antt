@@ -38,7 +38,7 @@ supports_sha1 algorithms = list_any is_sha1 algorithms
 abbrev pub is_response : List ℕ → Bool
 is_response bytes = is_response_class (class_of (kind_at bytes))
 
--- password algorithms, which are not written yet: none is shown, the last integrity attribute is MESSAGE-INTEGRITY, and Sha1 is supported
+-- what is shown of password algorithms, which this server does not offer yet: none, the last integrity attribute is MESSAGE-INTEGRITY, and Sha1 is supported
 abbrev pub is_consistent : Bool → Option IntegrityAlgorithm → List IntegrityAlgorithm → Bool
 is_consistent has_password_algorithms None algorithms = false
 is_consistent has_password_algorithms (Some algorithm) algorithms = not has_password_algorithms && (is_sha1 algorithm && supports_sha1 algorithms)

@@ -28,7 +28,7 @@ impl LongTermServerAuth {
     /// USERNAME, REALM, NONCE and then that attribute; an indication gets nothing. Where it was not,
     /// an error response gets REALM and NONCE, which is a nonce of any age. The integrity attribute
     /// stands alone, and is written in full. PASSWORD-ALGORITHMS, which a server that supports more
-    /// than `Sha1` has to add to such an error response, is not written yet.
+    /// than `Sha1` has to add to such an error response, is not added yet.
     ///
     /// Refused with `IntegrityFailed` where no nonce is kept for the address; where its last message
     /// was not validated, and the message is no error response; and where the user by whom it was

@@ -15,6 +15,10 @@ const PASSWORD_ALGORITHM: AttributeType = AttributeType(0x001D);
 
 const USERHASH: AttributeType = AttributeType(0x001E);
 
+const WRONG: Option<StunParseError> = Some(StunParseError::WrongAttributeImplementation);
+
+const INVALID: Option<StunParseError> = Some(StunParseError::InvalidAttributeData);
+
 const PASSWORD_ALGORITHMS: AttributeType = AttributeType(0x8002);
 
 const MD5: PasswordAlgorithmValue = PasswordAlgorithmValue::MD5;
@@ -120,58 +124,52 @@ fn hashes_in_bytes_and_back(rt: HostRuntime) -> Result<(), Fail> {
 }
 
 #[test]
-fn values_that_are_none(rt: HostRuntime) {
+fn values_that_are_no_password_algorithm(rt: HostRuntime) {
     let zeros = [0; 33];
-    let wrong = Some(StunParseError::WrongAttributeImplementation);
-    let invalid = Some(StunParseError::InvalidAttributeData);
     let cases = [
-        (
-            PASSWORD_ALGORITHM,
-            &zeros[..3],
-            truncated(4, 3),
-            wrong,
-            wrong,
-        ),
-        (
-            PASSWORD_ALGORITHM,
-            &zeros[..5],
-            too_large(4, 5),
-            wrong,
-            wrong,
-        ),
-        (PASSWORD_ALGORITHM, &[0, 3, 0, 0], invalid, wrong, wrong),
-        (PASSWORD_ALGORITHM, &[1, 2, 0, 0], invalid, wrong, wrong),
-        (
-            PASSWORD_ALGORITHMS,
-            &zeros[..3],
-            wrong,
-            truncated(4, 3),
-            wrong,
-        ),
-        (
-            PASSWORD_ALGORITHMS,
-            &zeros[..33],
-            wrong,
-            too_large(32, 33),
-            wrong,
-        ),
-        (PASSWORD_ALGORITHMS, &[0, 1, 0, 0, 0], wrong, invalid, wrong),
-        (
-            PASSWORD_ALGORITHMS,
-            &[0, 1, 0, 0, 0, 0, 0, 0],
-            wrong,
-            invalid,
-            wrong,
-        ),
-        (USERHASH, &zeros[..31], wrong, wrong, truncated(32, 31)),
-        (USERHASH, &zeros[..33], wrong, wrong, too_large(32, 33)),
+        (PASSWORD_ALGORITHM, &zeros[..3], truncated(4, 3)),
+        (PASSWORD_ALGORITHM, &zeros[..5], too_large(4, 5)),
+        (PASSWORD_ALGORITHM, &[0, 3, 0, 0], INVALID),
+        (PASSWORD_ALGORITHM, &[1, 2, 0, 0], INVALID),
+        (PASSWORD_ALGORITHMS, &[0, 1, 0, 0], WRONG),
+        (USERHASH, &zeros[..32], WRONG),
     ];
-    for (atype, value, algorithm, algorithms, hash) in cases {
+    for (atype, value, expected) in cases {
         let raw = RawAttribute::new(atype, value);
-        assert_eq!(rt; PasswordAlgorithm::try_from(&raw).err(), algorithm);
+        assert_eq!(rt; PasswordAlgorithm::try_from(&raw).err(), expected);
+    }
+}
+
+#[test]
+fn values_that_are_no_password_algorithms(rt: HostRuntime) {
+    let zeros = [0; 33];
+    let cases = [
+        (PASSWORD_ALGORITHMS, &zeros[..3], truncated(4, 3)),
+        (PASSWORD_ALGORITHMS, &zeros[..33], too_large(32, 33)),
+        (PASSWORD_ALGORITHMS, &[0, 1, 0, 0, 0], INVALID),
+        (PASSWORD_ALGORITHMS, &[0, 1, 0, 0, 0, 0, 0, 0], INVALID),
+        (PASSWORD_ALGORITHM, &[0, 1, 0, 0], WRONG),
+        (USERHASH, &zeros[..32], WRONG),
+    ];
+    for (atype, value, expected) in cases {
+        let raw = RawAttribute::new(atype, value);
         let read = PasswordAlgorithms::from_raw_ref(&raw, rt.alloc());
-        assert_eq!(rt; read.err(), algorithms);
-        assert_eq!(rt; Userhash::try_from(&raw).err(), hash);
+        assert_eq!(rt; read.err(), expected);
+    }
+}
+
+#[test]
+fn values_that_are_no_userhash(rt: HostRuntime) {
+    let zeros = [0; 33];
+    let cases = [
+        (USERHASH, &zeros[..31], truncated(32, 31)),
+        (USERHASH, &zeros[..33], too_large(32, 33)),
+        (PASSWORD_ALGORITHM, &zeros[..32], WRONG),
+        (PASSWORD_ALGORITHMS, &zeros[..32], WRONG),
+    ];
+    for (atype, value, expected) in cases {
+        let raw = RawAttribute::new(atype, value);
+        assert_eq!(rt; Userhash::try_from(&raw).err(), expected);
     }
 }
 
