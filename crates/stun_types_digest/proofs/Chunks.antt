@@ -3,9 +3,9 @@ use Rattle.std.specs.Prelude.{◌≡◌, ℕ, zero, suc, ◌+◌, ◌*◌, ◌/�
 use Rattle.std.proofs.Common.{refl, sym, ap, ◌∙◌, arith, get_or, take, drop}
 use Rattle.std.proofs.lemmas.List.{take-append-drop}
 use Rattle.std.proofs.lemmas.List.Sums.{fold-append}
-use Rattle.std.specs.Int.{w64, from_le_bytes}
+use Rattle.std.specs.Int.{w32, from_le_bytes, to_le_bytes}
 use Rattle.std.specs.Int.Bits.{bit_xor, xor_assoc, xor_shifted, xor_zero_r}
-use Rattle.std.proofs.lemmas.Nat.{xor_comm, shr-shr}
+use Rattle.std.proofs.lemmas.Nat.{xor_comm, xor_lt, from_le_bytes-to_le_bytes_4}
 use Rattle.stun_types_digest.specs.Crc.{text_polynomial, bit_steps, byte_step, register_after}
 use Rattle.stun_types_digest.proofs.Register.{bit_steps-xor, bit_steps-add, bit_steps-scale, register_after_is}
 
@@ -25,21 +25,43 @@ pub byte_step_is : (c b : ℕ) → byte_step c b ≡ bit_xor (bit_steps (8 * (0 
 unfolding bit_steps
 byte_step_is c b = low_byte_apart 0 (bit_xor c b)
 
--- n bytes of a register from place i on, each with as many zero bytes behind it as there are bytes
-abbrev left_at : ℕ → ℕ → ℕ → ℕ
-left_at zero i w = w / 2 ^ (8 * i)
-left_at (suc n) i w = bit_xor (bit_steps (8 * (n + 1)) (w / 2 ^ (8 * i) % 256)) (left_at n (suc i) w)
+-- the first byte of a polynomial goes through on its own
+first_apart : (n b rest : ℕ) → bit_steps (8 * (n + 1)) (bit_xor b (rest * 2 ^ 8)) ≡ bit_xor (bit_steps (8 * (n + 1)) b) (bit_steps (8 * n) rest)
+first_apart n b rest =
+    let bits : 8 * (n + 1) ≡ 8 + 8 * n = omega arith in
+    bit_steps-xor (8 * (n + 1)) b (rest * 2 ^ 8)
+    ∙ ap (bit_xor (bit_steps (8 * (n + 1)) b))
+    (ap (λ k. bit_steps k (rest * 2 ^ 8)) bits ∙ bit_steps-add 8 (8 * n) (rest * 2 ^ 8) ∙ ap (bit_steps (8 * n)) (bit_steps-scale 8 rest))
 
-bytes_apart : (n i w : ℕ) → bit_steps (8 * n) (w / 2 ^ (8 * i)) ≡ left_at n i w
-unfolding bit_steps
-bytes_apart zero i w = refl
-bytes_apart (suc n) i w =
-    let here : ℕ = w / 2 ^ (8 * i) in
-    let bits : 8 * suc n ≡ 8 * (n + 1) = omega arith in
-    let place : 8 * i + 8 ≡ 8 * suc i = omega arith in
-    let next : here / 256 ≡ w / 2 ^ (8 * suc i) = shr-shr w (8 * i) 8 ∙ ap (λ k. w / 2 ^ k) place in
-    ap (λ k. bit_steps k here) bits ∙ low_byte_apart n here
-    ∙ ap (bit_xor (bit_steps (8 * (n + 1)) (here % 256))) (ap (bit_steps (8 * n)) next ∙ bytes_apart n (suc i) w)
+-- what four bytes leave with n zero bytes behind them
+abbrev pub left_of : ℕ → List ℕ → ℕ
+left_of n four = bit_steps (8 * (n + 4)) (text_polynomial four)
+
+-- the four bytes from place i on
+abbrev pub four_at : ℕ → List ℕ → List ℕ
+four_at i bs = get_or bs i 0 ∷ get_or bs (i + 1) 0 ∷ get_or bs (i + 2) 0 ∷ get_or bs (i + 3) 0 ∷ []
+
+-- four bytes, each on its own
+pub four_apart : (n : ℕ) (bs : List ℕ) → length bs ≡ 4 → left_of n bs
+    ≡ bit_xor (bit_xor (bit_steps (8 * (n + 3 + 1)) (get_or bs 0 0)) (bit_steps (8 * (n + 2 + 1)) (get_or bs 1 0)))
+    (bit_xor (bit_steps (8 * (n + 1 + 1)) (get_or bs 2 0)) (bit_steps (8 * (n + 1)) (get_or bs 3 0)))
+four_apart n (a ∷ b ∷ c ∷ d ∷ []) long =
+    let bits4 : n + 4 ≡ n + 3 + 1 = omega arith in
+    let bits3 : n + 3 ≡ n + 2 + 1 = omega arith in
+    let bits2 : n + 2 ≡ n + 1 + 1 = omega arith in
+    let from_d : ℕ = text_polynomial (d ∷ []) in
+    let from_c : ℕ = text_polynomial (c ∷ d ∷ []) in
+    let from_b : ℕ = text_polynomial (b ∷ c ∷ d ∷ []) in
+    let last : from_d ≡ d = xor_zero_r d in
+    ap (λ k. bit_steps (8 * k) (bit_xor a (from_b * 2 ^ 8))) bits4
+    ∙ first_apart (n + 3) a from_b
+    ∙ ap (bit_xor (bit_steps (8 * (n + 3 + 1)) a))
+    (ap (λ k. bit_steps (8 * k) from_b) bits3 ∙ first_apart (n + 2) b from_c
+    ∙ ap (bit_xor (bit_steps (8 * (n + 2 + 1)) b))
+    (ap (λ k. bit_steps (8 * k) from_c) bits2 ∙ first_apart (n + 1) c from_d
+    ∙ ap (λ x. bit_xor (bit_steps (8 * (n + 1 + 1)) c) (bit_steps (8 * (n + 1)) x)) last))
+    ∙ sym (xor_assoc (bit_steps (8 * (n + 3 + 1)) a) (bit_steps (8 * (n + 2 + 1)) b) (bit_xor (bit_steps (8 * (n + 1 + 1)) c) (bit_steps (8 * (n + 1)) d)))
+four_apart n bs long = absurd (omega arith)
 
 -- a polynomial of bytes is the number that they are, the lowest byte first
 abbrev number_of : List ℕ → ℕ
@@ -52,32 +74,78 @@ text_polynomial_is (b ∷ bs) small =
     xor_comm b (text_polynomial bs * 2 ^ 8) ∙ xor_shifted (text_polynomial bs) 8 b (small 0)
     ∙ ap (λ x. x * 2 ^ 8 + b) (text_polynomial_is bs (λ i. small (suc i))) ∙ omega arith
 
-number_of_eight : (bs : List ℕ) → length bs ≡ 8 → number_of bs ≡ from_le_bytes w64 bs
-number_of_eight (a ∷ b ∷ c ∷ d ∷ e ∷ f ∷ g ∷ h ∷ []) long = omega arith
-number_of_eight bs long = absurd (omega arith)
+number_of_four : (bs : List ℕ) → length bs ≡ 4 → number_of bs ≡ from_le_bytes w32 bs
+number_of_four (a ∷ b ∷ c ∷ d ∷ []) long = omega arith
+number_of_four bs long = absurd (omega arith)
 
--- eight bytes go through at once: w is the register with them
-pub eight_at_once : (c : ℕ) (bs : List ℕ) (w : ℕ) → length bs ≡ 8 → ((i : ℕ) → get_or bs i 0 < 256) → w < 2 ^ 64 → w ≡ bit_xor (from_le_bytes w64 bs) c
+polynomial_of_four : (bs : List ℕ) → length bs ≡ 4 → ((i : ℕ) → get_or bs i 0 < 256) → text_polynomial bs ≡ from_le_bytes w32 bs
+polynomial_of_four bs long small = text_polynomial_is bs small ∙ number_of_four bs long
+
+byte_at_most : (n i : ℕ) → get_or (to_le_bytes w32 n) i 0 < 256
+byte_at_most n zero = omega arith
+byte_at_most n (suc zero) = omega arith
+byte_at_most n (suc (suc zero)) = omega arith
+byte_at_most n (suc (suc (suc zero))) = omega arith
+byte_at_most n (suc (suc (suc (suc i)))) = omega arith
+
+-- four bytes as a number, and the register added to it
+pub polynomial_of_sum : (c n : ℕ) (bs : List ℕ) → length bs ≡ 4 → ((i : ℕ) → get_or bs i 0 < 256) → c < 2 ^ 32 → n < 2 ^ 32 → n ≡ from_le_bytes w32 bs
+    → text_polynomial (to_le_bytes w32 (bit_xor n c)) ≡ bit_xor c (text_polynomial bs)
+polynomial_of_sum c n bs long small c_fits fits is =
+    polynomial_of_four (to_le_bytes w32 (bit_xor n c)) refl (byte_at_most (bit_xor n c))
+    ∙ from_le_bytes-to_le_bytes_4 (bit_xor n c) (xor_lt 32 n c fits c_fits)
+    ∙ xor_comm n c ∙ ap (bit_xor c) (is ∙ sym (polynomial_of_four bs long small))
+
+zero_xor : (x : ℕ) → bit_xor 0 x ≡ x
+zero_xor x = xor_comm 0 x ∙ xor_zero_r x
+
+-- four bytes go through with the register added to them, and what is behind them on its own
+first_four : (c a b d e : ℕ) (more : List ℕ) → register_after c (a ∷ b ∷ d ∷ e ∷ more)
+    ≡ bit_xor (register_after 0 more) (bit_steps (8 * (length more + 4)) (bit_xor c (text_polynomial (a ∷ b ∷ d ∷ e ∷ []))))
+first_four c a b d e more =
+    let n : ℕ = length more in
+    let four : List ℕ = a ∷ b ∷ d ∷ e ∷ [] in
+    let mixed : ℕ = bit_xor c (text_polynomial four) in
+    let there : ℕ = register_after c four in
+    let bits : 8 * (n + 4) ≡ 8 * 4 + 8 * n = omega arith in
+    let back : bit_steps (8 * n) (text_polynomial more) ≡ register_after 0 more =
+    sym (register_after_is more 0 ∙ ap (bit_steps (8 * n)) (zero_xor (text_polynomial more))) in
+    let front : bit_steps (8 * n) there ≡ bit_steps (8 * (n + 4)) mixed =
+    ap (bit_steps (8 * n)) (register_after_is four c) ∙ sym (ap (λ k. bit_steps k mixed) bits ∙ bit_steps-add (8 * 4) (8 * n) mixed) in
+    register_after_is more there ∙ bit_steps-xor (8 * n) there (text_polynomial more)
+    ∙ xor_comm (bit_steps (8 * n) there) (bit_steps (8 * n) (text_polynomial more))
+    ∙ ap (λ x. bit_xor x (bit_steps (8 * n) there)) back ∙ ap (bit_xor (register_after 0 more)) front
+
+-- the same from no register
+four_more : (a b d e : ℕ) (more : List ℕ) → register_after 0 (a ∷ b ∷ d ∷ e ∷ more) ≡ bit_xor (register_after 0 more) (left_of (length more) (a ∷ b ∷ d ∷ e ∷ []))
+four_more a b d e more =
+    first_four 0 a b d e more ∙ ap (λ x. bit_xor (register_after 0 more) (bit_steps (8 * (length more + 4)) x)) (zero_xor (text_polynomial (a ∷ b ∷ d ∷ e ∷ [])))
+
+last_four : (a b d e : ℕ) → register_after 0 (a ∷ b ∷ d ∷ e ∷ []) ≡ left_of 0 (a ∷ b ∷ d ∷ e ∷ [])
+last_four a b d e = four_more a b d e [] ∙ zero_xor (left_of 0 (a ∷ b ∷ d ∷ e ∷ []))
+
+pub four_at_once : (c : ℕ) (bs : List ℕ) → length bs ≡ 4 → register_after c bs ≡ bit_steps (8 * (0 + 4)) (bit_xor c (text_polynomial bs))
+four_at_once c (a ∷ b ∷ d ∷ e ∷ []) long = first_four c a b d e [] ∙ zero_xor (bit_steps (8 * (0 + 4)) (bit_xor c (text_polynomial (a ∷ b ∷ d ∷ e ∷ []))))
+four_at_once c bs long = absurd (omega arith)
+
+pub eight_at_once : (c : ℕ) (bs : List ℕ) → length bs ≡ 8
+    → register_after c bs ≡ bit_xor (left_of 0 (four_at 4 bs)) (bit_steps (8 * (4 + 4)) (bit_xor c (text_polynomial (four_at 0 bs))))
+eight_at_once c (a ∷ b ∷ d ∷ e ∷ f ∷ g ∷ h ∷ i ∷ []) long =
+    let first : ℕ = bit_steps (8 * (4 + 4)) (bit_xor c (text_polynomial (a ∷ b ∷ d ∷ e ∷ []))) in
+    first_four c a b d e (f ∷ g ∷ h ∷ i ∷ []) ∙ ap (λ x. bit_xor x first) (last_four f g h i)
+eight_at_once c bs long = absurd (omega arith)
+
+pub sixteen_at_once : (c : ℕ) (bs : List ℕ) → length bs ≡ 16
     → register_after c bs
-    ≡ bit_xor (bit_xor (bit_xor (bit_xor (bit_xor (bit_xor (bit_xor
-    (bit_steps 64 (w % 256))
-    (bit_steps 56 (w / 256 % 256)))
-    (bit_steps 48 (w / 256 ^ 2 % 256)))
-    (bit_steps 40 (w / 256 ^ 3 % 256)))
-    (bit_steps 32 (w / 256 ^ 4 % 256)))
-    (bit_steps 24 (w / 256 ^ 5 % 256)))
-    (bit_steps 16 (w / 256 ^ 6 % 256)))
-    (bit_steps 8 (w / 256 ^ 7 % 256))
-eight_at_once c bs w long small fits e =
-    let whole : bit_xor c (text_polynomial bs) ≡ w =
-    xor_comm c (text_polynomial bs) ∙ ap (λ x. bit_xor x c) (text_polynomial_is bs small ∙ number_of_eight bs long) ∙ sym e in
-    let one : w / 1 ≡ w = omega arith in
-    let none : w / 2 ^ 64 ≡ 0 = omega arith in
-    let apart : bit_steps 64 (w / 1) ≡ left_at 8 0 w = bytes_apart 8 0 w in
-    register_after_is bs c
-    ∙ ap (λ n. bit_steps (8 * n) (bit_xor c (text_polynomial bs))) long
-    ∙ ap (bit_steps 64) (whole ∙ sym one) ∙ apart
-    ∙ simp (xor_assoc, one, none, xor_zero_r)
+    ≡ bit_xor (bit_xor (bit_xor (left_of 0 (four_at 12 bs)) (left_of 4 (four_at 8 bs))) (left_of 8 (four_at 4 bs))) (bit_steps (8 * (12 + 4)) (bit_xor c (text_polynomial (four_at 0 bs))))
+sixteen_at_once c (a ∷ b ∷ d ∷ e ∷ f ∷ g ∷ h ∷ i ∷ j ∷ k ∷ l ∷ m ∷ n ∷ o ∷ p ∷ q ∷ []) long =
+    let first : ℕ = bit_steps (8 * (12 + 4)) (bit_xor c (text_polynomial (a ∷ b ∷ d ∷ e ∷ []))) in
+    let second : ℕ = left_of 8 (f ∷ g ∷ h ∷ i ∷ []) in
+    let third : ℕ = left_of 4 (j ∷ k ∷ l ∷ m ∷ []) in
+    first_four c a b d e (f ∷ g ∷ h ∷ i ∷ j ∷ k ∷ l ∷ m ∷ n ∷ o ∷ p ∷ q ∷ [])
+    ∙ ap (λ x. bit_xor x first) (four_more f g h i (j ∷ k ∷ l ∷ m ∷ n ∷ o ∷ p ∷ q ∷ [])
+    ∙ ap (λ x. bit_xor x second) (four_more j k l m (n ∷ o ∷ p ∷ q ∷ []) ∙ ap (λ x. bit_xor x third) (last_four n o p q)))
+sixteen_at_once c bs long = absurd (omega arith)
 
 -- the first n bytes go through, and then the others
 pub register_after-parts : (c n : ℕ) (bs : List ℕ) → register_after (register_after c (take n bs)) (drop n bs) ≡ register_after c bs

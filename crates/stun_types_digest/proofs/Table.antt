@@ -47,8 +47,8 @@ table_is_stepped : is_stepped (behind_bytes TABLE) TABLE ≡ true
 unfolding bit_steps
 table_is_stepped = refl
 
-length-TABLE : length TABLE ≡ 2048
+length-TABLE : length TABLE ≡ 4096
 length-TABLE = refl
 
-pub entry : (zeros byte : ℕ) → zeros < 8 → byte < 256 → get_or TABLE (256 * zeros + byte) 0 ≡ bit_steps (8 * (zeros + 1)) byte
+pub entry : (zeros byte : ℕ) → zeros < 16 → byte < 256 → get_or TABLE (256 * zeros + byte) 0 ≡ bit_steps (8 * (zeros + 1)) byte
 entry zeros byte few small = entry_of TABLE table_is_stepped zeros byte small (omega (arith, length-TABLE))

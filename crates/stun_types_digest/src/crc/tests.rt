@@ -11,9 +11,21 @@ fn check_value(rt: HostRuntime) {
 }
 
 #[test]
-fn several_steps_of_eight_bytes(rt: HostRuntime) {
+fn each_kind_of_step(rt: HostRuntime) {
     let text = b"The quick brown fox jumps over the lazy dog";
-    assert_eq!(rt; Crc32::checksum(text), 0x414f_a339);
+    let fronts = [
+        (3, 0x0408_2b06),
+        (4, 0x000b_625b),
+        (8, 0x74d2_1c74),
+        (12, 0x09e9_8fac),
+        (15, 0xc311_8c34),
+        (16, 0xc81b_2a7c),
+        (31, 0x8802_2e8c),
+        (43, 0x414f_a339),
+    ];
+    for (len, expected) in fronts {
+        assert_eq!(rt; Crc32::checksum(&text[..len]), expected);
+    }
     let mut state = Crc32::default();
     for piece in text.chunks(17) {
         state.update(piece);
