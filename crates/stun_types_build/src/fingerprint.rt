@@ -1,13 +1,11 @@
 //! FINGERPRINT, added at the end of a message (RFC 8489, section 14.7).
 
-ghost use Rattle.std.specs.Prelude.{◌≡◌, ◌≢◌, ◌≤◌, ◌++◌, ◌∷◌, [], length, drop, ℕ, List, OnOk, OnErr, IfErr, MatchResult, None, Some};
+ghost use Rattle.std.specs.Prelude.{◌≡◌, ◌≢◌, ◌++◌, ◌∷◌, [], length, drop, ℕ, List, OnOk, OnErr, IfErr, MatchResult, None, Some};
 ghost use Rattle.stun_types_wire.specs.Attributes.{Attr};
-ghost use Rattle.stun_types_wire.specs.Covered.{with_length};
-ghost use Rattle.stun_types_wire.specs.Fingerprints.{fingerprint_of, fingerprint_value};
+ghost use Rattle.stun_types_wire.specs.Fingerprints.{fingerprint_of};
 ghost use Rattle.stun_types_wire.specs.Shape.{fingerprint_kind};
 ghost use Rattle.stun_types_wire.specs.Text.{message_text};
 ghost use Rattle.stun_types_write.specs.Adding.{after_add, fingerprint_add_refusal, IsBegun};
-ghost use Rattle.stun_types_fingerprint.specs.Fingerprints.{turned_bytes};
 
 use crate::room::end_of_add;
 use crate::signing::push_as;
@@ -39,19 +37,8 @@ pub(crate) fn mark<W: MessageWrite>(writer: &mut W) -> Result<(), StunWriteError
     }
     let end = end_of_add(&*writer, SIZE)?;
     let len = (end - MessageHeader::LENGTH) as u16;
-    let fingerprint = fingerprint_told(writer.data(), len);
+    let fingerprint = Fingerprint::of_message(writer.data(), len);
     push_as(writer, &fingerprint, &fingerprint)?;
     writer.set_length(len);
     Ok(())
-}
-
-/// The FINGERPRINT of a message, as if its header told this length.
-#[tactic(auto, unfolding(stun_types_wire::specs::Covered::with_length))]
-fn fingerprint_told(bytes: &[u8], len: u16) -> Fingerprint
-    requires { 20 ≤ length bytes.now }
-    ensures { turned_bytes result ≡ fingerprint_value (with_length bytes.now len) }
-{
-    let (head, _) = bytes.split_at(2);
-    let (_, tail) = bytes.split_at(4);
-    Fingerprint::new(Fingerprint::compute_in_pieces(head, &len.to_be_bytes(), tail))
 }

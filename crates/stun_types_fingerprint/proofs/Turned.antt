@@ -1,7 +1,9 @@
 -- Numbers of 32 bits in four bytes and back, and turned twice.
-use Rattle.std.proofs.Common.{◌≡◌, ℕ, ◌^◌, ◌<◌, List, [], length, slice_index, bit_xor, None, sym, ap, ◌∙◌, arith}
+use Rattle.std.proofs.Common.{◌≡◌, ℕ, ◌^◌, ◌<◌, List, [], length, slice_index, bit_xor, None, true, nat_eq, bytes_eq, sym, ap, ◌∙◌, arith, inl, inr}
 use Rattle.std.specs.Int.Bits.{xor_self, xor_assoc, xor_zero_r}
 use Rattle.std.proofs.lemmas.Nat.{be_bytes_4, xor_lt}
+use Rattle.std.proofs.lemmas.Bool.{cases_Bool, eqb-true, eq-eqb, false_from_ne_true, true≢false}
+use Rattle.std.proofs.lemmas.Slice.Eq.{bytes_eq-Decides}
 use Rattle.byteorder.specs.Endian.{big_bytes, big_number}
 use Rattle.byteorder.specs.Numbers.{big_number-reads_back}
 use Rattle.stun_types_write.specs.Adding.{attr_of}
@@ -31,6 +33,18 @@ number_from_turned n small =
 pub same_number : (m n : ℕ) → m < 2 ^ 32 → n < 2 ^ 32 → turned_bytes m ≡ turned_bytes n → m ≡ n
 same_number m n m_small n_small h =
     sym (number_from_turned m m_small) ∙ ap (λ (bytes : List ℕ). bit_xor (big_number 4 bytes) fingerprint_mask) h ∙ number_from_turned n n_small
+
+-- two values are one where their numbers are
+pub same_by_number : (value : List ℕ) (n m : ℕ) → n < 2 ^ 32 → m < 2 ^ 32 → turned_bytes n ≡ value → nat_eq n m ≡ bytes_eq value (turned_bytes m)
+same_by_number value n m n_small m_small value-is =
+    let decides = bytes_eq-Decides value (turned_bytes m) in
+    elim (cases_Bool (nat_eq n m)) [
+      | inl same ↦ same ∙ sym (decides.1 (sym value-is ∙ ap turned_bytes (eqb-true n m same)))
+      | inr other ↦
+          let differ : bytes_eq value (turned_bytes m) ≡ true → ⊥ =
+          λ equal. true≢false (sym (eq-eqb n m (same_number n m n_small m_small (value-is ∙ decides.0 equal))) ∙ other) in
+          other ∙ sym (false_from_ne_true (bytes_eq value (turned_bytes m)) differ)
+    ]
 
 -- four bytes are as many as are wanted
 pub number_is_accepted : (kind n : ℕ) → value_refusal kind 4 4 (attr_of kind (turned_bytes n)) ≡ None

@@ -1,7 +1,8 @@
 //! FINGERPRINT (RFC 8489, section 14.7).
 
-ghost use Rattle.std.specs.Prelude.{◌≡◌, ◌++◌, None, Some, length, bit_xor, MatchResult};
+ghost use Rattle.std.specs.Prelude.{◌≡◌, ◌≤◌, None, Some, length, bit_xor, bytes_eq, MatchResult};
 ghost use Rattle.byteorder.specs.Endian.{big_bytes, big_number};
+ghost use Rattle.stun_types_wire.specs.Covered.{with_length};
 ghost use Rattle.stun_types_wire.specs.Fingerprints.{fingerprint_mask, fingerprint_value};
 ghost use Rattle.stun_types_fingerprint.specs.Fingerprints.{crc_bytes, turned_bytes};
 ghost use Rattle.stun_types_write.specs.Reading.{value_refusal};
@@ -65,6 +66,15 @@ impl Fingerprint {
         (self.crc() ^ MASK).to_be_bytes()
     }
 
+    /// Whether a value of four bytes is the value of this FINGERPRINT.
+    #[tactic(auto, using(crate::proofs::Turned::same_by_number))]
+    pub fn has_value(&self, value: &[u8]) -> bool
+        requires { length value.now ≡ 4 }
+        ensures { result ≡ bytes_eq value.now (turned_bytes self.now) }
+    {
+        turned_number(value) == self.crc()
+    }
+
     /// The CRC-32 as a number.
     fn crc(&self) -> u32
         ensures { result ≡ self.now }
@@ -82,14 +92,16 @@ impl Fingerprint {
         bytes_of_crc(Crc32::checksum(text))
     }
 
-    /// The same of a text that comes in three pieces, as a message does whose length field is to
-    /// read otherwise: what stands before the field, the field, and what stands behind it.
-    #[tactic(auto, unfolding(crate::specs::Fingerprints::crc_bytes, stun_types_wire::specs::Fingerprints::fingerprint_value))]
-    pub fn compute_in_pieces(head: &[u8], middle: &[u8], tail: &[u8]) -> [u8; 4]
-        ensures bytes { result ≡ crc_bytes (head.now ++ middle.now ++ tail.now) }
-        ensures value { turned_bytes (big_number 4 result) ≡ fingerprint_value (head.now ++ middle.now ++ tail.now) }
+    /// The FINGERPRINT of a message, as if its header told this length (RFC 8489, section 14.7).
+    pub fn of_message(bytes: &[u8], len: u16) -> Fingerprint
+        requires { 20 ≤ length bytes.now }
+        ensures { turned_bytes result ≡ fingerprint_value (with_length bytes.now len) }
     {
-        bytes_of_crc(Crc32::of_pieces(head, middle, tail))
+        let [high, low] = len.to_be_bytes();
+        let (_, tail) = bytes.split_at(4);
+        Fingerprint {
+            crc: Crc32::of_pieces([bytes[0], bytes[1], high, low], tail),
+        }
     }
 }
 

@@ -14,9 +14,10 @@ const CRC: [u8; 4] = [216, 45, 250, 14];
 #[test]
 fn crc_of_texts(rt: HostRuntime) {
     assert_eq!(rt; Fingerprint::compute(&[99; 4]), CRC);
+    let message = b"cc??cccccccccccccccccccc";
     assert_eq!(rt;
-        Fingerprint::compute_in_pieces(&[99], &[99, 99], &[99]),
-        CRC
+        Fingerprint::of_message(message, 0x6363).fingerprint(),
+        [0xD0, 0xEE, 0xE7, 0x23]
     );
     assert_eq!(rt;
         Fingerprint::compute(b"123456789"),
@@ -28,6 +29,8 @@ fn crc_of_texts(rt: HostRuntime) {
 fn fingerprint_in_bytes_and_back(rt: HostRuntime) -> Result<(), Fail> {
     let fingerprint = Fingerprint::new(CRC);
     assert_eq!(rt; fingerprint.value(), [0x8B, 0x79, 0xAF, 0x40]);
+    assert!(rt; fingerprint.has_value(&[0x8B, 0x79, 0xAF, 0x40]));
+    assert!(rt; !fingerprint.has_value(&[0x8B, 0x79, 0xAF, 0x41]));
     let raw = fingerprint.to_raw(rt.alloc())?;
     assert_eq!(rt; raw.get_type(), FINGERPRINT);
     assert_eq!(rt; raw.value(), [0x8B, 0x79, 0xAF, 0x40].as_slice());

@@ -1,14 +1,11 @@
 -- The FINGERPRINT at the front of the rest of a message, in the names of the code.
-use Rattle.std.proofs.Common.{◌≡◌, ℕ, ◌+◌, ◌-◌, ◌≤◌, false, bytes_eq, List, [], ◌∷◌, ◌++◌, length, take, drop, refl, sym, ap, ◌∙◌, arith, inl, inr}
+use Rattle.std.proofs.Common.{◌≡◌, ℕ, ◌+◌, ◌-◌, ◌≤◌, false, bytes_eq, List, [], ◌∷◌, length, take, drop, refl, sym, ap, ◌∙◌, arith, inl, inr}
 use Rattle.std.proofs.lemmas.Bool.{cases_Bool}
 use Rattle.std.proofs.lemmas.List.{length-drop, length-take}
 use Rattle.std.proofs.lemmas.Slice.Eq.{bytes_eq-Decides}
-use Rattle.byteorder.specs.Endian.{big_bytes}
 use Rattle.stun_types_wire.specs.Attributes.{attr_at, length_at, size_at, padded}
-use Rattle.stun_types_wire.specs.Covered.{covered_text}
+use Rattle.stun_types_wire.specs.Covered.{covered_text, with_length}
 use Rattle.stun_types_wire.specs.Fingerprints.{fingerprint_value}
-use Rattle.stun_types_message.specs.Validation.{StandsAt}
-use Rattle.stun_types_message.proofs.Validating.{covered_pieces}
 
 -- a whole value has the length that its header tells
 value_length : (rest : List ℕ) → size_at rest ≤ length rest → length (attr_at rest).value ≡ length_at rest
@@ -40,18 +37,14 @@ pub value_of_four : (rest attribute value : List ℕ) → length_at rest ≡ 4 �
 value_of_four rest attribute value four attribute-is value-is =
     value-is ∙ ap (drop 4) attribute-is ∙ four_behind rest ∙ ap (λ n. take n (drop 4 rest)) (sym four)
 
--- the pieces of what a FINGERPRINT covers
-pub covered_by_four : (bytes rest front head behind tail told : List ℕ) (n : ℕ) → length_at rest ≡ 4 → size_at rest ≤ length rest → 20 + length rest ≤ length bytes → drop (length bytes - length rest) bytes ≡ rest
-    → front ≡ take (length bytes - length rest) bytes → head ≡ take 2 front → behind ≡ drop 2 front → tail ≡ drop 2 behind → told ≡ big_bytes 2 n → n ≡ length bytes - length rest + 8 - 20
-    → head ++ told ++ tail ≡ covered_text bytes (length bytes - length rest)
-covered_by_four bytes rest front head behind tail told n four whole within stands front-is head-is behind-is tail-is told-is n-is =
+-- what a FINGERPRINT covers: what stands before it, as if its length reached through it
+pub covered_by_four : (bytes rest front : List ℕ) (n : ℕ) → length_at rest ≡ 4 → drop (length bytes - length rest) bytes ≡ rest → front ≡ take (length bytes - length rest) bytes
+    → 20 + length rest ≤ length bytes → n ≡ length bytes - length rest + 8 - 20
+    → with_length front n ≡ covered_text bytes (length bytes - length rest)
+unfolding covered_text
+covered_by_four bytes rest front n four stands front-is within n-is =
     let offset = length bytes - length rest in
-    let value = (attr_at rest).value in
-    let len : length value ≡ 4 = value_length rest whole ∙ four in
     let size : size_at rest ≡ 8 = ap (λ m. 4 + padded m) four in
-    let there : StandsAt bytes offset value = record {
-      behind_header = omega (arith, within);
-      whole = omega (arith, len, size, whole, within);
-      size = ap (λ m. 4 + padded m) len ∙ sym size ∙ ap size_at (sym stands);
-    } in
-    covered_pieces bytes front head behind tail told offset n value there front-is head-is behind-is tail-is told-is (omega (arith, n-is, len, within))
+    let there : size_at (drop offset bytes) ≡ 8 = ap size_at stands ∙ size in
+    let told : n ≡ offset - 20 + size_at (drop offset bytes) = omega (arith, n-is, there, within) in
+    rw (front-is, told) refl

@@ -44,11 +44,9 @@ fn has_value(bytes: &[u8], rest: &[u8], len: usize) -> bool
     }
     let offset = bytes.len() - rest.len();
     let (front, _) = bytes.split_at(offset);
-    let (head, behind_type) = front.split_at(2);
-    let (_, tail) = behind_type.split_at(2);
-    let told = ((offset + SIZE - MessageHeader::LENGTH) as u16).to_be_bytes();
-    let own = Fingerprint::new(Fingerprint::compute_in_pieces(head, &told, tail)).value();
+    let told = (offset + SIZE - MessageHeader::LENGTH) as u16;
+    let own = Fingerprint::of_message(front, told);
     let (attribute, _) = rest.split_at(SIZE);
     let (_, value) = attribute.split_at(4);
-    value == own.as_slice()
+    own.has_value(value)
 }

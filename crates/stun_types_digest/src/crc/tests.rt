@@ -7,7 +7,7 @@ use crate::crc::{Crc32, bitwise};
 fn check_value(rt: HostRuntime) {
     assert_eq!(rt; Crc32::checksum(b"123456789"), 0xcbf4_3926);
     assert_eq!(rt; bitwise::checksum(b"123456789"), 0xcbf4_3926);
-    assert_eq!(rt; Crc32::of_pieces(b"1", b"23", b"456789"), 0xcbf4_3926);
+    assert_eq!(rt; Crc32::of_pieces(*b"1234", b"56789"), 0xcbf4_3926);
 }
 
 #[test]
@@ -42,5 +42,5 @@ fn four_bytes_of_a_fingerprint(rt: HostRuntime) {
 fn empty_text(rt: HostRuntime) {
     assert_eq!(rt; Crc32::checksum(b""), 0);
     assert_eq!(rt; bitwise::checksum(b""), 0);
-    assert_eq!(rt; Crc32::of_pieces(b"", b"", b""), 0);
+    assert_eq!(rt; Crc32::of_pieces([0; 4], b""), 0x2144_df1c);
 }

@@ -10,13 +10,13 @@ pub set_length-requires : goal.set_length-requires
 set_length-requires g c = pushed_long _ _ _ c.requires.begun c.in_ok-push_as.ensures.ok
 
 -- what was pushed and told, and of what the CRC-32 was made
-pushed : (g : _) (c : goal.After-set_length g) → IsMarked (g.W.MessageWrite.written c.args.writer.now) (g.W.MessageWrite.written c.push_as.new.writer) (g.W.MessageWrite.written c.set_length.new.self) c.in_ok-end.end (turned_bytes c.fingerprint_told-fingerprint.result)
+pushed : (g : _) (c : goal.After-set_length g) → IsMarked (g.W.MessageWrite.written c.args.writer.now) (g.W.MessageWrite.written c.push_as.new.writer) (g.W.MessageWrite.written c.set_length.new.self) c.in_ok-end.end (turned_bytes c.of_message-fingerprint.result)
 pushed g c = record {
   begun = c.requires.begun;
   push = c.in_ok-push_as.ensures.ok;
   ends = c.in_ok-end.ensures.end;
   fits = c.in_ok-end.ensures.fits;
-  digest = c.fingerprint_told-fingerprint.ensures ∙ ap (λ (l : List ℕ). fingerprint_value (with_length l (c.in_ok-end.end - 20))) c.data.ensures;
+  digest = c.of_message-fingerprint.ensures ∙ ap (λ (l : List ℕ). fingerprint_value (with_length l (c.in_ok-end.end - 20))) c.data.ensures;
   told = c.set_length.ensures.bytes;
 }
 
