@@ -93,8 +93,8 @@ impl MappedSocketAddr {
     /// The value as an attribute of a type. Where memory is refused, `NoMemory`.
     pub fn to_raw<'b>(
         &self,
-        atype: AttributeType,
         alloc: Global,
+        atype: AttributeType,
     ) -> Result<RawAttribute<'b>, NoMemory>
         ensures { IfOk result (λ raw. raw ≡ attr_of atype.0 self.now) }
     {
@@ -216,12 +216,12 @@ impl XorSocketAddr {
     /// The value as an attribute of a type. Where memory is refused, `NoMemory`.
     pub fn to_raw<'b>(
         &self,
-        atype: AttributeType,
         alloc: Global,
+        atype: AttributeType,
     ) -> Result<RawAttribute<'b>, NoMemory>
         ensures { IfOk result (λ raw. raw ≡ attr_of atype.0 self.now) }
     {
-        self.masked.to_raw(atype, alloc)
+        self.masked.to_raw(alloc, atype)
     }
 
     /// Writes an attribute of this type and value to the front of bytes that are enough, padding

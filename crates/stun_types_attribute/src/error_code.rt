@@ -253,7 +253,7 @@ impl<'a> AttributeFromRaw<'a> for ErrorCode {
     ghost read_value = { λ value. error_value (error_told value) };
 
     #[tactic(auto, unfolding(crate::specs::Reading::error_read_refusal))]
-    fn from_raw_ref(raw: &RawAttribute<'_>, alloc: Global) -> Result<ErrorCode, StunParseError> {
+    fn from_raw_ref(alloc: Global, raw: &RawAttribute<'_>) -> Result<ErrorCode, StunParseError> {
         let value = value_of(raw, ErrorCode::TYPE, 4, 4 + ErrorCode::MAX_REASON_LEN)?;
         let (code, reason) = read_code(value)?;
         Ok(ErrorCode {
@@ -262,8 +262,8 @@ impl<'a> AttributeFromRaw<'a> for ErrorCode {
         })
     }
 
-    fn from_raw(raw: RawAttribute<'a>, alloc: Global) -> Result<ErrorCode, StunParseError> {
-        ErrorCode::from_raw_ref(&raw, alloc)
+    fn from_raw(alloc: Global, raw: RawAttribute<'a>) -> Result<ErrorCode, StunParseError> {
+        ErrorCode::from_raw_ref(alloc, &raw)
     }
 
     #[tactic(auto, using(crate::proofs::Codes::error_is_accepted, crate::proofs::Codes::told_again, crate::proofs::Codes::same_error))]

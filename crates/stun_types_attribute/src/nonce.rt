@@ -103,15 +103,15 @@ impl<'a> AttributeFromRaw<'a> for Nonce {
 
     ghost read_value = { λ value. value };
 
-    fn from_raw_ref(raw: &RawAttribute<'_>, alloc: Global) -> Result<Nonce, StunParseError> {
+    fn from_raw_ref(alloc: Global, raw: &RawAttribute<'_>) -> Result<Nonce, StunParseError> {
         let text = text_of(raw, Nonce::TYPE, Nonce::MAX_LEN)?;
         Ok(Nonce {
             nonce: String::from_str(alloc, text)?,
         })
     }
 
-    fn from_raw(raw: RawAttribute<'a>, alloc: Global) -> Result<Nonce, StunParseError> {
-        Nonce::from_raw_ref(&raw, alloc)
+    fn from_raw(alloc: Global, raw: RawAttribute<'a>) -> Result<Nonce, StunParseError> {
+        Nonce::from_raw_ref(alloc, &raw)
     }
 
     fn is_read_back(&self, _read: &Nonce) {

@@ -103,15 +103,15 @@ impl<'a> AttributeFromRaw<'a> for Realm {
 
     ghost read_value = { λ value. value };
 
-    fn from_raw_ref(raw: &RawAttribute<'_>, alloc: Global) -> Result<Realm, StunParseError> {
+    fn from_raw_ref(alloc: Global, raw: &RawAttribute<'_>) -> Result<Realm, StunParseError> {
         let text = text_of(raw, Realm::TYPE, Realm::MAX_LEN)?;
         Ok(Realm {
             realm: String::from_str(alloc, text)?,
         })
     }
 
-    fn from_raw(raw: RawAttribute<'a>, alloc: Global) -> Result<Realm, StunParseError> {
-        Realm::from_raw_ref(&raw, alloc)
+    fn from_raw(alloc: Global, raw: RawAttribute<'a>) -> Result<Realm, StunParseError> {
+        Realm::from_raw_ref(alloc, &raw)
     }
 
     fn is_read_back(&self, _read: &Realm) {

@@ -102,15 +102,15 @@ impl<'a> AttributeFromRaw<'a> for Username {
 
     ghost read_value = { λ value. value };
 
-    fn from_raw_ref(raw: &RawAttribute<'_>, alloc: Global) -> Result<Username, StunParseError> {
+    fn from_raw_ref(alloc: Global, raw: &RawAttribute<'_>) -> Result<Username, StunParseError> {
         let text = text_of(raw, Username::TYPE, Username::MAX_LEN)?;
         Ok(Username {
             username: String::from_str(alloc, text)?,
         })
     }
 
-    fn from_raw(raw: RawAttribute<'a>, alloc: Global) -> Result<Username, StunParseError> {
-        Username::from_raw_ref(&raw, alloc)
+    fn from_raw(alloc: Global, raw: RawAttribute<'a>) -> Result<Username, StunParseError> {
+        Username::from_raw_ref(alloc, &raw)
     }
 
     fn is_read_back(&self, _read: &Username) {

@@ -77,7 +77,7 @@ impl AttributeWrite for XorMappedAddress {
     }
 
     fn to_raw(&self, alloc: Global) -> Result<RawAttribute<'_>, NoMemory> {
-        self.addr.to_raw(XorMappedAddress::TYPE, alloc)
+        self.addr.to_raw(alloc, XorMappedAddress::TYPE)
     }
 }
 
@@ -107,15 +107,15 @@ impl<'a> AttributeFromRaw<'a> for XorMappedAddress {
     ghost read_value = { address_again };
 
     fn from_raw_ref(
-        raw: &RawAttribute<'_>,
         _alloc: Global,
+        raw: &RawAttribute<'_>,
     ) -> Result<XorMappedAddress, StunParseError> {
         let addr = XorSocketAddr::from_raw_of_type(raw, XorMappedAddress::TYPE)?;
         Ok(XorMappedAddress { addr })
     }
 
-    fn from_raw(raw: RawAttribute<'a>, alloc: Global) -> Result<XorMappedAddress, StunParseError> {
-        XorMappedAddress::from_raw_ref(&raw, alloc)
+    fn from_raw(alloc: Global, raw: RawAttribute<'a>) -> Result<XorMappedAddress, StunParseError> {
+        XorMappedAddress::from_raw_ref(alloc, &raw)
     }
 
     fn is_read_back(&self, _read: &XorMappedAddress) {

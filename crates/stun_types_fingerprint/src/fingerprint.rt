@@ -166,13 +166,13 @@ impl<'a> AttributeFromRaw<'a> for Fingerprint {
 
     ghost read_value = { λ value. value };
 
-    fn from_raw_ref(raw: &RawAttribute<'_>, _alloc: Global) -> Result<Fingerprint, StunParseError> {
+    fn from_raw_ref(_alloc: Global, raw: &RawAttribute<'_>) -> Result<Fingerprint, StunParseError> {
         let crc = crc_of(raw)?;
         Ok(Fingerprint { crc })
     }
 
-    fn from_raw(raw: RawAttribute<'a>, alloc: Global) -> Result<Fingerprint, StunParseError> {
-        Fingerprint::from_raw_ref(&raw, alloc)
+    fn from_raw(alloc: Global, raw: RawAttribute<'a>) -> Result<Fingerprint, StunParseError> {
+        Fingerprint::from_raw_ref(alloc, &raw)
     }
 
     #[tactic(auto, using(crate::proofs::Turned::number_is_accepted, crate::proofs::Turned::same_number))]

@@ -36,7 +36,7 @@ fn fingerprint_in_bytes_and_back(rt: HostRuntime) -> Result<(), Fail> {
     assert_eq!(rt; raw.value(), [0x8B, 0x79, 0xAF, 0x40].as_slice());
     assert_eq!(rt; Fingerprint::try_from(&raw)?.fingerprint(), CRC);
     assert_eq!(rt;
-        written_and_read(&fingerprint, rt.alloc())?.fingerprint(),
+        written_and_read(rt.alloc(), &fingerprint)?.fingerprint(),
         CRC
     );
     let mut written = [9; 9];
@@ -44,7 +44,7 @@ fn fingerprint_in_bytes_and_back(rt: HostRuntime) -> Result<(), Fail> {
     assert_eq!(rt; written, [0x80, 0x28, 0, 4, 0x8B, 0x79, 0xAF, 0x40, 9]);
     let mask = RawAttribute::new(FINGERPRINT, b"STUN");
     assert_eq!(rt;
-        Fingerprint::from_raw(mask, rt.alloc())?.fingerprint(),
+        Fingerprint::from_raw(rt.alloc(), mask)?.fingerprint(),
         [0; 4]
     );
     Ok(())
@@ -76,6 +76,6 @@ fn values_that_are_none(rt: HostRuntime) {
     for (atype, len, refusal) in cases {
         let raw = RawAttribute::new(AttributeType(atype), &five[..len]);
         assert_eq!(rt; Fingerprint::try_from(&raw).err(), Some(refusal));
-        assert_eq!(rt; Fingerprint::from_raw(raw, rt.alloc()).err(), Some(refusal));
+        assert_eq!(rt; Fingerprint::from_raw(rt.alloc(), raw).err(), Some(refusal));
     }
 }

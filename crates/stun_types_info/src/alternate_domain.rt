@@ -105,8 +105,8 @@ impl<'a> AttributeFromRaw<'a> for AlternateDomain {
     ghost read_value = { λ value. value };
 
     fn from_raw_ref(
-        raw: &RawAttribute<'_>,
         alloc: Global,
+        raw: &RawAttribute<'_>,
     ) -> Result<AlternateDomain, StunParseError> {
         let text = text_of(raw, AlternateDomain::TYPE, AlternateDomain::MAX_LEN)?;
         Ok(AlternateDomain {
@@ -114,8 +114,8 @@ impl<'a> AttributeFromRaw<'a> for AlternateDomain {
         })
     }
 
-    fn from_raw(raw: RawAttribute<'a>, alloc: Global) -> Result<AlternateDomain, StunParseError> {
-        AlternateDomain::from_raw_ref(&raw, alloc)
+    fn from_raw(alloc: Global, raw: RawAttribute<'a>) -> Result<AlternateDomain, StunParseError> {
+        AlternateDomain::from_raw_ref(alloc, &raw)
     }
 
     fn is_read_back(&self, _read: &AlternateDomain) {

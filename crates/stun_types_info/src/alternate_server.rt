@@ -75,7 +75,7 @@ impl AttributeWrite for AlternateServer {
     }
 
     fn to_raw(&self, alloc: Global) -> Result<RawAttribute<'_>, NoMemory> {
-        self.addr.to_raw(AlternateServer::TYPE, alloc)
+        self.addr.to_raw(alloc, AlternateServer::TYPE)
     }
 }
 
@@ -106,15 +106,15 @@ impl<'a> AttributeFromRaw<'a> for AlternateServer {
     ghost read_value = { address_again };
 
     fn from_raw_ref(
-        raw: &RawAttribute<'_>,
         _alloc: Global,
+        raw: &RawAttribute<'_>,
     ) -> Result<AlternateServer, StunParseError> {
         let addr = MappedSocketAddr::from_raw_of_type(raw, AlternateServer::TYPE)?;
         Ok(AlternateServer { addr })
     }
 
-    fn from_raw(raw: RawAttribute<'a>, alloc: Global) -> Result<AlternateServer, StunParseError> {
-        AlternateServer::from_raw_ref(&raw, alloc)
+    fn from_raw(alloc: Global, raw: RawAttribute<'a>) -> Result<AlternateServer, StunParseError> {
+        AlternateServer::from_raw_ref(alloc, &raw)
     }
 
     fn is_read_back(&self, _read: &AlternateServer) {

@@ -104,15 +104,15 @@ impl<'a> AttributeFromRaw<'a> for Software {
 
     ghost read_value = { λ value. value };
 
-    fn from_raw_ref(raw: &RawAttribute<'_>, alloc: Global) -> Result<Software, StunParseError> {
+    fn from_raw_ref(alloc: Global, raw: &RawAttribute<'_>) -> Result<Software, StunParseError> {
         let text = text_of(raw, Software::TYPE, Software::MAX_LEN)?;
         Ok(Software {
             software: String::from_str(alloc, text)?,
         })
     }
 
-    fn from_raw(raw: RawAttribute<'a>, alloc: Global) -> Result<Software, StunParseError> {
-        Software::from_raw_ref(&raw, alloc)
+    fn from_raw(alloc: Global, raw: RawAttribute<'a>) -> Result<Software, StunParseError> {
+        Software::from_raw_ref(alloc, &raw)
     }
 
     fn is_read_back(&self, _read: &Software) {

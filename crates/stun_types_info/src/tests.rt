@@ -29,12 +29,12 @@ fn texts_in_bytes_and_back(rt: HostRuntime) -> Result<(), Fail> {
     let raw = software.to_raw(rt.alloc())?;
     assert_eq!(rt; raw.get_type(), SOFTWARE);
     assert_eq!(rt; raw.value(), [0x64, 0x65, 0x73, 0x6B].as_slice());
-    assert_eq!(rt; written_and_read(&software, rt.alloc())?.software(), "desk");
+    assert_eq!(rt; written_and_read(rt.alloc(), &software)?.software(), "desk");
     let domain = AlternateDomain::new(rt.alloc(), "a.b")?;
     let raw = domain.to_raw(rt.alloc())?;
     assert_eq!(rt; raw.get_type(), ALTERNATE_DOMAIN);
     assert_eq!(rt; raw.value(), [0x61, 0x2E, 0x62].as_slice());
-    assert_eq!(rt; written_and_read(&domain, rt.alloc())?.domain(), "a.b");
+    assert_eq!(rt; written_and_read(rt.alloc(), &domain)?.domain(), "a.b");
     let mut written = [9; 9];
     assert_eq!(rt; domain.write_into(&mut written)?, 8);
     assert_eq!(rt; written, [0x80, 0x03, 0, 3, 0x61, 0x2E, 0x62, 0, 9]);
@@ -49,7 +49,7 @@ fn server_in_bytes_and_back(rt: HostRuntime) -> Result<(), Fail> {
     assert_eq!(rt; raw.get_type(), ALTERNATE_SERVER);
     assert_eq!(rt; raw.value(), &SERVER[..8]);
     assert_eq!(rt; AlternateServer::try_from(&raw)?.server(), addr);
-    assert_eq!(rt; written_and_read(&server, rt.alloc())?.server(), addr);
+    assert_eq!(rt; written_and_read(rt.alloc(), &server)?.server(), addr);
     Ok(())
 }
 
@@ -69,7 +69,7 @@ fn types_are_added(rt: HostRuntime) -> Result<(), Fail> {
     unknown.add_attribute(AttributeType(0x0017))?;
     unknown.add_attribute(AttributeType(0x1700))?;
     assert!(rt; unknown.has_attribute(AttributeType(0x1700)));
-    let read = written_and_read(&unknown, rt.alloc())?;
+    let read = written_and_read(rt.alloc(), &unknown)?;
     assert!(rt; read.has_attribute(AttributeType(0x0017)));
     let mut written = [9; 9];
     assert_eq!(rt; read.write_into(&mut written)?, 8);
@@ -117,12 +117,12 @@ fn texts_and_types_that_are_none(rt: HostRuntime) {
     ];
     for (atype, value, software, domain, unknown) in cases {
         let raw = RawAttribute::new(atype, value);
-        assert_eq!(rt; Software::from_raw_ref(&raw, rt.alloc()).err(), software);
+        assert_eq!(rt; Software::from_raw_ref(rt.alloc(), &raw).err(), software);
         assert_eq!(rt;
-            AlternateDomain::from_raw_ref(&raw, rt.alloc()).err(),
+            AlternateDomain::from_raw_ref(rt.alloc(), &raw).err(),
             domain
         );
-        let read = UnknownAttributes::from_raw_ref(&raw, rt.alloc());
+        let read = UnknownAttributes::from_raw_ref(rt.alloc(), &raw);
         assert_eq!(rt; read.err(), unknown);
     }
 }

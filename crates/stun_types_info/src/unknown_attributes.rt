@@ -143,8 +143,8 @@ impl<'a> AttributeFromRaw<'a> for UnknownAttributes {
     ghost read_value = { λ value. value };
 
     fn from_raw_ref(
-        raw: &RawAttribute<'_>,
         alloc: Global,
+        raw: &RawAttribute<'_>,
     ) -> Result<UnknownAttributes, StunParseError> {
         let value = even_value_of(raw)?;
         Ok(UnknownAttributes {
@@ -152,8 +152,8 @@ impl<'a> AttributeFromRaw<'a> for UnknownAttributes {
         })
     }
 
-    fn from_raw(raw: RawAttribute<'a>, alloc: Global) -> Result<UnknownAttributes, StunParseError> {
-        UnknownAttributes::from_raw_ref(&raw, alloc)
+    fn from_raw(alloc: Global, raw: RawAttribute<'a>) -> Result<UnknownAttributes, StunParseError> {
+        UnknownAttributes::from_raw_ref(alloc, &raw)
     }
 
     #[tactic(auto, using(crate::proofs::TypeLists::types_are_accepted, crate::proofs::TypeLists::same_types))]

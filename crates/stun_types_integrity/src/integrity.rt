@@ -161,14 +161,14 @@ impl<'a> AttributeFromRaw<'a> for MessageIntegrity {
     ghost read_value = { λ value. value };
 
     fn from_raw_ref(
-        raw: &RawAttribute<'_>,
         _alloc: Global,
+        raw: &RawAttribute<'_>,
     ) -> Result<MessageIntegrity, StunParseError> {
         MessageIntegrity::try_from(raw)
     }
 
-    fn from_raw(raw: RawAttribute<'a>, alloc: Global) -> Result<MessageIntegrity, StunParseError> {
-        MessageIntegrity::from_raw_ref(&raw, alloc)
+    fn from_raw(alloc: Global, raw: RawAttribute<'a>) -> Result<MessageIntegrity, StunParseError> {
+        MessageIntegrity::from_raw_ref(alloc, &raw)
     }
 
     fn is_read_back(&self, _read: &MessageIntegrity) {

@@ -174,17 +174,17 @@ impl<'a> AttributeFromRaw<'a> for MessageIntegritySha256 {
     ghost read_value = { λ value. value };
 
     fn from_raw_ref(
-        raw: &RawAttribute<'_>,
         _alloc: Global,
+        raw: &RawAttribute<'_>,
     ) -> Result<MessageIntegritySha256, StunParseError> {
         MessageIntegritySha256::try_from(raw)
     }
 
     fn from_raw(
-        raw: RawAttribute<'a>,
         alloc: Global,
+        raw: RawAttribute<'a>,
     ) -> Result<MessageIntegritySha256, StunParseError> {
-        MessageIntegritySha256::from_raw_ref(&raw, alloc)
+        MessageIntegritySha256::from_raw_ref(alloc, &raw)
     }
 
     #[tactic(auto, using(crate::proofs::Sha256Values::lawful_is_accepted))]

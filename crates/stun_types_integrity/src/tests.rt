@@ -89,7 +89,7 @@ fn hmacs_are_written_and_read(rt: HostRuntime) -> Result<(), Fail> {
     assert_eq!(rt; raw.value(), HMAC_OF_TENS.as_slice());
     let read = MessageIntegrity::try_from(&raw)?;
     assert_eq!(rt; *read.hmac(), HMAC_OF_TENS);
-    let read = MessageIntegrity::from_raw(raw, rt.alloc())?;
+    let read = MessageIntegrity::from_raw(rt.alloc(), raw)?;
     assert_eq!(rt; *read.hmac(), HMAC_OF_TENS);
     let long = [9; 21];
     for (atype, len, refusal) in [
@@ -114,7 +114,7 @@ fn hmacs_are_written_and_read(rt: HostRuntime) -> Result<(), Fail> {
         let raw = RawAttribute::new(AttributeType(atype), &long[..len]);
         assert_eq!(rt; MessageIntegrity::try_from(&raw).err(), Some(refusal));
         assert_eq!(rt;
-            MessageIntegrity::from_raw(raw, rt.alloc()).err(),
+            MessageIntegrity::from_raw(rt.alloc(), raw).err(),
             Some(refusal)
         );
     }

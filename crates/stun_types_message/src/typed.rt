@@ -22,7 +22,7 @@ impl<'a> Message<'a> {
     {
         match self.raw_attribute(A::TYPE) {
             None => Err(StunParseError::MissingAttribute(A::TYPE)),
-            Some(raw) => A::from_raw(raw, alloc),
+            Some(raw) => A::from_raw(alloc, raw),
         }
     }
 
@@ -38,7 +38,7 @@ impl<'a> Message<'a> {
     {
         match self.nth_of_type(A::TYPE, n) {
             None => Err(StunParseError::MissingAttribute(A::TYPE)),
-            Some(raw) => A::from_raw(raw, alloc),
+            Some(raw) => A::from_raw(alloc, raw),
         }
     }
 

@@ -109,15 +109,15 @@ impl<'a> AttributeFromRaw<'a> for PasswordAlgorithm {
     ghost read_value = { λ value. entry (number_told value) };
 
     fn from_raw_ref(
-        raw: &RawAttribute<'_>,
         _alloc: Global,
+        raw: &RawAttribute<'_>,
     ) -> Result<PasswordAlgorithm, StunParseError> {
         let algorithm = algorithm_of(raw)?;
         Ok(PasswordAlgorithm { algorithm })
     }
 
-    fn from_raw(raw: RawAttribute<'a>, alloc: Global) -> Result<PasswordAlgorithm, StunParseError> {
-        PasswordAlgorithm::from_raw_ref(&raw, alloc)
+    fn from_raw(alloc: Global, raw: RawAttribute<'a>) -> Result<PasswordAlgorithm, StunParseError> {
+        PasswordAlgorithm::from_raw_ref(alloc, &raw)
     }
 
     #[tactic(auto, using(crate::proofs::Algorithms::algorithm_is_accepted, crate::proofs::Algorithms::told_again, crate::proofs::Algorithms::same_algorithm))]

@@ -159,8 +159,8 @@ impl<'a> AttributeFromRaw<'a> for PasswordAlgorithms {
     ghost written_refusal = { none_told_refusal };
 
     fn from_raw_ref(
-        raw: &RawAttribute<'_>,
         alloc: Global,
+        raw: &RawAttribute<'_>,
     ) -> Result<PasswordAlgorithms, StunParseError> {
         let value = entries_of(raw)?;
         let algorithms = algorithms_of(alloc, value)?;
@@ -168,10 +168,10 @@ impl<'a> AttributeFromRaw<'a> for PasswordAlgorithms {
     }
 
     fn from_raw(
-        raw: RawAttribute<'a>,
         alloc: Global,
+        raw: RawAttribute<'a>,
     ) -> Result<PasswordAlgorithms, StunParseError> {
-        PasswordAlgorithms::from_raw_ref(&raw, alloc)
+        PasswordAlgorithms::from_raw_ref(alloc, &raw)
     }
 
     #[tactic(auto, using(crate::proofs::Lists::algorithms_are_accepted, crate::proofs::Lists::told_again, crate::proofs::Lists::same_algorithms))]

@@ -57,9 +57,9 @@ fn one_algorithm_in_bytes_and_back(rt: HostRuntime) -> Result<(), Fail> {
     assert_eq!(rt; raw.get_type(), PASSWORD_ALGORITHM);
     assert_eq!(rt; raw.value(), [0, 2, 0, 0].as_slice());
     assert_eq!(rt; PasswordAlgorithm::try_from(&raw)?.algorithm(), SHA256);
-    assert_eq!(rt; written_and_read(&chosen, rt.alloc())?.algorithm(), SHA256);
+    assert_eq!(rt; written_and_read(rt.alloc(), &chosen)?.algorithm(), SHA256);
     let parameters = RawAttribute::new(PASSWORD_ALGORITHM, &[0, 1, 0xFF, 4]);
-    let read = PasswordAlgorithm::from_raw(parameters, rt.alloc())?;
+    let read = PasswordAlgorithm::from_raw(rt.alloc(), parameters)?;
     assert_eq!(rt; read.algorithm(), MD5);
     let mut written = [9; 9];
     assert_eq!(rt; read.write_into(&mut written)?, 8);
@@ -73,13 +73,13 @@ fn algorithms_in_bytes_and_back(rt: HostRuntime) -> Result<(), Fail> {
     let raw = both.to_raw(rt.alloc())?;
     assert_eq!(rt; raw.get_type(), PASSWORD_ALGORITHMS);
     assert_eq!(rt; raw.value(), [0, 2, 0, 0, 0, 1, 0, 0].as_slice());
-    let read = written_and_read(&both, rt.alloc())?;
+    let read = written_and_read(rt.alloc(), &both)?;
     assert_eq!(rt; read.algorithms(), [SHA256, MD5].as_slice());
     let mut written = [9; 13];
     assert_eq!(rt; read.write_into(&mut written)?, 12);
     assert_eq!(rt; written, [0x80, 2, 0, 8, 0, 2, 0, 0, 0, 1, 0, 0, 9]);
     let parameters = RawAttribute::new(PASSWORD_ALGORITHMS, &[0, 1, 0, 4, 0, 1, 1, 0]);
-    let read = PasswordAlgorithms::from_raw(parameters, rt.alloc())?;
+    let read = PasswordAlgorithms::from_raw(rt.alloc(), parameters)?;
     assert_eq!(rt; read.algorithms(), [MD5, MD5].as_slice());
     Ok(())
 }
@@ -91,10 +91,10 @@ fn none_and_nine_algorithms(rt: HostRuntime) -> Result<(), Fail> {
         expected: 4,
         actual: 0,
     };
-    assert_eq!(rt; written_and_read(&none, rt.alloc()).err(), Some(short));
+    assert_eq!(rt; written_and_read(rt.alloc(), &none).err(), Some(short));
     let nine = [MD5; 9];
     let eight = PasswordAlgorithms::new(rt.alloc(), &nine[1..])?;
-    let read = written_and_read(&eight, rt.alloc())?;
+    let read = written_and_read(rt.alloc(), &eight)?;
     assert_eq!(rt; read.algorithms(), &nine[1..]);
     let long = StunWriteError::TooLarge {
         expected: 32,
@@ -115,7 +115,7 @@ fn hashes_in_bytes_and_back(rt: HostRuntime) -> Result<(), Fail> {
     assert_eq!(rt; raw.get_type(), USERHASH);
     assert_eq!(rt; raw.value(), HASH.as_slice());
     assert_eq!(rt; *Userhash::try_from(&raw)?.hash(), HASH);
-    assert_eq!(rt; *written_and_read(&user, rt.alloc())?.hash(), HASH);
+    assert_eq!(rt; *written_and_read(rt.alloc(), &user)?.hash(), HASH);
     let mut written = [9; 37];
     assert_eq!(rt; user.write_into(&mut written)?, 36);
     assert_eq!(rt; &written[..4], [0, 0x1E, 0, 32].as_slice());
@@ -153,7 +153,7 @@ fn values_that_are_no_password_algorithms(rt: HostRuntime) {
     ];
     for (atype, value, expected) in cases {
         let raw = RawAttribute::new(atype, value);
-        let read = PasswordAlgorithms::from_raw_ref(&raw, rt.alloc());
+        let read = PasswordAlgorithms::from_raw_ref(rt.alloc(), &raw);
         assert_eq!(rt; read.err(), expected);
     }
 }

@@ -122,12 +122,12 @@ impl<'a> AttributeFromRaw<'a> for Userhash {
 
     ghost read_value = { λ value. value };
 
-    fn from_raw_ref(raw: &RawAttribute<'_>, _alloc: Global) -> Result<Userhash, StunParseError> {
+    fn from_raw_ref(_alloc: Global, raw: &RawAttribute<'_>) -> Result<Userhash, StunParseError> {
         Userhash::try_from(raw)
     }
 
-    fn from_raw(raw: RawAttribute<'a>, alloc: Global) -> Result<Userhash, StunParseError> {
-        Userhash::from_raw_ref(&raw, alloc)
+    fn from_raw(alloc: Global, raw: RawAttribute<'a>) -> Result<Userhash, StunParseError> {
+        Userhash::from_raw_ref(alloc, &raw)
     }
 
     #[tactic(auto, using(stun_types_write::proofs::Values::value_is_accepted))]

@@ -122,12 +122,12 @@ pub trait AttributeFromRaw<'a>: Attribute {
     /// where it is another type, `Truncated` where the value is too short, `TooLarge` where it is too
     /// long, `InvalidAttributeData` where it is no value of this type; where memory is refused,
     /// `NoMemory`.
-    fn from_raw_ref(raw: &RawAttribute<'_>, alloc: Global) -> Result<Self, StunParseError>
+    fn from_raw_ref(alloc: Global, raw: &RawAttribute<'_>) -> Result<Self, StunParseError>
         ensures ok { IfOk result (λ read. (read_refusal raw.now ≡ None) × (Self.kind read ≡ raw.now.kind) × (Self.value read ≡ read_value raw.now.value)) }
         ensures refused { IfErr result (λ error. error ≢ StunParseError.NoMemory → read_refusal raw.now ≡ Some error) };
 
     /// The same, of an attribute that is given away.
-    fn from_raw(raw: RawAttribute<'a>, alloc: Global) -> Result<Self, StunParseError>
+    fn from_raw(alloc: Global, raw: RawAttribute<'a>) -> Result<Self, StunParseError>
         ensures ok { IfOk result (λ read. (read_refusal raw.entry ≡ None) × (Self.kind read ≡ raw.entry.kind) × (Self.value read ≡ read_value raw.entry.value)) }
         ensures refused { IfErr result (λ error. error ≢ StunParseError.NoMemory → read_refusal raw.entry ≡ Some error) };
 
@@ -142,15 +142,15 @@ pub trait AttributeFromRaw<'a>: Attribute {
 /// What an attribute writes, read again: the same attribute. Refused where memory is, with `NoMemory`,
 /// and for no other cause, but where the attribute itself is one that is made and not read.
 pub fn written_and_read<'a, A: AttributeWrite + AttributeFromRaw<'a>>(
-    attribute: &A,
     alloc: Global,
+    attribute: &A,
 ) -> Result<A, StunParseError>
     ensures ok { IfOk result (λ read. (read ≡ attribute.now) × (A.written_refusal attribute.now ≡ None)) }
     ensures refused { IfErr result (λ error. error ≢ StunParseError.NoMemory → A.written_refusal attribute.now ≡ Some error) }
 {
     attribute.is_read_back(attribute);
     let raw = attribute.to_raw(alloc)?;
-    let read = A::from_raw_ref(&raw, alloc)?;
+    let read = A::from_raw_ref(alloc, &raw)?;
     attribute.is_read_back(&read);
     Ok(read)
 }

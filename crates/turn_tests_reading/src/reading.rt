@@ -35,16 +35,16 @@ const REPEATED: &str =
 
 #[test]
 fn texts_are_read(rt: HostRuntime) -> Result<(), Fail> {
-    let user = Username::from_raw(RawAttribute::new(USERNAME, b"user"), rt.alloc())?;
+    let user = Username::from_raw(rt.alloc(), RawAttribute::new(USERNAME, b"user"))?;
     assert_eq!(rt; user.username(), "user");
     assert_eq!(rt; user.to_raw(rt.alloc())?.value(), b"user".as_slice());
-    let realm = Realm::from_raw(RawAttribute::new(REALM, b"realm"), rt.alloc())?;
+    let realm = Realm::from_raw(rt.alloc(), RawAttribute::new(REALM, b"realm"))?;
     assert_eq!(rt; realm.realm(), "realm");
     assert_eq!(rt; realm.to_raw(rt.alloc())?.value(), b"realm".as_slice());
-    let nonce = Nonce::from_raw(RawAttribute::new(NONCE, b"nonce"), rt.alloc())?;
+    let nonce = Nonce::from_raw(rt.alloc(), RawAttribute::new(NONCE, b"nonce"))?;
     assert_eq!(rt; nonce.nonce(), "nonce");
     assert_eq!(rt; nonce.to_raw(rt.alloc())?.value(), b"nonce".as_slice());
-    assert_eq!(rt; written_and_read(&nonce, rt.alloc())?.nonce(), "nonce");
+    assert_eq!(rt; written_and_read(rt.alloc(), &nonce)?.nonce(), "nonce");
     Ok(())
 }
 
@@ -72,35 +72,35 @@ fn names_in_bytes(rt: HostRuntime) -> Result<(), Fail> {
 fn texts_of_other_types(rt: HostRuntime) {
     let raw = RawAttribute::new(XOR_MAPPED_ADDRESS, b"\x00\x01\x04\x03name");
     let wrong = Some(StunParseError::WrongAttributeImplementation);
-    assert_eq!(rt; Username::from_raw_ref(&raw, rt.alloc()).err(), wrong);
-    assert_eq!(rt; Nonce::from_raw_ref(&raw, rt.alloc()).err(), wrong);
-    assert_eq!(rt; ErrorCode::from_raw_ref(&raw, rt.alloc()).err(), wrong);
+    assert_eq!(rt; Username::from_raw_ref(rt.alloc(), &raw).err(), wrong);
+    assert_eq!(rt; Nonce::from_raw_ref(rt.alloc(), &raw).err(), wrong);
+    assert_eq!(rt; ErrorCode::from_raw_ref(rt.alloc(), &raw).err(), wrong);
     let invalid = Some(StunParseError::InvalidAttributeData);
     let realm = RawAttribute::new(REALM, b"\xC3");
-    assert_eq!(rt; Realm::from_raw_ref(&realm, rt.alloc()).err(), invalid);
+    assert_eq!(rt; Realm::from_raw_ref(rt.alloc(), &realm).err(), invalid);
     let nonce = RawAttribute::new(NONCE, b"\xC3");
-    assert_eq!(rt; Nonce::from_raw_ref(&nonce, rt.alloc()).err(), invalid);
+    assert_eq!(rt; Nonce::from_raw_ref(rt.alloc(), &nonce).err(), invalid);
 }
 
 #[test]
 fn texts_that_are_none(rt: HostRuntime) -> Result<(), Fail> {
-    let other = Realm::from_raw(RawAttribute::new(NONCE, b"realm"), rt.alloc()).err();
+    let other = Realm::from_raw(rt.alloc(), RawAttribute::new(NONCE, b"realm")).err();
     assert_eq!(rt; other, Some(StunParseError::WrongAttributeImplementation));
-    let latin = Username::from_raw(RawAttribute::new(USERNAME, b"us\xE9r"), rt.alloc()).err();
+    let latin = Username::from_raw(rt.alloc(), RawAttribute::new(USERNAME, b"us\xE9r")).err();
     assert_eq!(rt; latin, Some(StunParseError::InvalidAttributeData));
     let mut bytes = Vec::new(rt.alloc());
     bytes.resize(764, b'a')?;
     let (most, _) = bytes.as_slice().split_at(513);
-    assert!(rt; Username::from_raw(RawAttribute::new(USERNAME, most), rt.alloc()).is_ok());
+    assert!(rt; Username::from_raw(rt.alloc(), RawAttribute::new(USERNAME, most)).is_ok());
     let (more, _) = bytes.as_slice().split_at(514);
-    let long = Username::from_raw(RawAttribute::new(USERNAME, more), rt.alloc()).err();
+    let long = Username::from_raw(rt.alloc(), RawAttribute::new(USERNAME, more)).err();
     assert_eq!(rt; long, Some(too_large(513, 514)));
     let (most, _) = bytes.as_slice().split_at(763);
-    assert!(rt; Realm::from_raw(RawAttribute::new(REALM, most), rt.alloc()).is_ok());
-    assert!(rt; Nonce::from_raw(RawAttribute::new(NONCE, most), rt.alloc()).is_ok());
-    let long = Nonce::from_raw(RawAttribute::new(NONCE, &bytes), rt.alloc()).err();
+    assert!(rt; Realm::from_raw(rt.alloc(), RawAttribute::new(REALM, most)).is_ok());
+    assert!(rt; Nonce::from_raw(rt.alloc(), RawAttribute::new(NONCE, most)).is_ok());
+    let long = Nonce::from_raw(rt.alloc(), RawAttribute::new(NONCE, &bytes)).err();
     assert_eq!(rt; long, Some(too_large(763, 764)));
-    let long = Realm::from_raw(RawAttribute::new(REALM, &bytes), rt.alloc()).err();
+    let long = Realm::from_raw(rt.alloc(), RawAttribute::new(REALM, &bytes)).err();
     assert_eq!(rt; long, Some(too_large(763, 764)));
     Ok(())
 }
@@ -108,12 +108,12 @@ fn texts_that_are_none(rt: HostRuntime) -> Result<(), Fail> {
 #[test]
 fn error_codes_are_read(rt: HostRuntime) -> Result<(), Fail> {
     let value = b"\x00\x00\x04\x03Forbidden";
-    let error = ErrorCode::from_raw(RawAttribute::new(ERROR_CODE, value), rt.alloc())?;
+    let error = ErrorCode::from_raw(rt.alloc(), RawAttribute::new(ERROR_CODE, value))?;
     assert_eq!(rt; error.code(), 403);
     assert_eq!(rt; error.reason(), "Forbidden");
     assert_eq!(rt; error.to_raw(rt.alloc())?.value(), value.as_slice());
     let reserved = RawAttribute::new(ERROR_CODE, &[0xFF, 0xFF, 6, 99]);
-    let error = ErrorCode::from_raw_ref(&reserved, rt.alloc())?;
+    let error = ErrorCode::from_raw_ref(rt.alloc(), &reserved)?;
     assert_eq!(rt; error.code(), 699);
     assert_eq!(rt; error.to_raw(rt.alloc())?.value(), [0, 0, 6, 99].as_slice());
     Ok(())
@@ -123,20 +123,20 @@ fn error_codes_are_read(rt: HostRuntime) -> Result<(), Fail> {
 fn error_codes_that_are_none(rt: HostRuntime) -> Result<(), Fail> {
     let mut bytes = Vec::new(rt.alloc());
     bytes.resize(768, 0)?;
-    let short = ErrorCode::from_raw(RawAttribute::new(ERROR_CODE, &[0, 0, 4]), rt.alloc()).err();
+    let short = ErrorCode::from_raw(rt.alloc(), RawAttribute::new(ERROR_CODE, &[0, 0, 4])).err();
     assert_eq!(rt; short, Some(truncated(4, 3)));
     let long = ErrorCode::from_raw(
-        RawAttribute::new(ERROR_CODE, bytes.as_slice()),
         rt.alloc(),
+        RawAttribute::new(ERROR_CODE, bytes.as_slice()),
     ).err();
     assert_eq!(rt; long, Some(too_large(767, 768)));
     let invalid = Some(StunParseError::InvalidAttributeData);
     for value in [[0, 0, 2, 99], [0, 0, 7, 0], [0, 0, 0x0C, 0], [0, 0, 4, 100]] {
         let raw = RawAttribute::new(ERROR_CODE, &value);
-        assert_eq!(rt; ErrorCode::from_raw_ref(&raw, rt.alloc()).err(), invalid);
+        assert_eq!(rt; ErrorCode::from_raw_ref(rt.alloc(), &raw).err(), invalid);
     }
     let reason = RawAttribute::new(ERROR_CODE, &[0, 0, 4, 3, 0xE9]);
-    assert_eq!(rt; ErrorCode::from_raw_ref(&reason, rt.alloc()).err(), invalid);
+    assert_eq!(rt; ErrorCode::from_raw_ref(rt.alloc(), &reason).err(), invalid);
     Ok(())
 }
 
@@ -180,7 +180,7 @@ fn xor_is_undone(rt: HostRuntime) -> Result<(), Fail> {
     assert_ne!(rt; xored, addr);
     assert_eq!(rt; XorSocketAddr::xor_addr(xored, number), addr);
     let mapped = XorMappedAddress::new(addr, number);
-    assert_eq!(rt; written_and_read(&mapped, rt.alloc())?.addr(number), addr);
+    assert_eq!(rt; written_and_read(rt.alloc(), &mapped)?.addr(number), addr);
     Ok(())
 }
 
@@ -188,7 +188,7 @@ fn xor_is_undone(rt: HostRuntime) -> Result<(), Fail> {
 fn plain_addresses_are_written_and_read(rt: HostRuntime) -> Result<(), Fail> {
     let addr = "10.0.0.2:2000".parse::<SocketAddr>()?;
     let plain = MappedSocketAddr::new(addr);
-    let raw = plain.to_raw(AttributeType(0x8023), rt.alloc())?;
+    let raw = plain.to_raw(rt.alloc(), AttributeType(0x8023))?;
     let bytes = hex::decode(rt.alloc(), "000107d00a000002")?;
     assert_eq!(rt; raw.value(), bytes.as_slice());
     assert_eq!(rt; MappedSocketAddr::from_raw(&raw)?.addr(), addr);
@@ -218,7 +218,7 @@ fn addresses_that_are_none(rt: HostRuntime) -> Result<(), Fail> {
     let invalid = Some(StunParseError::InvalidAttributeData);
     assert_eq!(rt; refused(XOR_MAPPED_ADDRESS, &family), invalid);
     let right = RawAttribute::new(XOR_MAPPED_ADDRESS, &v4[..8]);
-    let addr = XorMappedAddress::from_raw(right, rt.alloc())?.addr(number);
+    let addr = XorMappedAddress::from_raw(rt.alloc(), right)?.addr(number);
     assert_eq!(rt; addr, "192.168.0.1:1000".parse::<SocketAddr>()?);
     Ok(())
 }

@@ -106,13 +106,13 @@ impl<'a> AttributeFromRaw<'a> for Lifetime {
 
     ghost read_value = { λ value. value };
 
-    fn from_raw_ref(raw: &RawAttribute<'_>, _alloc: Global) -> Result<Lifetime, StunParseError> {
+    fn from_raw_ref(_alloc: Global, raw: &RawAttribute<'_>) -> Result<Lifetime, StunParseError> {
         let seconds = seconds_of(raw)?;
         Ok(Lifetime { seconds })
     }
 
-    fn from_raw(raw: RawAttribute<'a>, alloc: Global) -> Result<Lifetime, StunParseError> {
-        Lifetime::from_raw_ref(&raw, alloc)
+    fn from_raw(alloc: Global, raw: RawAttribute<'a>) -> Result<Lifetime, StunParseError> {
+        Lifetime::from_raw_ref(alloc, &raw)
     }
 
     #[tactic(auto, using(crate::proofs::Numbers::number_is_accepted, crate::proofs::Numbers::same_number))]

@@ -120,18 +120,18 @@ impl<'a> AttributeFromRaw<'a> for RequestedTransport {
     ghost read_value = { λ value. transport_value (slice_index value 0) };
 
     fn from_raw_ref(
-        raw: &RawAttribute<'_>,
         _alloc: Global,
+        raw: &RawAttribute<'_>,
     ) -> Result<RequestedTransport, StunParseError> {
         let protocol = protocol_of(raw)?;
         Ok(RequestedTransport { protocol })
     }
 
     fn from_raw(
-        raw: RawAttribute<'a>,
         alloc: Global,
+        raw: RawAttribute<'a>,
     ) -> Result<RequestedTransport, StunParseError> {
-        RequestedTransport::from_raw_ref(&raw, alloc)
+        RequestedTransport::from_raw_ref(alloc, &raw)
     }
 
     #[tactic(auto, using(stun_types_write::proofs::Values::value_is_accepted))]

@@ -35,12 +35,12 @@ fn lifetime_in_bytes_and_back(rt: HostRuntime) -> Result<(), Fail> {
     assert_eq!(rt; raw.get_type(), LIFETIME);
     assert_eq!(rt; raw.value(), [0, 0, 2, 0x58].as_slice());
     assert_eq!(rt; Lifetime::try_from(&raw)?.seconds(), 600);
-    assert_eq!(rt; written_and_read(&lifetime, rt.alloc())?.seconds(), 600);
+    assert_eq!(rt; written_and_read(rt.alloc(), &lifetime)?.seconds(), 600);
     let mut written = [9; 9];
     assert_eq!(rt; lifetime.write_into(&mut written)?, 8);
     assert_eq!(rt; written, [0, 0x0D, 0, 4, 0, 0, 2, 0x58, 9]);
     let most = RawAttribute::new(LIFETIME, &[0xFF; 4]);
-    assert_eq!(rt; Lifetime::from_raw(most, rt.alloc())?.seconds(), u32::MAX);
+    assert_eq!(rt; Lifetime::from_raw(rt.alloc(), most)?.seconds(), u32::MAX);
     Ok(())
 }
 
@@ -51,12 +51,12 @@ fn transport_in_bytes_and_back(rt: HostRuntime) -> Result<(), Fail> {
     assert_eq!(rt; raw.get_type(), REQUESTED_TRANSPORT);
     assert_eq!(rt; raw.value(), [6, 0, 0, 0].as_slice());
     assert_eq!(rt; RequestedTransport::try_from(&raw)?.protocol(), 6);
-    assert_eq!(rt; written_and_read(&transport, rt.alloc())?.protocol(), 6);
+    assert_eq!(rt; written_and_read(rt.alloc(), &transport)?.protocol(), 6);
     let mut written = [9; 9];
     assert_eq!(rt; transport.write_into(&mut written)?, 8);
     assert_eq!(rt; written, [0, 0x19, 0, 4, 6, 0, 0, 0, 9]);
     let reserved = RawAttribute::new(REQUESTED_TRANSPORT, &[17, 1, 0x80, 0xFF]);
-    let read = RequestedTransport::from_raw(reserved, rt.alloc())?;
+    let read = RequestedTransport::from_raw(rt.alloc(), reserved)?;
     assert_eq!(rt; read.protocol(), RequestedTransport::UDP);
     assert_eq!(rt; read.to_raw(rt.alloc())?.value(), [17, 0, 0, 0].as_slice());
     Ok(())
@@ -76,8 +76,8 @@ fn relayed_address_in_bytes_and_back(rt: HostRuntime) -> Result<(), Fail> {
         assert_eq!(rt; raw.get_type(), XOR_RELAYED_ADDRESS);
         assert_eq!(rt; raw.value(), expected);
         assert_eq!(rt; XorRelayedAddress::try_from(&raw)?.addr(number), addr);
-        assert_eq!(rt; written_and_read(&relayed, rt.alloc())?.addr(number), addr);
-        let again = XorRelayedAddress::from_raw(raw, rt.alloc())?;
+        assert_eq!(rt; written_and_read(rt.alloc(), &relayed)?.addr(number), addr);
+        let again = XorRelayedAddress::from_raw(rt.alloc(), raw)?;
         assert_eq!(rt; again.addr(number), addr);
     }
     Ok(())
@@ -99,9 +99,9 @@ fn lifetimes_and_transports_that_are_none(rt: HostRuntime) {
     for (atype, len, lifetime, transport) in cases {
         let raw = RawAttribute::new(atype, &five[..len]);
         assert_eq!(rt; Lifetime::try_from(&raw).err(), lifetime);
-        assert_eq!(rt; Lifetime::from_raw_ref(&raw, rt.alloc()).err(), lifetime);
+        assert_eq!(rt; Lifetime::from_raw_ref(rt.alloc(), &raw).err(), lifetime);
         assert_eq!(rt; RequestedTransport::try_from(&raw).err(), transport);
-        let read = RequestedTransport::from_raw_ref(&raw, rt.alloc());
+        let read = RequestedTransport::from_raw_ref(rt.alloc(), &raw);
         assert_eq!(rt; read.err(), transport);
     }
 }

@@ -79,7 +79,7 @@ impl AttributeWrite for XorRelayedAddress {
     }
 
     fn to_raw(&self, alloc: Global) -> Result<RawAttribute<'_>, NoMemory> {
-        self.addr.to_raw(XorRelayedAddress::TYPE, alloc)
+        self.addr.to_raw(alloc, XorRelayedAddress::TYPE)
     }
 }
 
@@ -110,15 +110,15 @@ impl<'a> AttributeFromRaw<'a> for XorRelayedAddress {
     ghost read_value = { address_again };
 
     fn from_raw_ref(
-        raw: &RawAttribute<'_>,
         _alloc: Global,
+        raw: &RawAttribute<'_>,
     ) -> Result<XorRelayedAddress, StunParseError> {
         let addr = XorSocketAddr::from_raw_of_type(raw, XorRelayedAddress::TYPE)?;
         Ok(XorRelayedAddress { addr })
     }
 
-    fn from_raw(raw: RawAttribute<'a>, alloc: Global) -> Result<XorRelayedAddress, StunParseError> {
-        XorRelayedAddress::from_raw_ref(&raw, alloc)
+    fn from_raw(alloc: Global, raw: RawAttribute<'a>) -> Result<XorRelayedAddress, StunParseError> {
+        XorRelayedAddress::from_raw_ref(alloc, &raw)
     }
 
     fn is_read_back(&self, _read: &XorRelayedAddress) {

@@ -62,7 +62,7 @@ fn hmacs_in_bytes_and_back(rt: HostRuntime) -> Result<(), Fail> {
     for len in [16, 20, 32] {
         let attribute = MessageIntegritySha256::new(&HMAC[..len])?;
         assert_eq!(rt; attribute.hmac(), &HMAC[..len]);
-        let read = written_and_read(&attribute, rt.alloc())?;
+        let read = written_and_read(rt.alloc(), &attribute)?;
         assert_eq!(rt; read.hmac(), &HMAC[..len]);
         let raw = attribute.to_raw(rt.alloc())?;
         assert_eq!(rt; raw.get_type(), AttributeType(0x001C));
@@ -110,7 +110,7 @@ fn bytes_that_are_none(rt: HostRuntime) {
             MessageIntegritySha256::try_from(&raw).err(),
             Some(unread[i])
         );
-        let read = MessageIntegritySha256::from_raw(raw, rt.alloc());
+        let read = MessageIntegritySha256::from_raw(rt.alloc(), raw);
         assert_eq!(rt; read.err(), Some(unread[i]));
     }
     let raw = RawAttribute::new(AttributeType(0x0008), &long[..16]);
