@@ -1,16 +1,17 @@
 -- What a signature makes of the bytes of a message.
-use Rattle.std.proofs.Common.{◌≡◌, ℕ, ◌+◌, ◌-◌, ◌≤◌, List, [], ◌∷◌, ◌++◌, length, refl, sym, ap, ◌∙◌, arith}
+use Rattle.std.proofs.Common.{◌≡◌, ℕ, ◌+◌, ◌-◌, ◌≤◌, List, [], ◌∷◌, ◌++◌, length, refl, sym, ap, ◌∙◌, arith, Option, Some, None}
 use Rattle.stun_types_wire.specs.declared.algorithm.IntegrityAlgorithm.{IntegrityAlgorithm}
 use Rattle.stun_types_wire.specs.declared.algorithm.IntegrityAlgorithm.TheVariants.{Sha1, Sha256}
+use Rattle.stun_types_wire.specs.declared.error.StunWriteError.{StunWriteError}
 use Rattle.stun_types_wire.specs.Attributes.{Attr, padded}
 use Rattle.stun_types_wire.specs.Text.{attribute_text, message_text}
-use Rattle.stun_types_write.specs.Adding.{attr_of, after_add, greatest_size, IsBegun}
+use Rattle.stun_types_write.specs.Adding.{attr_of, after_add, greatest_size, size_refusal, IsBegun}
 use Rattle.stun_types_wire.specs.Covered.{with_length}
 use Rattle.stun_types_integrity.specs.declared.credentials.MessageIntegrityCredentials.{MessageIntegrityCredentials}
 use Rattle.stun_types_integrity.specs.declared.credentials.MessageIntegrityCredentials.TheVariants.{ShortTerm, LongTerm}
 use Rattle.stun_types_integrity.specs.Keys.{key_of}
 use Rattle.stun_types_integrity.specs.Integrity.{attribute_kind, integrity_hmac}
-use Rattle.stun_types_integrity.specs.Signing.{hmac_length, signature, text_to_sign}
+use Rattle.stun_types_integrity.specs.Signing.{hmac_length, key_refusal, order_refusal, signature, signing_refusal, text_to_sign}
 use Rattle.stun_types_build.proofs.Adds.{added, added_begun, long_enough, one_more}
 
 -- the size of an HMAC needs no padding
@@ -58,3 +59,20 @@ signed_text bytes after key algorithm is mtype number adds text =
 pub key_for : (credentials : MessageIntegrityCredentials) (algorithm : IntegrityAlgorithm) → (key_of credentials algorithm).algorithm ≡ algorithm
 key_for (ShortTerm secret) algorithm = refl
 key_for (LongTerm secret) algorithm = refl
+
+-- ---- refusals
+
+same_key : (algorithm : IntegrityAlgorithm) → key_refusal algorithm algorithm ≡ None
+same_key Sha1 = refl
+same_key Sha256 = refl
+
+-- what may not follow what was added is refused, whatever the key and the room
+pub order_first : (kinds : List ℕ) (limit : Option ℕ) (len : ℕ) (own algorithm : IntegrityAlgorithm) (error : StunWriteError) → order_refusal kinds algorithm ≡ Some error → signing_refusal kinds limit len own algorithm ≡ Some error
+unfolding signing_refusal
+order_first kinds limit len own algorithm error h = rw h refl
+
+-- under a key of its own algorithm a message is refused by its order and its size alone
+pub own_key : (kinds : List ℕ) (limit : Option ℕ) (len size : ℕ) (algorithm : IntegrityAlgorithm) (answer : Option StunWriteError) → order_refusal kinds algorithm ≡ None → size ≡ hmac_length algorithm → size_refusal limit (len + (4 + size)) ≡ answer → signing_refusal kinds limit len algorithm algorithm ≡ answer
+unfolding signing_refusal
+own_key kinds limit len size algorithm answer order is h =
+    rw (order, same_key algorithm) (ap (λ (n : ℕ). size_refusal limit (len + (4 + n))) (sym is) ∙ h)

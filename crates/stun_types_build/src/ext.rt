@@ -10,14 +10,14 @@ ghost use Rattle.stun_types_wire.specs.Text.{message_text};
 ghost use Rattle.stun_types_write.specs.Adding.{attr_of, after_add, add_refusal, fingerprint_add_refusal, IsBegun};
 ghost use Rattle.stun_types_integrity.specs.Integrity.{attribute_kind};
 ghost use Rattle.stun_types_integrity.specs.Keys.{key_of};
-ghost use Rattle.stun_types_integrity.specs.Signing.{hmac_length, signature, signing_refusal};
+ghost use Rattle.stun_types_integrity.specs.Signing.{hmac_length as length_of_hmac, signature, signing_refusal};
 
 use crate::fingerprint::mark;
 use crate::room::end_of_add;
-use crate::signing::sign;
+use crate::signing::{may_sign, sign};
 use std::alloc::Global;
 use stun_types_fingerprint::fingerprint::Fingerprint;
-use stun_types_integrity::algorithm::{MESSAGE_INTEGRITY, MESSAGE_INTEGRITY_SHA256};
+use stun_types_integrity::algorithm::{MESSAGE_INTEGRITY, MESSAGE_INTEGRITY_SHA256, hmac_length};
 use stun_types_integrity::credentials::MessageIntegrityCredentials;
 use stun_types_integrity::key::IntegrityKey;
 use stun_types_wire::algorithm::IntegrityAlgorithm;
@@ -78,6 +78,7 @@ pub trait MessageWriteExt: MessageWrite {
         ensures text { OnOk result ((mtype number : ℕ) (adds : List Attr) → Self.written self.old ≡ message_text mtype number adds → Self.written self.new ≡ message_text mtype number (adds ++ attr_of (kind attribute.now) (value attribute.now) ∷ [])) }
         ensures accepted { OnOk result (add_refusal (Self.kinds self.old) (Self.limit self.old) (length (Self.written self.old)) (attr_size (attr_of (kind attribute.now) (value attribute.now))) ≡ None) }
         ensures refused { IfErr result (λ error. error ≢ StunWriteError.NoMemory → add_refusal (Self.kinds self.old) (Self.limit self.old) (length (Self.written self.old)) (attr_size (attr_of (kind attribute.now) (value attribute.now))) ≡ Some error) }
+        ensures last { IfErr result (λ error. error ≡ StunWriteError.NoMemory → add_refusal (Self.kinds self.old) (Self.limit self.old) (length (Self.written self.old)) (attr_size (attr_of (kind attribute.now) (value attribute.now))) ≡ None) }
         ensures unchanged { OnErr result ((Self.written self.new ≡ Self.written self.old) × (Self.kinds self.new ≡ Self.kinds self.old)) }
         ensures behind { MatchResult result (λ _. Self.behind self.new ≡ drop (attr_size (attr_of (kind attribute.now) (value attribute.now))) (Self.behind self.old)) (λ _. Self.behind self.new ≡ Self.behind self.old) }
         ensures limit { Self.limit self.new ≡ Self.limit self.old }
@@ -101,14 +102,14 @@ pub trait MessageWriteExt: MessageWrite {
         ensures text { OnOk result ((mtype number : ℕ) (adds : List Attr) → Self.written self.old ≡ message_text mtype number adds → Self.written self.new ≡ message_text mtype number (adds ++ signature algorithm key.now.bytes (message_text mtype number adds) ∷ [])) }
         ensures accepted { OnOk result (signing_refusal (Self.kinds self.old) (Self.limit self.old) (length (Self.written self.old)) key.now.algorithm algorithm ≡ None) }
         ensures refused { IfErr result (λ error. error ≢ StunWriteError.NoMemory → signing_refusal (Self.kinds self.old) (Self.limit self.old) (length (Self.written self.old)) key.now.algorithm algorithm ≡ Some error) }
+        ensures last { IfErr result (λ error. error ≡ StunWriteError.NoMemory → signing_refusal (Self.kinds self.old) (Self.limit self.old) (length (Self.written self.old)) key.now.algorithm algorithm ≡ None) }
         ensures unchanged { OnErr result ((Self.written self.new ≡ Self.written self.old) × (Self.kinds self.new ≡ Self.kinds self.old)) }
-        ensures behind { MatchResult result (λ _. Self.behind self.new ≡ drop (4 + hmac_length algorithm) (Self.behind self.old)) (λ _. Self.behind self.new ≡ Self.behind self.old) }
+        ensures behind { MatchResult result (λ _. Self.behind self.new ≡ drop (4 + length_of_hmac algorithm) (Self.behind self.old)) (λ _. Self.behind self.new ≡ Self.behind self.old) }
         ensures limit { Self.limit self.new ≡ Self.limit self.old }
         ensures begun { IsBegun (Self.written self.new) };
 
     /// The same, under the key that credentials make for the algorithm. It is never refused with
-    /// `IntegrityFailed`; `NoMemory`, where memory is refused for the key, may come before the other
-    /// refusals.
+    /// `IntegrityFailed`.
     fn add_message_integrity(
         &mut self,
         alloc: Global,
@@ -121,8 +122,9 @@ pub trait MessageWriteExt: MessageWrite {
         ensures text { OnOk result ((mtype number : ℕ) (adds : List Attr) → Self.written self.old ≡ message_text mtype number adds → Self.written self.new ≡ message_text mtype number (adds ++ signature algorithm (key_of credentials.now algorithm).bytes (message_text mtype number adds) ∷ [])) }
         ensures accepted { OnOk result (signing_refusal (Self.kinds self.old) (Self.limit self.old) (length (Self.written self.old)) algorithm algorithm ≡ None) }
         ensures refused { IfErr result (λ error. error ≢ StunWriteError.NoMemory → signing_refusal (Self.kinds self.old) (Self.limit self.old) (length (Self.written self.old)) algorithm algorithm ≡ Some error) }
+        ensures last { IfErr result (λ error. error ≡ StunWriteError.NoMemory → signing_refusal (Self.kinds self.old) (Self.limit self.old) (length (Self.written self.old)) algorithm algorithm ≡ None) }
         ensures unchanged { OnErr result ((Self.written self.new ≡ Self.written self.old) × (Self.kinds self.new ≡ Self.kinds self.old)) }
-        ensures behind { MatchResult result (λ _. Self.behind self.new ≡ drop (4 + hmac_length algorithm) (Self.behind self.old)) (λ _. Self.behind self.new ≡ Self.behind self.old) }
+        ensures behind { MatchResult result (λ _. Self.behind self.new ≡ drop (4 + length_of_hmac algorithm) (Self.behind self.old)) (λ _. Self.behind self.new ≡ Self.behind self.old) }
         ensures limit { Self.limit self.new ≡ Self.limit self.old }
         ensures begun { IsBegun (Self.written self.new) };
 
@@ -138,6 +140,7 @@ pub trait MessageWriteExt: MessageWrite {
         ensures text { OnOk result ((mtype number : ℕ) (adds : List Attr) → Self.written self.old ≡ message_text mtype number adds → Self.written self.new ≡ message_text mtype number (adds ++ fingerprint_of (message_text mtype number adds) ∷ [])) }
         ensures accepted { OnOk result (fingerprint_add_refusal (Self.kinds self.old) (Self.limit self.old) (length (Self.written self.old)) ≡ None) }
         ensures refused { IfErr result (λ error. error ≢ StunWriteError.NoMemory → fingerprint_add_refusal (Self.kinds self.old) (Self.limit self.old) (length (Self.written self.old)) ≡ Some error) }
+        ensures last { IfErr result (λ error. error ≡ StunWriteError.NoMemory → fingerprint_add_refusal (Self.kinds self.old) (Self.limit self.old) (length (Self.written self.old)) ≡ None) }
         ensures unchanged { OnErr result ((Self.written self.new ≡ Self.written self.old) × (Self.kinds self.new ≡ Self.kinds self.old)) }
         ensures behind { MatchResult result (λ _. Self.behind self.new ≡ drop 8 (Self.behind self.old)) (λ _. Self.behind self.new ≡ Self.behind self.old) }
         ensures limit { Self.limit self.new ≡ Self.limit self.old }
@@ -195,13 +198,15 @@ impl<W: MessageWrite> MessageWriteExt for W {
         sign(self, key, algorithm)
     }
 
-    #[tactic(auto, using(crate::proofs::Signs::key_for))]
+    #[tactic(auto, using(crate::proofs::Signs::key_for, crate::proofs::Signs::order_first, crate::proofs::Signs::own_key))]
     fn add_message_integrity(
         &mut self,
         alloc: Global,
         credentials: &MessageIntegrityCredentials,
         algorithm: IntegrityAlgorithm,
     ) -> Result<(), StunWriteError> {
+        may_sign(&*self, algorithm)?;
+        end_of_add(&*self, 4 + hmac_length(algorithm))?;
         let key = credentials.make_key(alloc, algorithm)?;
         sign(self, &key, algorithm)
     }
@@ -227,6 +232,7 @@ pub fn add_as<W: MessageWrite, A: AttributeWrite>(
     ensures text { OnOk result ((mtype number : ℕ) (adds : List Attr) → W.written writer.old ≡ message_text mtype number adds → W.written writer.new ≡ message_text mtype number (adds ++ attr_of (A.kind same.now) (A.value same.now) ∷ [])) }
     ensures accepted { OnOk result (add_refusal (W.kinds writer.old) (W.limit writer.old) (length (W.written writer.old)) (attr_size (attr_of (A.kind same.now) (A.value same.now))) ≡ None) }
     ensures refused { IfErr result (λ error. error ≢ StunWriteError.NoMemory → add_refusal (W.kinds writer.old) (W.limit writer.old) (length (W.written writer.old)) (attr_size (attr_of (A.kind same.now) (A.value same.now))) ≡ Some error) }
+    ensures last { IfErr result (λ error. error ≡ StunWriteError.NoMemory → add_refusal (W.kinds writer.old) (W.limit writer.old) (length (W.written writer.old)) (attr_size (attr_of (A.kind same.now) (A.value same.now))) ≡ None) }
     ensures unchanged { OnErr result ((W.written writer.new ≡ W.written writer.old) × (W.kinds writer.new ≡ W.kinds writer.old)) }
     ensures behind { MatchResult result (λ _. W.behind writer.new ≡ drop (attr_size (attr_of (A.kind same.now) (A.value same.now))) (W.behind writer.old)) (λ _. W.behind writer.new ≡ W.behind writer.old) }
     ensures limit { W.limit writer.new ≡ W.limit writer.old }

@@ -27,6 +27,7 @@ pub(crate) fn mark<W: MessageWrite>(writer: &mut W) -> Result<(), StunWriteError
     ensures text { OnOk result ((mtype number : ℕ) (adds : List Attr) → W.written writer.old ≡ message_text mtype number adds → W.written writer.new ≡ message_text mtype number (adds ++ fingerprint_of (message_text mtype number adds) ∷ [])) }
     ensures accepted { OnOk result (fingerprint_add_refusal (W.kinds writer.old) (W.limit writer.old) (length (W.written writer.old)) ≡ None) }
     ensures refused { IfErr result (λ error. error ≢ StunWriteError.NoMemory → fingerprint_add_refusal (W.kinds writer.old) (W.limit writer.old) (length (W.written writer.old)) ≡ Some error) }
+    ensures last { IfErr result (λ error. error ≡ StunWriteError.NoMemory → fingerprint_add_refusal (W.kinds writer.old) (W.limit writer.old) (length (W.written writer.old)) ≡ None) }
     ensures unchanged { OnErr result ((W.written writer.new ≡ W.written writer.old) × (W.kinds writer.new ≡ W.kinds writer.old)) }
     ensures behind { MatchResult result (λ _. W.behind writer.new ≡ drop 8 (W.behind writer.old)) (λ _. W.behind writer.new ≡ W.behind writer.old) }
     ensures limit { W.limit writer.new ≡ W.limit writer.old }

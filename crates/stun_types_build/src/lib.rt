@@ -4,5 +4,5 @@
 pub mod agreement;
 pub mod ext;
 mod fingerprint;
-mod room;
+pub mod room;
 mod signing;

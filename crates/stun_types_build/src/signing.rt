@@ -38,6 +38,7 @@ pub(crate) fn sign<W: MessageWrite>(
     ensures text { OnOk result ((mtype number : ℕ) (adds : List Attr) → W.written writer.old ≡ message_text mtype number adds → W.written writer.new ≡ message_text mtype number (adds ++ signature algorithm key.now.bytes (message_text mtype number adds) ∷ [])) }
     ensures accepted { OnOk result (signing_refusal (W.kinds writer.old) (W.limit writer.old) (length (W.written writer.old)) key.now.algorithm algorithm ≡ None) }
     ensures refused { IfErr result (λ error. error ≢ StunWriteError.NoMemory → signing_refusal (W.kinds writer.old) (W.limit writer.old) (length (W.written writer.old)) key.now.algorithm algorithm ≡ Some error) }
+    ensures last { IfErr result (λ error. error ≡ StunWriteError.NoMemory → signing_refusal (W.kinds writer.old) (W.limit writer.old) (length (W.written writer.old)) key.now.algorithm algorithm ≡ None) }
     ensures unchanged { OnErr result ((W.written writer.new ≡ W.written writer.old) × (W.kinds writer.new ≡ W.kinds writer.old)) }
     ensures behind { MatchResult result (λ _. W.behind writer.new ≡ drop (4 + length_of_hmac algorithm) (W.behind writer.old)) (λ _. W.behind writer.new ≡ W.behind writer.old) }
     ensures limit { W.limit writer.new ≡ W.limit writer.old }
@@ -58,11 +59,12 @@ pub(crate) fn sign<W: MessageWrite>(
 
 /// Whether the integrity attribute of an algorithm may follow what was added.
 #[tactic(auto, unfolding(stun_types_integrity::specs::Signing::order_refusal))]
-fn may_sign<W: MessageWrite>(
+pub(crate) fn may_sign<W: MessageWrite>(
     writer: &W,
     algorithm: IntegrityAlgorithm,
 ) -> Result<(), StunWriteError>
-    ensures { MatchResult result (λ _. order_refusal (W.kinds writer.now) algorithm ≡ None) (λ error. order_refusal (W.kinds writer.now) algorithm ≡ Some error) }
+    ensures order { MatchResult result (λ _. order_refusal (W.kinds writer.now) algorithm ≡ None) (λ error. order_refusal (W.kinds writer.now) algorithm ≡ Some error) }
+    ensures named { IfErr result (λ error. error ≢ StunWriteError.NoMemory) }
 {
     if writer.has_attribute(Fingerprint::TYPE) {
         return Err(StunWriteError::FingerprintExists);

@@ -105,3 +105,22 @@ second_answer kinds list limit own len count answer one same counted many few ro
     let end : len + attr_size (unknown_attribute list) ≡ 52 + padded (2 * count) = omega (arith, counted, size) in
     let moved : size_refusal limit (len + attr_size (unknown_attribute list)) ≡ size_refusal own (52 + padded (2 * count)) = λ i. size_refusal (same i) (end i) in
     rw (few, room) (sym moved ∙ sym (second_add kinds limit len (attr_size (unknown_attribute list)) one) ∙ h)
+
+-- the same, looked at before it is written
+pub no_room_first : (limit : Option ℕ) (len count : ℕ) (error : StunWriteError) → len ≡ 0 → types_refusal count ≡ None → size_refusal limit (len + 48) ≡ Some error → unknown_refusal limit count ≡ Some error
+no_room_first limit len count error none few h =
+    let end : 48 ≡ len + 48 = omega (arith, none) in
+    no_room limit count error few (ap (size_refusal limit) end ∙ h)
+
+-- types that are not too many are refused by the size of the response alone
+pub types_answer : (limit : Option ℕ) (len count : ℕ) (answer : Option StunWriteError) → len ≡ 0 → types_refusal count ≡ None → room_refusal limit 48 ≡ None → size_refusal limit (len + (52 + padded (2 * count))) ≡ answer → unknown_refusal limit count ≡ answer
+unfolding unknown_refusal
+types_answer limit len count answer none few room h =
+    let end : 52 + padded (2 * count) ≡ len + (52 + padded (2 * count)) = omega (arith, none) in
+    rw (few, room) (ap (size_refusal limit) end ∙ h)
+
+-- a response that shows ERROR-CODE alone, looked at before it is written
+pub room_first : (limit : Option ℕ) (len code : ℕ) (reason : List ℕ) (answer : Option StunWriteError) → len ≡ 0 → reason ≡ reason_for code → size_refusal limit (len + (24 + padded (4 + length reason))) ≡ answer → size_refusal limit (20 + attr_size (error_attribute code)) ≡ answer
+room_first limit len code reason answer none is h =
+    let size : 20 + attr_size (error_attribute code) ≡ len + (24 + padded (4 + length reason)) = rw (none, is) (omega arith) in
+    ap (size_refusal limit) size ∙ h

@@ -1,6 +1,6 @@
 //! Error responses to requests that are refused by their form (RFC 8489, section 6.3.1).
 
-ghost use Rattle.std.specs.Prelude.{◌≡◌, ◌≢◌, ◌≤◌, ◌∷◌, ◌+◌, ◌*◌, [], drop, length, map, IfOk, IfErr, OnOk, IfSome, None, Some};
+ghost use Rattle.std.specs.Prelude.{◌≡◌, ◌≢◌, ◌≤◌, ◌∷◌, ◌+◌, ◌*◌, [], drop, length, map, IfOk, IfErr, OnOk, IfSome, MatchResult, None, Some};
 ghost use Rattle.stun_types_wire.specs.Attributes.{attr_size, kind_at, padded};
 ghost use Rattle.stun_types_wire.specs.Types.{class_of};
 ghost use Rattle.stun_types_wire.specs.Grammar.{number_at, shown};
@@ -14,10 +14,20 @@ use crate::message::Message;
 use std::alloc::Global;
 use stun_types_attribute::error_code::ErrorCode;
 use stun_types_build::ext::add_as;
+use stun_types_build::room::end_of_add;
 use stun_types_info::unknown_attributes::UnknownAttributes;
-use stun_types_wire::attribute::AttributeType;
+use stun_types_wire::attribute::{AttributeType, pad_attribute_len};
 use stun_types_wire::error::StunWriteError;
 use stun_types_write::writer::MessageWrite;
+
+/// How many bytes the header of a message and that of an attribute have.
+const MIN_ERROR_LENGTH: usize = 24;
+
+/// How many bytes a response has that shows ERROR-CODE 420 (Unknown Attribute) alone.
+const UNKNOWN_LENGTH: usize = 48;
+
+/// The same, and the header of UNKNOWN-ATTRIBUTES.
+const MIN_TYPES_LENGTH: usize = 52;
 
 impl<'a> Message<'a> {
     /// Writes the error response to a request that shows ERROR-CODE 400 (Bad Request) alone, in an
@@ -42,6 +52,7 @@ impl<'a> Message<'a> {
         ensures limit { IfOk result (λ reply. W.limit reply ≡ W.limit writer) }
         ensures accepted { OnOk result (bad_request_refusal (W.limit writer) ≡ None) }
         ensures refused { IfErr result (λ error. error ≢ StunWriteError.NoMemory → bad_request_refusal (W.limit writer) ≡ Some error) }
+        ensures last { IfErr result (λ error. error ≡ StunWriteError.NoMemory → bad_request_refusal (W.limit writer) ≡ None) }
     {
         write_error(alloc, ErrorCode::BAD_REQUEST, request, writer)
     }
@@ -72,7 +83,9 @@ impl<'a> Message<'a> {
         ensures limit { IfOk result (λ reply. W.limit reply ≡ W.limit writer) }
         ensures accepted { OnOk result (unknown_refusal (W.limit writer) (length types.now) ≡ None) }
         ensures refused { IfErr result (λ error. error ≢ StunWriteError.NoMemory → unknown_refusal (W.limit writer) (length types.now) ≡ Some error) }
+        ensures last { IfErr result (λ error. error ≡ StunWriteError.NoMemory → unknown_refusal (W.limit writer) (length types.now) ≡ None) }
     {
+        room_for_types(&writer, types)?;
         let unknown = UnknownAttributes::new(alloc, types)?;
         let mut reply = write_error(alloc, ErrorCode::UNKNOWN_ATTRIBUTE, request, writer)?;
         add_as(&mut reply, &unknown, &unknown)?;
@@ -80,9 +93,31 @@ impl<'a> Message<'a> {
     }
 }
 
+/// Looks at all that refuses the error response that lists these types, but memory.
+#[tactic(auto, using(crate::proofs::Refusing::too_many, crate::proofs::Refusing::types_answer))]
+fn room_for_types<W: MessageWrite>(
+    writer: &W,
+    types: &[AttributeType],
+) -> Result<(), StunWriteError>
+    requires empty { W.written writer.now ≡ [] }
+    ensures answer { MatchResult result (λ _. unknown_refusal (W.limit writer.now) (length types.now) ≡ None) (λ error. unknown_refusal (W.limit writer.now) (length types.now) ≡ Some error) }
+    ensures named { IfErr result (λ error. error ≢ StunWriteError.NoMemory) }
+{
+    let len = 2 * types.len();
+    if len > UnknownAttributes::MAX_LEN {
+        return Err(StunWriteError::TooLarge {
+            expected: UnknownAttributes::MAX_LEN,
+            actual: len,
+        });
+    }
+    end_of_add(writer, UNKNOWN_LENGTH)?;
+    end_of_add(writer, MIN_TYPES_LENGTH + pad_attribute_len(len))?;
+    Ok(())
+}
+
 /// Writes the error response to a request that shows ERROR-CODE of a code, with the reason that goes
 /// with it, and nothing else.
-#[tactic(auto, unfolding(stun_types_write::specs::Adding::add_refusal, stun_types_attribute::specs::Errors::error_refusal))]
+#[tactic(auto, using(crate::proofs::Refusing::room_first), unfolding(stun_types_write::specs::Adding::add_refusal, stun_types_attribute::specs::Errors::error_refusal))]
 fn write_error<W: MessageWrite + Drop>(
     alloc: Global,
     code: u16,
@@ -102,7 +137,13 @@ fn write_error<W: MessageWrite + Drop>(
     ensures limit { IfOk result (λ reply. W.limit reply ≡ W.limit writer) }
     ensures accepted { OnOk result (size_refusal (W.limit writer) (20 + attr_size (error_attribute code)) ≡ None) }
     ensures refused { IfErr result (λ error. error ≢ StunWriteError.NoMemory → size_refusal (W.limit writer) (20 + attr_size (error_attribute code)) ≡ Some error) }
+    ensures last { IfErr result (λ error. error ≡ StunWriteError.NoMemory → size_refusal (W.limit writer) (20 + attr_size (error_attribute code)) ≡ None) }
 {
+    let reason = ErrorCode::default_reason_for_code(code);
+    end_of_add(
+        &writer,
+        MIN_ERROR_LENGTH + pad_attribute_len(4 + reason.len()),
+    )?;
     let error = ErrorCode::builder(code).build(alloc)?;
     let mut reply = Message::builder_error(request, writer)?;
     add_as(&mut reply, &error, &error)?;
