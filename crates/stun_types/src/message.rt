@@ -4,6 +4,7 @@ pub use stun_types_build::ext::{MessageWriteExt, add_as};
 pub use stun_types_integrity::credentials::{
     LongTermCredentials, LongTermKeyCredentials, MessageIntegrityCredentials, ShortTermCredentials,
 };
+pub use stun_types_integrity::hmac::IntegrityHmac;
 pub use stun_types_integrity::key::IntegrityKey;
 pub use stun_types_message::iter::MessageAttributesIter;
 pub use stun_types_message::message::Message;
