@@ -88,6 +88,7 @@ impl ErrorCode {
     pub fn new(alloc: Global, code: u16, reason: &str) -> Result<ErrorCode, StunWriteError>
         ensures ok { IfOk result (λ made. (made.code ≡ code) × (made.reason ≡ reason.now) × (error_refusal code reason.now ≡ None)) }
         ensures refused { IfErr result (λ error. error ≢ StunWriteError.NoMemory → error_refusal code reason.now ≡ Some error) }
+        ensures last { IfErr result (λ error. error ≡ StunWriteError.NoMemory → error_refusal code reason.now ≡ None) }
     {
         if code < ErrorCode::MIN_CODE || code > ErrorCode::MAX_CODE {
             return Err(StunWriteError::OutOfRange {
@@ -192,6 +193,7 @@ impl<'reason> ErrorCodeBuilder<'reason> {
     pub fn build(self, alloc: Global) -> Result<ErrorCode, StunWriteError>
         ensures ok { IfOk result (λ made. (made.code ≡ self.entry.code) × (made.reason ≡ reason_of self.entry) × (error_refusal self.entry.code (reason_of self.entry) ≡ None)) }
         ensures refused { IfErr result (λ error. error ≢ StunWriteError.NoMemory → error_refusal self.entry.code (reason_of self.entry) ≡ Some error) }
+        ensures last { IfErr result (λ error. error ≡ StunWriteError.NoMemory → error_refusal self.entry.code (reason_of self.entry) ≡ None) }
     {
         let reason = match self.reason {
             Some(reason) => reason,

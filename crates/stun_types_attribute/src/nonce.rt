@@ -42,6 +42,7 @@ impl Nonce {
     pub fn new(alloc: Global, nonce: &str) -> Result<Nonce, StunWriteError>
         ensures ok { IfOk result (λ made. (made ≡ nonce.now) × (text_refusal longest_text nonce.now ≡ None)) }
         ensures refused { IfErr result (λ error. error ≢ StunWriteError.NoMemory → text_refusal longest_text nonce.now ≡ Some error) }
+        ensures last { IfErr result (λ error. error ≡ StunWriteError.NoMemory → text_refusal longest_text nonce.now ≡ None) }
     {
         if nonce.len() > Nonce::MAX_LEN {
             return Err(StunWriteError::TooLarge {

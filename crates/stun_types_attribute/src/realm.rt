@@ -42,6 +42,7 @@ impl Realm {
     pub fn new(alloc: Global, realm: &str) -> Result<Realm, StunWriteError>
         ensures ok { IfOk result (λ made. (made ≡ realm.now) × (text_refusal longest_text realm.now ≡ None)) }
         ensures refused { IfErr result (λ error. error ≢ StunWriteError.NoMemory → text_refusal longest_text realm.now ≡ Some error) }
+        ensures last { IfErr result (λ error. error ≡ StunWriteError.NoMemory → text_refusal longest_text realm.now ≡ None) }
     {
         if realm.len() > Realm::MAX_LEN {
             return Err(StunWriteError::TooLarge {

@@ -41,6 +41,7 @@ impl Username {
     pub fn new(alloc: Global, username: &str) -> Result<Username, StunWriteError>
         ensures ok { IfOk result (λ made. (made ≡ username.now) × (text_refusal longest_username username.now ≡ None)) }
         ensures refused { IfErr result (λ error. error ≢ StunWriteError.NoMemory → text_refusal longest_username username.now ≡ Some error) }
+        ensures last { IfErr result (λ error. error ≡ StunWriteError.NoMemory → text_refusal longest_username username.now ≡ None) }
     {
         if username.len() > Username::MAX_LEN {
             return Err(StunWriteError::TooLarge {
