@@ -43,6 +43,7 @@ impl AlternateDomain {
     pub fn new(alloc: Global, domain: &str) -> Result<AlternateDomain, StunWriteError>
         ensures ok { IfOk result (λ made. (made ≡ domain.now) × (text_refusal longest_domain domain.now ≡ None)) }
         ensures refused { IfErr result (λ error. error ≢ StunWriteError.NoMemory → text_refusal longest_domain domain.now ≡ Some error) }
+        ensures last { IfErr result (λ error. error ≡ StunWriteError.NoMemory → text_refusal longest_domain domain.now ≡ None) }
     {
         if domain.len() > AlternateDomain::MAX_LEN {
             return Err(StunWriteError::TooLarge {

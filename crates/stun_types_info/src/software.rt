@@ -43,6 +43,7 @@ impl Software {
     pub fn new(alloc: Global, software: &str) -> Result<Software, StunWriteError>
         ensures ok { IfOk result (λ made. (made ≡ software.now) × (text_refusal longest_software software.now ≡ None)) }
         ensures refused { IfErr result (λ error. error ≢ StunWriteError.NoMemory → text_refusal longest_software software.now ≡ Some error) }
+        ensures last { IfErr result (λ error. error ≡ StunWriteError.NoMemory → text_refusal longest_software software.now ≡ None) }
     {
         if software.len() > Software::MAX_LEN {
             return Err(StunWriteError::TooLarge {

@@ -43,6 +43,7 @@ impl UnknownAttributes {
     pub fn new(alloc: Global, types: &[AttributeType]) -> Result<UnknownAttributes, StunWriteError>
         ensures ok { IfOk result (λ made. (made ≡ map (λ t. t.0) types.now) × (types_refusal (length types.now) ≡ None)) }
         ensures refused { IfErr result (λ error. error ≢ StunWriteError.NoMemory → types_refusal (length types.now) ≡ Some error) }
+        ensures last { IfErr result (λ error. error ≡ StunWriteError.NoMemory → types_refusal (length types.now) ≡ None) }
     {
         let len = 2 * types.len();
         if len > UnknownAttributes::MAX_LEN {
@@ -70,6 +71,7 @@ impl UnknownAttributes {
         ensures added { OnOk result (self.new ≡ with_type atype.0 self.old) }
         ensures fits { OnOk result (types_refusal (length (with_type atype.0 self.old)) ≡ None) }
         ensures refused { IfErr result (λ error. error ≢ StunWriteError.NoMemory → types_refusal (length (with_type atype.0 self.old)) ≡ Some error) }
+        ensures last { IfErr result (λ error. error ≡ StunWriteError.NoMemory → types_refusal (length (with_type atype.0 self.old)) ≡ None) }
         ensures unchanged { OnErr result (self.new ≡ self.old) }
     {
         if self.has_attribute(atype) {
