@@ -53,6 +53,7 @@ impl PasswordAlgorithms {
     ) -> Result<PasswordAlgorithms, StunWriteError>
         ensures ok { IfOk result (λ made. (made ≡ algorithms.now) × (count_refusal (length algorithms.now) ≡ None)) }
         ensures refused { IfErr result (λ error. error ≢ StunWriteError.NoMemory → count_refusal (length algorithms.now) ≡ Some error) }
+        ensures last { IfErr result (λ error. error ≡ StunWriteError.NoMemory → count_refusal (length algorithms.now) ≡ None) }
     {
         if algorithms.len() > PasswordAlgorithms::MAX_COUNT {
             return Err(StunWriteError::TooLarge {
