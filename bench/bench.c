@@ -232,7 +232,7 @@ static void time_rows(unsigned rounds) {
 }
 
 static void print_ratio(const char *name, double value, const char *unit) {
-    printf("%-48s %7.2f %s\n", name, value, unit);
+    printf("%-48s %7.3f %s\n", name, value, unit);
 }
 
 static void print_ratios(void) {
