@@ -117,6 +117,8 @@ fn error_codes_are_refused(rt: HostRuntime) {
             max: 699,
         };
         assert_eq!(rt; refused, Some(expected));
+        let refused = ErrorCode::builder(code).build(rt.alloc()).err();
+        assert_eq!(rt; refused, Some(expected));
     }
 }
 

@@ -1,9 +1,9 @@
 //! The texts of errors.
 
 use std::test::Fail;
-use stun_types::ParseTransportTypeError;
 use stun_types::attribute::AttributeType;
 use stun_types::message::{StunParseError, StunWriteError, ValidateError};
+use stun_types::{NoMemory, ParseTransportTypeError};
 
 #[test]
 fn texts_of_parse_errors(rt: HostRuntime) -> Result<(), Fail> {
@@ -137,5 +137,7 @@ fn texts_of_other_errors(rt: HostRuntime) -> Result<(), Fail> {
     }
     let shown = ParseTransportTypeError::UnknownTransport.to_string(rt.alloc())?;
     assert_eq!(rt; shown.as_str(), "Unknown transport value was provided");
+    let shown = NoMemory.to_string(rt.alloc())?;
+    assert_eq!(rt; shown.as_str(), "no memory");
     Ok(())
 }

@@ -4,7 +4,7 @@ use std::process::Abort;
 use std::test::Fail;
 use stun_types::attribute::{AttributeType, PasswordAlgorithm, PasswordAlgorithmValue};
 use stun_types::message::{
-    BINDING, Message, MessageClass, MessageHeader, StunParseError, TransactionId,
+    BINDING, Message, MessageClass, MessageHeader, Method, StunParseError, TransactionId,
 };
 
 /// A BINDING request with one PASSWORD-ALGORITHM.
@@ -42,6 +42,31 @@ fn fronts_of_a_header_are_refused(rt: HostRuntime) -> Result<(), Fail> {
         let refused = Message::from_bytes(front).err();
         assert_eq!(rt; refused, Some(truncated(expected, n)), "at {n}");
         assert!(rt; MessageHeader::from_bytes(front).is_ok() == (n >= 20));
+    }
+    Ok(())
+}
+
+/// The header of an error response to ALLOCATE, with nothing behind it of the 68 bytes that it tells.
+const ALLOCATE_ERROR: &str = "011300442112a442ade0b876903df1a0e56a5d40";
+
+#[test]
+fn headers_are_read(rt: HostRuntime) -> Result<(), Fail> {
+    let bytes = hex::decode(rt.alloc(), ALLOCATE_ERROR)?;
+    let header = MessageHeader::from_bytes(bytes.as_slice())?;
+    assert_eq!(rt; header.get_type().value(), 0x0113);
+    assert_eq!(rt; header.get_type().class(), MessageClass::Error);
+    assert_eq!(rt; header.get_type().method(), Method::new(3));
+    assert_eq!(rt; header.data_length(), 68);
+    let number = TransactionId::from(0xade0_b876_903d_f1a0_e56a_5d40u128);
+    assert_eq!(rt; header.transaction_id(), number);
+    // each of the two top bits, and each byte of the cookie
+    for (at, bit) in [(0, 0x80), (0, 0x40), (4, 1), (5, 1), (6, 1), (7, 1)] {
+        let mut changed = bytes.as_slice().to_vec(rt.alloc())?;
+        if let Some(byte) = changed.get_mut(at) {
+            *byte ^= bit;
+        }
+        let refused = MessageHeader::from_bytes(changed.as_slice()).err();
+        assert_eq!(rt; refused, Some(StunParseError::NotStun), "at {at}");
     }
     Ok(())
 }
