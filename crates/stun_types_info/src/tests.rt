@@ -59,6 +59,9 @@ fn types_in_bytes_and_back(rt: HostRuntime) -> Result<(), Fail> {
     let raw = unknown.to_raw(rt.alloc())?;
     assert_eq!(rt; raw.get_type(), UNKNOWN_ATTRIBUTES);
     assert_eq!(rt; raw.value(), [0x00, 0x17].as_slice());
+    let read = UnknownAttributes::from_raw(rt.alloc(), raw)?;
+    assert!(rt; read.has_attribute(AttributeType(0x0017)));
+    assert!(rt; !read.has_attribute(AttributeType(0x1700)));
     Ok(())
 }
 
