@@ -7,7 +7,7 @@ use std::convert::TryFrom;
 use std::test::Fail;
 use stun_types_wire::algorithm::IntegrityAlgorithm;
 use stun_types_wire::attribute::{AttributeType, RawAttribute};
-use stun_types_wire::error::StunParseError;
+use stun_types_wire::error::{StunParseError, StunWriteError, ValidateError};
 use stun_types_write::attribute::{AttributeFromRaw, AttributeWrite};
 
 const HMAC_OF_TENS: [u8; 20] = [
@@ -24,7 +24,10 @@ fn short_term_key_signs(rt: HostRuntime) -> Result<(), Fail> {
     let text = [10; 30];
     assert_eq!(rt; MessageIntegrity::compute(&text, &key)?, HMAC_OF_TENS);
     MessageIntegrity::verify(&text, &key, &HMAC_OF_TENS)?;
-    assert!(rt; MessageIntegrity::verify(&text[1..], &key, &HMAC_OF_TENS).is_err());
+    assert_eq!(rt;
+        MessageIntegrity::verify(&text[1..], &key, &HMAC_OF_TENS),
+        Err(ValidateError::IntegrityFailed)
+    );
     let (head, rest) = text.split_at(2);
     let (middle, tail) = rest.split_at(2);
     assert!(rt; key.signs(head, middle, tail, &HMAC_OF_TENS));
@@ -60,7 +63,15 @@ fn keys_are_equal_by_their_bytes(rt: HostRuntime) -> Result<(), Fail> {
     assert_eq!(rt; first, second);
     let other = IntegrityKey::new(rt.alloc(), b"past", IntegrityAlgorithm::Sha1)?;
     assert_ne!(rt; first, other);
-    assert!(rt; MessageIntegrity::compute(b"", &second).is_err());
+    // the second has the bytes of the key that signs, and was made for the other algorithm
+    assert_eq!(rt;
+        MessageIntegrity::compute(b"", &second).err(),
+        Some(StunWriteError::IntegrityFailed)
+    );
+    assert_eq!(rt;
+        MessageIntegrity::verify(&[10; 30], &second, &HMAC_OF_TENS),
+        Err(ValidateError::IntegrityFailed)
+    );
     Ok(())
 }
 
