@@ -3,6 +3,8 @@
 #![tactic(auto)]
 
 #[cfg(test)]
+mod marking;
+#[cfg(test)]
 mod reading;
 #[cfg(test)]
 mod recorded;
