@@ -1,6 +1,6 @@
 //! Requests that are begun with a generated number, and error responses that refuse a request.
 
-ghost use Rattle.std.specs.Prelude.{◌≡◌};
+ghost use Rattle.std.specs.Prelude.{◌≡◌, ◌≤◌, length};
 
 use rand_chacha::ChaCha20Rng;
 use rand_core::SeedableRng;
@@ -8,7 +8,8 @@ use std::alloc::Global;
 use std::test::Fail;
 use stun_types::attribute::AttributeType;
 use stun_types::message::{
-    BINDING, Message, MessageClass, MessageWrite, MessageWriteVec, TransactionId,
+    BINDING, Message, MessageClass, MessageWrite, MessageWriteMutSlice, MessageWriteVec,
+    StunWriteError, TransactionId,
 };
 
 const USERNAME: AttributeType = AttributeType(0x0006);
@@ -94,6 +95,83 @@ fn requests_are_refused(rt: HostRuntime) -> Result<(), Fail> {
     let text = hex::encode(rt.alloc(), reply.finish().as_slice())?;
     assert_eq!(rt; text.as_str(), GIVEN);
     Ok(())
+}
+
+#[test]
+fn responses_past_the_lent_bytes_are_refused(rt: HostRuntime) -> Result<(), Fail> {
+    let bytes = hex::decode(rt.alloc(), REQUEST)?;
+    let request = Message::from_bytes(bytes.as_slice())?;
+    assert!(rt; request.class() == MessageClass::Request);
+    let (mut small, mut larger, mut largest) = ([0; 39], [0; 47], [0; 55]);
+    let writer = MessageWriteMutSlice::new(rt.alloc(), &mut small);
+    let answer = Message::bad_request(rt.alloc(), &request, writer);
+    assert_eq!(rt; answer.err(), Some(too_small(40, 39)));
+    // one byte less than header and ERROR-CODE take, and than UNKNOWN-ATTRIBUTES takes behind them
+    let types = [SOFTWARE];
+    let writer = MessageWriteMutSlice::new(rt.alloc(), &mut larger);
+    let answer = Message::unknown_attributes(rt.alloc(), &request, &types, writer);
+    assert_eq!(rt; answer.err(), Some(too_small(48, 47)));
+    let writer = MessageWriteMutSlice::new(rt.alloc(), &mut largest);
+    let answer = Message::unknown_attributes(rt.alloc(), &request, &types, writer);
+    assert_eq!(rt; answer.err(), Some(too_small(56, 55)));
+    Ok(())
+}
+
+#[test]
+fn too_many_types_are_refused(rt: HostRuntime) -> Result<(), Fail> {
+    let bytes = hex::decode(rt.alloc(), REQUEST)?;
+    let request = Message::from_bytes(bytes.as_slice())?;
+    assert!(rt; request.class() == MessageClass::Request);
+    // the first make a lawful value, which has 32 bytes and two of padding beside it
+    for (count, actual) in [(32_767, 65_568), (32_768, 65_536)] {
+        let mut types = Vec::new(rt.alloc());
+        types.resize(count, SOFTWARE)?;
+        let writer = MessageWriteVec::new(rt.alloc());
+        let answer = Message::unknown_attributes(rt.alloc(), &request, types.as_slice(), writer);
+        let too_large = StunWriteError::TooLarge {
+            expected: 65_535,
+            actual,
+        };
+        assert_eq!(rt; answer.err(), Some(too_large));
+    }
+    Ok(())
+}
+
+/// Why the attributes of `REQUEST` are not checked, where the response is to go into lent bytes.
+fn check_refusal(
+    alloc: Global,
+    supported: &[AttributeType],
+    required: &[AttributeType],
+    lent: &mut [u8],
+) -> Result<Option<StunWriteError>, Fail>
+    requires { 20 ≤ length lent.old }
+{
+    let bytes = hex::decode(alloc, REQUEST)?;
+    let request = Message::from_bytes(bytes.as_slice())?;
+    if request.class() != MessageClass::Request {
+        return Ok(None);
+    }
+    let writer = MessageWriteMutSlice::new(alloc, lent);
+    let answer = Message::check_attribute_types(alloc, &request, supported, required, writer);
+    Ok(answer.err())
+}
+
+#[test]
+fn checks_past_the_lent_bytes_are_refused(rt: HostRuntime) -> Result<(), Fail> {
+    let algorithm = [PASSWORD_ALGORITHM];
+    let user = [USERNAME];
+    let (mut small, mut larger, mut largest) = ([0; 39], [0; 47], [0; 55]);
+    let missing = check_refusal(rt.alloc(), &algorithm, &user, &mut small)?;
+    assert_eq!(rt; missing, Some(too_small(40, 39)));
+    let unknown = check_refusal(rt.alloc(), &user, &user, &mut larger)?;
+    assert_eq!(rt; unknown, Some(too_small(48, 47)));
+    let unknown = check_refusal(rt.alloc(), &user, &user, &mut largest)?;
+    assert_eq!(rt; unknown, Some(too_small(56, 55)));
+    Ok(())
+}
+
+fn too_small(expected: usize, actual: usize) -> StunWriteError {
+    StunWriteError::TooSmall { expected, actual }
 }
 
 /// Against the key stream of ChaCha20 under a key of zeros (RFC 8439, appendix A.1, test vector 1).
