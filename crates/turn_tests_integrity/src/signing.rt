@@ -112,6 +112,26 @@ fn second_integrity_attributes_are_refused(rt: HostRuntime) -> Result<(), Fail> 
 }
 
 #[test]
+fn second_integrity_attributes_are_refused_under_credentials(rt: HostRuntime) -> Result<(), Fail> {
+    let (sha1, sha256) = (IntegrityAlgorithm::Sha1, IntegrityAlgorithm::Sha256);
+    let credentials = credentials_of_user(rt.alloc(), "pass")?;
+    let exists = |atype: u16| StunWriteError::AttributeExists(AttributeType(atype));
+    for (first, second, refused) in [
+        (sha1, sha1, exists(0x0008)),
+        (sha256, sha256, exists(0x001C)),
+        (sha256, sha1, StunWriteError::MessageIntegrityExists),
+    ] {
+        let mut writer = unsigned(&rt)?;
+        writer.add_message_integrity(rt.alloc(), &credentials, first)?;
+        let before = writer.as_slice().to_vec(rt.alloc())?;
+        let answer = writer.add_message_integrity(rt.alloc(), &credentials, second);
+        assert_eq!(rt; answer.err(), Some(refused));
+        assert_eq!(rt; writer.as_slice(), before.as_slice());
+    }
+    Ok(())
+}
+
+#[test]
 fn keys_of_the_other_algorithm_are_refused(rt: HostRuntime) -> Result<(), Fail> {
     let (sha1, sha256) = (IntegrityAlgorithm::Sha1, IntegrityAlgorithm::Sha256);
     let credentials = credentials_of_user(rt.alloc(), "pass")?;
@@ -141,6 +161,8 @@ fn integrity_past_the_length_field_is_refused(rt: HostRuntime) -> Result<(), Fai
         actual: 65_544,
     };
     assert_eq!(rt; refused, Some(too_large));
+    let answer = writer.add_message_integrity(rt.alloc(), &credentials, sha256);
+    assert_eq!(rt; answer.err(), Some(too_large));
     writer.add_message_integrity_with_key(&short_key, sha1)?;
     assert_eq!(rt; writer.len(), 20 + 65_532);
     Ok(())

@@ -125,3 +125,21 @@ fn signature_past_the_lent_bytes_is_refused(rt: HostRuntime) -> Result<(), Fail>
     assert_eq!(rt; slice.len(), 40);
     Ok(())
 }
+
+#[test]
+fn signature_by_credentials_past_the_lent_bytes_is_refused(rt: HostRuntime) -> Result<(), Fail> {
+    let credentials = credentials_of_user(rt.alloc(), "pass")?;
+    for (algorithm, expected) in [
+        (IntegrityAlgorithm::Sha1, 44),
+        (IntegrityAlgorithm::Sha256, 56),
+    ] {
+        let mut bytes = [0xEE; 43];
+        let mut writer = begun(MessageWriteMutSlice::new(rt.alloc(), &mut bytes))?;
+        let answer = writer.add_message_integrity(rt.alloc(), &credentials, algorithm);
+        let actual = 43;
+        let too_small = StunWriteError::TooSmall { expected, actual };
+        assert_eq!(rt; answer.err(), Some(too_small));
+        assert_eq!(rt; writer.len(), 20);
+    }
+    Ok(())
+}

@@ -61,6 +61,22 @@ fn keys_name_the_attribute_and_credentials_the_last_one(rt: HostRuntime) -> Resu
     Ok(())
 }
 
+#[test]
+fn keys_of_another_password_are_refused(rt: HostRuntime) -> Result<(), Fail> {
+    let wrong = credentials_of_user(rt.alloc(), "past")?;
+    for (algorithm, text) in [
+        (IntegrityAlgorithm::Sha1, SIGNED_BY_SHA1),
+        (IntegrityAlgorithm::Sha256, SIGNED_BY_SHA256),
+    ] {
+        let bytes = hex::decode(rt.alloc(), text)?;
+        let message = Message::from_bytes(bytes.as_slice())?;
+        let key = wrong.make_key(rt.alloc(), algorithm)?;
+        let answer = message.validate_integrity_with_key(&key);
+        assert_eq!(rt; answer, Err(ValidateError::IntegrityFailed), "{text}");
+    }
+    Ok(())
+}
+
 /// Why a message is not validated that shows no attribute of a type.
 fn missing(atype: u16) -> ValidateError {
     ValidateError::Parse(StunParseError::MissingAttribute(AttributeType(atype)))
@@ -92,11 +108,14 @@ fn fronts_of_an_hmac_sha256(rt: HostRuntime) -> Result<(), Fail> {
         let answer = message.validate_integrity(rt.alloc(), &credentials);
         assert_eq!(rt; answer, Ok(IntegrityAlgorithm::Sha256), "{text}");
     }
+    let key = credentials.make_key(rt.alloc(), IntegrityAlgorithm::Sha256)?;
     let invalid = ValidateError::Parse(StunParseError::InvalidAttributeData);
     for text in UNLAWFUL_FRONTS {
         let bytes = hex::decode(rt.alloc(), text)?;
         let message = Message::from_bytes(bytes.as_slice())?;
         let answer = message.validate_integrity(rt.alloc(), &credentials);
+        assert_eq!(rt; answer, Err(invalid), "{text}");
+        let answer = message.validate_integrity_with_key(&key);
         assert_eq!(rt; answer, Err(invalid), "{text}");
     }
     Ok(())
