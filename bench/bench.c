@@ -24,6 +24,7 @@ struct allocation {
 void stun_bench_sha1(const uint8_t *text, size_t len, uint8_t digest[20]);
 void stun_bench_sha256(const uint8_t *text, size_t len, uint8_t digest[32]);
 uint32_t stun_bench_crc32(const uint8_t *text, size_t len);
+uint32_t stun_bench_fingerprint(const uint8_t *text, size_t len);
 bool stun_bench_parse(const uint8_t *bytes, size_t len);
 bool stun_bench_shows(const uint8_t *bytes, size_t len, const uint16_t *types, size_t count);
 bool stun_bench_look_up(const uint8_t *bytes, size_t len);
@@ -42,6 +43,25 @@ size_t stun_bench_sign_sha256(const uint8_t *password, size_t password_len,
                               const struct allocation *told, uint64_t number,
                               const uint8_t *software, size_t software_len, uint8_t *out,
                               size_t out_len);
+
+size_t stun_bench_mark_sha1(const uint8_t *password, size_t password_len,
+                            const struct allocation *told, uint64_t number,
+                            const uint8_t *software, size_t software_len, uint8_t *out,
+                            size_t out_len);
+size_t stun_bench_build_request(uint32_t lifetime, uint64_t number, const uint8_t *user,
+                                size_t user_len, const uint8_t *realm, size_t realm_len,
+                                const uint8_t *nonce, size_t nonce_len, uint8_t *out,
+                                size_t out_len);
+size_t stun_bench_sign_request_sha1(const uint8_t *password, size_t password_len,
+                                    uint32_t lifetime, uint64_t number, const uint8_t *user,
+                                    size_t user_len, const uint8_t *realm, size_t realm_len,
+                                    const uint8_t *nonce, size_t nonce_len, uint8_t *out,
+                                    size_t out_len);
+size_t stun_bench_sign_request_sha256(const uint8_t *password, size_t password_len,
+                                      uint32_t lifetime, uint64_t number, const uint8_t *user,
+                                      size_t user_len, const uint8_t *realm, size_t realm_len,
+                                      const uint8_t *nonce, size_t nonce_len, uint8_t *out,
+                                      size_t out_len);
 
 // ---- what is counted: the linker sends each call of malloc and realloc here (--wrap)
 
@@ -64,6 +84,9 @@ void *__wrap_realloc(void *at, size_t size) {
 
 static const uint8_t key[] = "0123456789abcdef";
 static const uint8_t software[] = "pakhvizhe ok";
+static const uint8_t user[] = "user";
+static const uint8_t realm[] = "realm";
+static const uint8_t nonce[] = "obMatJos2AAAA0123456789abcdef";
 static const struct allocation granted = {0xcb007105, 0xc0a80001, 600, 50000, 1000};
 static const uint64_t number = 0xd0e0f0a1a2a3a4a5;
 static const uint16_t request_types[] = {0x0019, 0x000d, 0x0006, 0x0014, 0x0015, 0x0008};
@@ -72,6 +95,9 @@ static uint8_t large[4096];
 #define KEY key, 16
 #define RESPONSE &granted, number, software, 12, out, sizeof out
 #define REQUEST_TYPES request_types, 6
+#define REQUEST 1800, number, user, 4, realm, 5, nonce, 29, out, sizeof out
+// the text that the FINGERPRINT of a message covers
+#define COVERED(message) message, sizeof message - 8
 
 // ---- what is timed: each takes how often it is to run
 
@@ -113,6 +139,14 @@ TIMED(validate_request_sha256,
 TIMED(build, sink += stun_bench_build(RESPONSE))
 TIMED(sign_sha1, sink += stun_bench_sign_sha1(KEY, RESPONSE))
 TIMED(sign_sha256, sink += stun_bench_sign_sha256(KEY, RESPONSE))
+TIMED(mark_sha1, sink += stun_bench_mark_sha1(KEY, RESPONSE))
+TIMED(build_request, sink += stun_bench_build_request(REQUEST))
+TIMED(sign_request_sha1, sink += stun_bench_sign_request_sha1(KEY, REQUEST))
+TIMED(sign_request_sha256, sink += stun_bench_sign_request_sha256(KEY, REQUEST))
+TIMED(fingerprint_response, sink += stun_bench_fingerprint(COVERED(response_whole)))
+TIMED(fingerprint_request, sink += stun_bench_fingerprint(COVERED(request_whole)))
+TIMED(validate_whole_sha1,
+      sink += stun_bench_validate_sha1(KEY, response_whole, sizeof response_whole).holds)
 
 struct row {
     const char *name;
@@ -124,7 +158,8 @@ enum {
     SHA1_FIVE, SHA256_FIVE, CRC_LONG, CRC_SHORT, PARSE_RESPONSE, READ_RESPONSE, PARSE_REQUEST,
     LOOK_UP_REQUEST, KEY_ALONE, VALIDATE_RESPONSE_SHA1, VALIDATE_REQUEST_SHA1,
     VALIDATE_RESPONSE_SHA256, VALIDATE_REQUEST_SHA256, BUILD, SIGN_SHA1, SIGN_SHA256, PARSE_WHOLE,
-    LOOK_UP_WHOLE, READ_WHOLE, ROWS
+    LOOK_UP_WHOLE, READ_WHOLE, VALIDATE_WHOLE_SHA1, MARK_SHA1, BUILD_REQUEST, SIGN_REQUEST_SHA1,
+    SIGN_REQUEST_SHA256, FINGERPRINT_RESPONSE, FINGERPRINT_REQUEST, ROWS
 };
 
 static const struct row rows[ROWS] = {
@@ -147,6 +182,13 @@ static const struct row rows[ROWS] = {
     [PARSE_WHOLE] = {"parse response with FINGERPRINT", parse_whole, 64},
     [LOOK_UP_WHOLE] = {"the same and look up six", look_up_whole, 64},
     [READ_WHOLE] = {"the same and read it", read_whole, 64},
+    [VALIDATE_WHOLE_SHA1] = {"key, validate it, SHA-1", validate_whole_sha1, 16},
+    [MARK_SHA1] = {"key, build and sign it, FINGERPRINT too", mark_sha1, 16},
+    [BUILD_REQUEST] = {"build request", build_request, 64},
+    [SIGN_REQUEST_SHA1] = {"key, build and sign request, SHA-1", sign_request_sha1, 16},
+    [SIGN_REQUEST_SHA256] = {"key, build and sign request, SHA-256", sign_request_sha256, 16},
+    [FINGERPRINT_RESPONSE] = {"FINGERPRINT of the response", fingerprint_response, 128},
+    [FINGERPRINT_REQUEST] = {"FINGERPRINT of the request", fingerprint_request, 128},
 };
 
 // the least time of one call, in nanoseconds, and the allocations of one call
@@ -160,6 +202,11 @@ static void must(bool holds, const char *what) {
         fprintf(stderr, "wrong answer: %s\n", what);
         exit(1);
     }
+}
+
+// the number in four bytes, the highest first
+static uint32_t number_at(const uint8_t *bytes) {
+    return (uint32_t)bytes[0] << 24 | (uint32_t)bytes[1] << 16 | (uint32_t)bytes[2] << 8 | bytes[3];
 }
 
 static bool validates(struct answer answer) { return answer.known && answer.holds; }
@@ -185,6 +232,7 @@ static void check_reading(void) {
     must(stun_bench_read(response_whole, sizeof response_whole, &told, &fingerprint), "read");
     must(fingerprint, "FINGERPRINT is shown");
     must(validates(stun_bench_validate_sha1(KEY, response_sha1, sizeof response_sha1)), "SHA-1");
+    must(validates(stun_bench_validate_sha1(KEY, response_whole, sizeof response_whole)), "SHA-1");
     must(validates(stun_bench_validate_sha1(KEY, request_sha1, sizeof request_sha1)), "SHA-1");
     must(validates(stun_bench_validate_sha256(KEY, response_sha256, sizeof response_sha256)),
          "SHA-256");
@@ -202,6 +250,22 @@ static void check_writing(void) {
     size = stun_bench_sign_sha256(KEY, RESPONSE);
     must(size == sizeof response_sha256 && memcmp(out, response_sha256, size) == 0,
          "sign, SHA-256");
+    size = stun_bench_mark_sha1(KEY, RESPONSE);
+    must(size == sizeof response_whole && memcmp(out, response_whole, size) == 0, "FINGERPRINT");
+    must(stun_bench_fingerprint(COVERED(response_whole)) == number_at(response_whole + 96),
+         "FINGERPRINT of the response");
+}
+
+static void check_writing_requests(void) {
+    size_t size = stun_bench_build_request(REQUEST);
+    must(size == sizeof request_unsigned && memcmp(out, request_unsigned, size) == 0, "build");
+    size = stun_bench_sign_request_sha1(KEY, REQUEST);
+    must(size == sizeof request_sha1 && memcmp(out, request_sha1, size) == 0, "sign, SHA-1");
+    size = stun_bench_sign_request_sha256(KEY, REQUEST);
+    must(size == sizeof request_sha256 && memcmp(out, request_sha256, size) == 0,
+         "sign, SHA-256");
+    must(stun_bench_fingerprint(COVERED(request_whole)) == number_at(request_whole + 120),
+         "FINGERPRINT of the request");
 }
 
 // ---- timing
@@ -253,14 +317,22 @@ static void print_ratios(void) {
                 (least[VALIDATE_REQUEST_SHA256] - key_cost) / least[SHA256_FIVE], sha256);
     print_ratio("sign response, SHA-256",
                 (least[SIGN_SHA256] - least[BUILD] - key_cost) / least[SHA256_FIVE], sha256);
+    print_ratio("sign request, SHA-1",
+                (least[SIGN_REQUEST_SHA1] - least[BUILD_REQUEST] - key_cost) / least[SHA1_FIVE],
+                sha1);
+    print_ratio("sign request, SHA-256",
+                (least[SIGN_REQUEST_SHA256] - least[BUILD_REQUEST] - key_cost) /
+                    least[SHA256_FIVE],
+                sha256);
+    double whole = least[VALIDATE_WHOLE_SHA1] - key_cost;
+    print_ratio("validate response with FINGERPRINT, SHA-1", whole / least[SHA1_FIVE], sha1);
     print_ratio("parse request and look up six",
                 least[LOOK_UP_REQUEST] / (least[VALIDATE_REQUEST_SHA1] - key_cost),
                 "of its validation");
-    print_ratio("parse response and look up six, CRC-32 apart",
-                (least[LOOK_UP_WHOLE] - least[PARSE_WHOLE] + least[PARSE_RESPONSE]) / validation,
+    print_ratio("parse response with FINGERPRINT, look up six", least[LOOK_UP_WHOLE] / whole,
                 "of its validation");
-    print_ratio("parse response and look up six, with its CRC-32",
-                least[LOOK_UP_WHOLE] / validation, "of its validation");
+    print_ratio("the same, to validation without FINGERPRINT", least[LOOK_UP_WHOLE] / validation,
+                "of that");
     print_ratio("CRC-32", least[CRC_LONG] / sizeof large, "ns a byte");
     print_ratio("CRC-32, at 150 ns a SHA-1 block",
                 least[CRC_LONG] / sizeof large * 150 / (least[SHA1_FIVE] / 5), "ns a byte");
@@ -271,6 +343,7 @@ int main(int argc, char **argv) {
     check_digests();
     check_reading();
     check_writing();
+    check_writing_requests();
     time_rows(rounds);
     printf("%-40s %10s %12s\n", "", "ns", "allocations");
     for (unsigned i = 0; i < ROWS; i++) {

@@ -66,6 +66,7 @@ def main():
         "response_sha1": message(SUCCESS, response_sha1),
         "response_sha256": message(SUCCESS, response_sha256),
         "response_whole": message(SUCCESS, marked(SUCCESS, response_sha1)),
+        "request_unsigned": message(REQUEST, ASKED),
         "request_sha1": message(REQUEST, request_sha1),
         "request_sha256": message(REQUEST, request_sha256),
         "request_whole": message(REQUEST, marked(REQUEST, request_sha1)),

@@ -7,6 +7,7 @@ use Rattle.std.specs.Net.Socket.{v4_ip, v4_port}
 use Rattle.byteorder.specs.Endian.{big_bytes, big_number}
 use Rattle.stun_types_wire.specs.declared.algorithm.IntegrityAlgorithm.{IntegrityAlgorithm}
 use Rattle.stun_types_wire.specs.Attributes.{Attr}
+use Rattle.stun_types_wire.specs.Fingerprints.{fingerprint_of}
 use Rattle.stun_types_wire.specs.Grammar.{number_at, shown}
 use Rattle.stun_types_wire.specs.Text.{message_text}
 use Rattle.stun_types_write.specs.Reading.{value_refusal}
@@ -79,6 +80,13 @@ allocated_text told number software = message_text 0x0103 number (allocated told
 abbrev pub signed_text : IntegrityAlgorithm → List ℕ → Allocation → ℕ → List ℕ → List ℕ
 signed_text algorithm key told number software =
     message_text 0x0103 number (allocated told number software ++ signature algorithm key (allocated_text told number software) ∷ [])
+
+-- the text of the response, signed under a key and with its FINGERPRINT
+abbrev pub marked_text : IntegrityAlgorithm → List ℕ → Allocation → ℕ → List ℕ → List ℕ
+marked_text algorithm key told number software =
+    message_text 0x0103 number
+    ((allocated told number software ++ signature algorithm key (allocated_text told number software) ∷ [])
+    ++ fingerprint_of (signed_text algorithm key told number software) ∷ [])
 
 -- a text stands at the front of bytes, and the rest is as it was
 pub record IsWritten (text before after : List ℕ) (size : ℕ) : Type 0 where

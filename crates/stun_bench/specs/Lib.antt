@@ -1,1 +1,2 @@
 pub mod Allocated
+pub mod Asked

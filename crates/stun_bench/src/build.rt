@@ -6,7 +6,7 @@ ghost use Rattle.stun_types_wire.specs.Attributes.{Attr};
 ghost use Rattle.stun_types_wire.specs.Text.{message_text};
 ghost use Rattle.stun_types_write.specs.Adding.{IsBegun};
 ghost use Rattle.stun_types_address.specs.Addresses.{address_value};
-ghost use Rattle.stun_bench.specs.Allocated.{IsWritten, allocated_text, signed_text, place_value};
+ghost use Rattle.stun_bench.specs.Allocated.{IsWritten, allocated_text, marked_text, signed_text, place_value};
 
 use crate::allocation::Allocation;
 use crate::key::key_of_password;
@@ -23,13 +23,13 @@ use turn_types_attribute::lifetime::Lifetime;
 use turn_types_attribute::xor_relayed_address::XorRelayedAddress;
 
 /// ALLOCATE (RFC 8656, section 17).
-const ALLOCATE: Method = Method(0x003);
+pub(crate) const ALLOCATE: Method = Method(0x003);
 
 /// How many bytes SOFTWARE has at most (RFC 8489, section 14.14).
 const MAX_SOFTWARE: usize = 763;
 
-/// For how many bytes a writer has room at first: those of a signed response with a short SOFTWARE.
-const ROOM: usize = 128;
+/// For how many bytes a writer has room at first: those of a signed message with short texts.
+pub(crate) const ROOM: usize = 128;
 
 /// Writes the success response to an ALLOCATE of this number to the front of `out`: XOR-RELAYED-ADDRESS,
 /// LIFETIME, XOR-MAPPED-ADDRESS and SOFTWARE. Answers how many bytes it has; 0, with nothing written,
@@ -92,9 +92,30 @@ pub extern "C" fn stun_bench_sign_sha256(
     }
 }
 
+/// Writes the same response with a MESSAGE-INTEGRITY and a FINGERPRINT at its end, six attributes.
+/// Otherwise the same as `stun_bench_sign_sha1`.
+#[unsafe(no_mangle)]
+pub extern "C" fn stun_bench_mark_sha1(
+    alloc: Global,
+    password: &[u8],
+    told: &Allocation,
+    number: u64,
+    software: &[u8],
+    out: &mut [u8],
+) -> usize
+    ensures written { 0 < result → IsWritten (marked_text Sha1 password.now told.now number software.now) out.old out.new result }
+    ensures refused { result ≡ 0 → out.new ≡ out.old }
+{
+    let algorithm = IntegrityAlgorithm::Sha1;
+    match mark(alloc, password, algorithm, told, number, software) {
+        Some(writer) => copy_out(writer.as_slice(), out),
+        None => 0,
+    }
+}
+
 /// Writes a text to the front of some bytes, and answers how long it is; 0, with nothing written, where
 /// there are fewer bytes.
-fn copy_out(text: &[u8], out: &mut [u8]) -> usize
+pub(crate) fn copy_out(text: &[u8], out: &mut [u8]) -> usize
     ensures written { 0 < result → IsWritten text.now out.old out.new result }
     ensures refused { result ≡ 0 → out.new ≡ out.old }
 {
@@ -104,6 +125,23 @@ fn copy_out(text: &[u8], out: &mut [u8]) -> usize
     let (front, _) = out.split_at_mut(text.len());
     front.copy_from_slice(text);
     text.len()
+}
+
+/// The signed response with its FINGERPRINT, in a writer. None where `sign` answers none, and where
+/// memory is refused.
+fn mark(
+    alloc: Global,
+    password: &[u8],
+    algorithm: IntegrityAlgorithm,
+    told: &Allocation,
+    number: u64,
+    software: &[u8],
+) -> Option<MessageWriteVec>
+    ensures { IfSome result (λ writer. writer.bytes ≡ marked_text algorithm password.now told.now number software.now) }
+{
+    let mut writer = sign(alloc, password, algorithm, told, number, software)?;
+    writer.add_fingerprint().ok()?;
+    Some(writer)
 }
 
 /// The signed response, in a writer. None where the password is not UTF-8, where SOFTWARE has more
@@ -116,7 +154,8 @@ fn sign(
     number: u64,
     software: &[u8],
 ) -> Option<MessageWriteVec>
-    ensures { IfSome result (λ writer. writer.bytes ≡ signed_text algorithm password.now told.now number software.now) }
+    ensures text { IfSome result (λ writer. writer.bytes ≡ signed_text algorithm password.now told.now number software.now) }
+    ensures begun { IfSome result (λ writer. IsBegun writer.bytes) }
 {
     let key = key_of_password(alloc, password, algorithm)?;
     let mut writer = build(alloc, told, number, software).ok()?;

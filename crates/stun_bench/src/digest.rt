@@ -3,10 +3,14 @@
 ghost use Rattle.std.specs.Prelude.{◌≡◌};
 ghost use Rattle.sha1.specs.Sha1.{sha1};
 ghost use Rattle.sha2.specs.Sha256.{sha256};
+ghost use Rattle.byteorder.specs.Endian.{big_number};
 ghost use Rattle.stun_types_digest.specs.Crc.{crc32};
+ghost use Rattle.stun_types_wire.specs.Fingerprints.{fingerprint_value};
 
+use byteorder::{BigEndian, ByteOrder};
 use sha1::Sha1;
 use sha2::{Digest, Sha256};
+use stun_types::attribute::Fingerprint;
 use stun_types_digest::crc::Crc32;
 
 /// A SHA-1 digest.
@@ -47,4 +51,13 @@ pub extern "C" fn stun_bench_crc32(text: &[u8]) -> u32
     ensures { result ≡ crc32 text.now }
 {
     Crc32::checksum(text)
+}
+
+/// The value of the FINGERPRINT of a text, as a number (RFC 8489, section 14.7).
+#[unsafe(no_mangle)]
+pub extern "C" fn stun_bench_fingerprint(text: &[u8]) -> u32
+    ensures { result ≡ big_number 4 (fingerprint_value text.now) }
+{
+    let value = Fingerprint::new(Fingerprint::compute(text)).value();
+    BigEndian::read_u32(&value)
 }

@@ -7,6 +7,7 @@ pub mod build;
 pub mod digest;
 mod key;
 pub mod read;
+pub mod request;
 #[cfg(test)]
 mod tests;
 pub mod validate;
