@@ -5,7 +5,8 @@ use Rattle.std.specs.List.{slice_split}
 use Rattle.std.proofs.lemmas.List.{drop_all, append-nil}
 use Rattle.std.proofs.Common.{Bor, suc}
 use Rattle.std.proofs.lemmas.Bool.{ne_eqb}
-use Rattle.turn_desk_replay.specs.Bytes.{answered_part, both, hex_bytes, joined, part_bytes, prepend, some_bytes, is_dash, named_bytes}
+use Rattle.turn_desk_replay.specs.Bytes.{answered_part, both, joined, part_bytes, prepend, some_bytes, named_bytes}
+use Rattle.program_lines.specs.LowerHex.{hex_bytes, is_dash}
 
 -- a part that begins with `@`
 pub part_answered : (answers : List (List ℕ)) (piece rest : List ℕ) → piece ≡ 64 ∷ rest

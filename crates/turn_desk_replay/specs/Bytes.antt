@@ -2,15 +2,9 @@
 -- first line's first; a line that was answered by no bytes has none.
 use Rattle.std.specs.Prelude.{ℕ, ◌-◌, ◌==◌, nat_le, ◌&&◌, Bool, if◌then◌else◌, List, [], ◌∷◌, ◌++◌, map, drop, length, slice_get, slice_range, slice_index, Option, Some, None}
 use Rattle.std.specs.Option.{option_map}
-use Rattle.std.specs.Result.{result_ok}
-use Rattle.std.specs.List.{slice_split, list_any}
-use Rattle.std.specs.Char.{is_ascii_uppercase}
-use Rattle.hex.specs.Hex.{decode_of}
+use Rattle.std.specs.List.{slice_split}
+use Rattle.program_lines.specs.LowerHex.{hex_bytes, is_dash}
 use Rattle.turn_desk_replay.specs.Number.{number}
-
--- the bytes of which the text is lower case hex
-unfoldable pub hex_bytes : List ℕ → Option (List ℕ)
-hex_bytes text = if list_any is_ascii_uppercase text then None else result_ok (decode_of text)
 
 -- what the event line of this number was answered, event lines counted from 1
 abbrev pub answer_of : List (List ℕ) → Option ℕ → Option (List ℕ)
@@ -61,10 +55,6 @@ both (Some bytes) others = prepend bytes others
 unfoldable pub joined : List (Option (List ℕ)) → Option (List ℕ)
 joined [] = Some []
 joined (bytes ∷ rest) = both bytes (joined rest)
-
--- the word `-`
-abbrev pub is_dash : List ℕ → Bool
-is_dash word = length word == 1 && slice_index word 0 == 45
 
 -- the bytes that a BYTES word names: none for `-`, else those of the parts that `+` joins
 unfoldable pub named_bytes : List (List ℕ) → List ℕ → Option (List ℕ)

@@ -3,11 +3,7 @@ pub mod Answer
 pub mod Bytes
 pub mod Decision
 pub mod Event
-pub mod Input
 pub mod Line
 pub mod Number
 pub mod Replay
 pub mod Setup
-pub mod Status
-pub mod Stop
-pub mod Refusal

@@ -3,9 +3,9 @@ use Rattle.std.specs.Prelude.{ℕ, List, ◌++◌, codes, Option, Some, None, �
 use Rattle.std.specs.List.{flat_map}
 use Rattle.std.specs.Io.KnownBytes.{Appends}
 use Rattle.turn_desk_replay.specs.Answer.{reply_text}
-use Rattle.turn_desk_replay.specs.Stop.{bad_text}
-use Rattle.turn_desk_replay.specs.declared.status.Status.{Status}
-use Rattle.turn_desk_replay.specs.declared.status.Status.TheVariants.{Done, BadTrace, NoMemory, Fault}
+use Rattle.program_lines.specs.Stop.{bad_text}
+use Rattle.program_lines.specs.declared.status.Status.{Status}
+use Rattle.program_lines.specs.declared.status.Status.TheVariants.{Done, BadTrace, NoMemory, Fault}
 
 -- the printed line of an answer: a reply, or none
 abbrev pub answer_text : Option (List ℕ) → List ℕ

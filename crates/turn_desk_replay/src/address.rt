@@ -6,8 +6,8 @@ ghost use Rattle.std.specs.Net.Grammar.{IsSocketText};
 ghost use Rattle.std.specs.declared.net.socket_addr.SocketAddr.{SocketAddr};
 ghost use Rattle.turn_desk_replay.specs.Address.{AreAddresses};
 
-use crate::refusal::LineError;
-use crate::word::pieces;
+use program_lines::refusal::LineError;
+use program_lines::word::pieces;
 use std::alloc::Global;
 use std::net::SocketAddr;
 use stun_types_base::list::ListOf;

@@ -3,6 +3,7 @@
 ghost use Rattle.std.specs.Prelude.{◌≡◌, IfOk, string_bytes};
 ghost use Rattle.turn_desk_replay.specs.Answer.{reply_text};
 
+use program_lines::lower_hex::write_hex;
 use std::alloc::{AllocError, Global};
 use std::marker::Model;
 
@@ -43,12 +44,8 @@ pub fn reply_line(alloc: Global, reply: &[u8]) -> Result<String, AllocError>
     ensures { IfOk result (λ text. string_bytes text ≡ reply_text reply.now) }
 {
     let mut text = String::from_str(alloc, "reply ")?;
-    if reply.is_empty() {
-        text.push_str("-")?;
-    } else {
-        let digits = hex::encode(alloc, reply)?;
-        text.push_str(digits.as_str())?;
-    }
+    let digits = write_hex(alloc, reply)?;
+    text.push_str(digits.as_str())?;
     text.push_str("\n")?;
     Ok(text)
 }

@@ -2,15 +2,15 @@
 
 ghost use Rattle.std.specs.Prelude.{◌≡◌, Some, None, Err, IfOk, OnOk, map};
 ghost use Rattle.std.specs.Option.{option_copied};
-ghost use Rattle.std.specs.List.{list_any};
-ghost use Rattle.std.specs.Char.{is_ascii_uppercase};
+ghost use Rattle.program_lines.specs.LowerHex.{hex_bytes};
 ghost use Rattle.turn_desk_replay.specs.Number.{number};
-ghost use Rattle.turn_desk_replay.specs.Bytes.{answer_of, answered_part, hex_bytes, is_dash, joined, named_bytes, part_bytes, prepend, range_of, reference_bytes, some_bytes};
+ghost use Rattle.turn_desk_replay.specs.Bytes.{answer_of, answered_part, joined, named_bytes, part_bytes, prepend, range_of, reference_bytes, some_bytes};
 
 use crate::answer::Answer;
 use crate::number::read_u64;
-use crate::refusal::LineError;
-use crate::word::pieces;
+use program_lines::lower_hex::{decode_lower, is_no_bytes};
+use program_lines::refusal::LineError;
+use program_lines::word::pieces;
 use std::alloc::Global;
 use stun_types_base::memory::NoMemory;
 
@@ -41,14 +41,6 @@ fn join_parts(alloc: Global, parts: &[&str], answers: &[Answer]) -> Result<Vec<u
         }
     }
     Ok(bytes)
-}
-
-/// Whether a word is `-`, which stands for no bytes.
-fn is_no_bytes(word: &str) -> bool
-    ensures { result ≡ is_dash word.now }
-{
-    let bytes = word.as_bytes();
-    bytes.len() == 1 && bytes[0] == b'-'
 }
 
 /// Appends the bytes that a part names.
@@ -103,29 +95,6 @@ fn push_some(bytes: &mut Vec<u8>, named: &[u8]) -> Result<(), LineError>
     }
     bytes.extend_from_slice(named)?;
     Ok(())
-}
-
-/// Whether an upper case letter stands in a text.
-fn has_uppercase(text: &str) -> bool
-    ensures { result ≡ list_any is_ascii_uppercase text.now }
-{
-    text.as_bytes().iter().any(|byte| byte.is_ascii_uppercase())
-}
-
-/// The bytes of lower case hex.
-#[tactic(auto, unfolding(crate::specs::Bytes::hex_bytes))]
-fn decode_lower(alloc: Global, text: &str) -> Result<Vec<u8>, LineError>
-    ensures ok { IfOk result (λ bytes. hex_bytes text.now ≡ Some bytes.items) }
-    ensures bad { result ≡ Err LineError.Bad → hex_bytes text.now ≡ None }
-{
-    if has_uppercase(text) {
-        return Err(LineError::Bad);
-    }
-    match hex::decode(alloc, text) {
-        Ok(bytes) => Ok(bytes),
-        Err(hex::FromHexError::OutOfMemory) => Err(LineError::NoMemory),
-        Err(_) => Err(LineError::Bad),
-    }
 }
 
 /// The bytes that `k` or `k:a:b` names, from the words between the colons.

@@ -6,7 +6,7 @@ ghost use Rattle.turn_desk_replay.specs.Decision.{IsAllocate, IsDecision, IsNumb
 
 use crate::address::read_addresses;
 use crate::number::{read_code, read_u32};
-use crate::refusal::LineError;
+use program_lines::refusal::LineError;
 use std::alloc::Global;
 use turn_desk_core::decision::Decision;
 

@@ -9,7 +9,7 @@ use crate::answer::Answer;
 use crate::bytes::read_bytes;
 use crate::decision::read_decision;
 use crate::number::{read_seed, read_u64};
-use crate::refusal::LineError;
+use program_lines::refusal::LineError;
 use std::alloc::Global;
 use std::net::SocketAddr;
 use stun_proto_agent::instant::Instant;

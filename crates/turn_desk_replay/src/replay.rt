@@ -2,19 +2,21 @@
 
 ghost use Rattle.std.specs.Prelude.{◌≡◌, ◌≢◌, ◌+◌, Err, OnOk, OnErr, option_map};
 ghost use Rattle.std.specs.Io.KnownBytes.{Appends};
-ghost use Rattle.turn_desk_replay.specs.Input.{TakesAll, TakesAtMost, TakesLines};
+ghost use Rattle.program_lines.specs.Input.{TakesAll, TakesAtMost, TakesLines};
 ghost use Rattle.std.specs.List.{AllByRecursion};
-ghost use Rattle.turn_desk_replay.specs.Line.{IsReadable, lines_of};
+ghost use Rattle.program_lines.specs.Cut.{lines_of};
+ghost use Rattle.turn_desk_replay.specs.Line.{IsReadable};
 ghost use Rattle.turn_desk_replay.specs.Replay.{answer_text, Prints, PrintsAnswers};
 
 use crate::answer::{Answer, reply_line};
 use crate::event::{Event, ToDesk};
-use crate::input::{InputError, MAX_TRACE, read_trace};
-use crate::line::{Line, cut_line, is_skipped, read_line};
-use crate::refusal::LineError;
+use crate::line::{Line, read_line};
 use crate::setup::{Algorithms, MAX_REALM, Setup};
-use crate::status::Status;
-use crate::stop::{Stop, flush, print_stop};
+use program_lines::cut::{cut_line, is_skipped};
+use program_lines::input::{InputError, MAX_INPUT, read_input};
+use program_lines::refusal::LineError;
+use program_lines::status::Status;
+use program_lines::stop::{Stop, flush, print_stop, stop_at};
 use rand_chacha::ChaCha20Rng;
 use rand_core::SeedableRng;
 use std::alloc::Global;
@@ -31,9 +33,9 @@ use turn_desk_core::desk::Desk;
 /// more is printed.
 pub fn replay<I: Read, O: Write>(alloc: Global, input: &mut I, output: &mut O) -> Status
     // At most one byte more than the longest trace is taken from the reader.
-    ensures taken { TakesAtMost (MAX_TRACE + 1) (I.remaining input.old) (I.remaining input.new) }
+    ensures taken { TakesAtMost (MAX_INPUT + 1) (I.remaining input.old) (I.remaining input.new) }
     // Where the trace was read, it is all that the reader had.
-    ensures whole { result ≢ Status.Fault → result ≢ Status.NoMemory → TakesAll MAX_TRACE (I.remaining input.old) (I.remaining input.new) }
+    ensures whole { result ≢ Status.Fault → result ≢ Status.NoMemory → TakesAll MAX_INPUT (I.remaining input.old) (I.remaining input.new) }
     // Where it ended well, each line of the trace says nothing or can be read.
     ensures done { result ≡ Status.Done → TakesLines IsReadable (I.remaining input.old) (I.remaining input.new) }
     ensures printed { Prints result (O.contents output.old) (O.contents output.new) }
@@ -46,12 +48,12 @@ pub fn replay<I: Read, O: Write>(alloc: Global, input: &mut I, output: &mut O) -
 
 /// Reads a trace whole, does what its lines say, and prints what its event lines are answered.
 fn replay_input<I: Read, O: Write>(alloc: Global, input: &mut I, output: &mut O) -> Result<(), Stop>
-    ensures taken { TakesAtMost (MAX_TRACE + 1) (I.remaining input.old) (I.remaining input.new) }
-    ensures whole { result ≢ Err Stop.Unread → result ≢ Err Stop.NoMemory → TakesAll MAX_TRACE (I.remaining input.old) (I.remaining input.new) }
+    ensures taken { TakesAtMost (MAX_INPUT + 1) (I.remaining input.old) (I.remaining input.new) }
+    ensures whole { result ≢ Err Stop.Unread → result ≢ Err Stop.NoMemory → TakesAll MAX_INPUT (I.remaining input.old) (I.remaining input.new) }
     ensures done { OnOk result (TakesLines IsReadable (I.remaining input.old) (I.remaining input.new)) }
     ensures printed { result ≢ Err Stop.Unwritten → PrintsAnswers (O.contents output.old) (O.contents output.new) }
 {
-    match read_trace(alloc, input) {
+    match read_input(alloc, input) {
         Ok(trace) => replay_lines(alloc, trace.as_slice(), output),
         Err(InputError::NoMemory) => Err(Stop::NoMemory),
         Err(InputError::Fault) => Err(Stop::Unread),
@@ -184,16 +186,6 @@ fn replay_line<O: Write>(
             Err(error) => Err(stop_at(number, error)),
         },
         Err(error) => Err(stop_at(number, error)),
-    }
-}
-
-/// Why a replay stops at a line that couldn't be done.
-fn stop_at(number: usize, error: LineError) -> Stop
-    ensures { result ≢ Stop.Unwritten }
-{
-    match error {
-        LineError::Bad => Stop::BadLine(number),
-        LineError::NoMemory => Stop::NoMemory,
     }
 }
 

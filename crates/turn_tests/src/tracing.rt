@@ -1,8 +1,8 @@
 //! Whole traces, replayed.
 
+use program_lines::status::Status;
 use std::test::Fail;
 use turn_desk_replay::replay::replay;
-use turn_desk_replay::status::Status;
 
 /// What a challenge shows behind its header: ERROR-CODE 401, REALM, NONCE.
 const SHOWN: &str =

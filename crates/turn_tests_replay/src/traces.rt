@@ -1,15 +1,15 @@
 //! Traces from outside, whole.
 
+use program_lines::input::MAX_INPUT;
+use program_lines::refusal::LineError;
+use program_lines::status::Status;
 use std::alloc::Global;
 use std::io;
 use std::io::{Error, ErrorKind, Read, Write};
 use std::process::Abort;
 use turn_desk_replay::answer::{Answer, reply_line};
 use turn_desk_replay::bytes::read_bytes;
-use turn_desk_replay::input::MAX_TRACE;
-use turn_desk_replay::refusal::LineError;
 use turn_desk_replay::replay::replay;
-use turn_desk_replay::status::Status;
 
 fn replayed(rt: &(impl Abort + AllocGlobal), trace: &[u8]) -> (Status, String) {
     let mut input = trace;
@@ -345,7 +345,7 @@ fn failing_reads(rt: HostRuntime) {
 #[test]
 fn longest_trace(rt: HostRuntime) {
     let mut output = Vec::new(rt.alloc());
-    let mut input = Endless.take(MAX_TRACE as u64);
+    let mut input = Endless.take(MAX_INPUT as u64);
     assert_eq!(rt; replay(rt.alloc(), &mut input, &mut output), Status::Done);
     assert_eq!(rt; output.as_slice(), b"".as_slice());
 }

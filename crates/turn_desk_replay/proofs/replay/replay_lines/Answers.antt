@@ -1,4 +1,5 @@
-use Rattle.turn_desk_replay.proofs.LineLemmas.{readable_last, readable_more}
+use Rattle.program_lines.proofs.CutLemmas.{passes_last, passes_more}
+use Rattle.turn_desk_replay.specs.Line.{IsReadable}
 use Rattle.turn_desk_replay.proofs.PrintLemmas.{ok_not_err, prints_on}
 use Rattle.turn_desk_replay.proofs.replay.replay_lines.Goals as goal
 
@@ -11,10 +12,10 @@ returns-in_default-after-clause-printed g c = λ written.
 
 pub returns-in_default-after-clause-read : goal.returns-in_default-after-clause-read
 returns-in_default-after-clause-read g c =
-    c.lines.invariant.1 (readable_last c.lines.rest.now c.cut_line.result.0.now c.cut_line.result.1 c.cut_line.ensures.lines c.in_default.ensures.read c.in_default-after.is)
+    c.lines.invariant.1 (passes_last IsReadable c.lines.rest.now c.cut_line.result.0.now c.cut_line.result.1 c.cut_line.ensures.lines c.in_default.ensures.read c.in_default-after.is)
 
 pub lines-preserved : goal.lines-preserved
 lines-preserved g c = (
   prints_on _ _ _ c.lines.invariant.0 (c.in_default.ensures.printed (ok_not_err _ _)),
-  λ rest. c.lines.invariant.1 (readable_more c.lines.rest.now c.cut_line.result.0.now c.cut_line.result.1 c.cut_line.ensures.lines c.in_default.ensures.read c.in-Some.after c.in-Some.is rest),
+  λ rest. c.lines.invariant.1 (passes_more IsReadable c.lines.rest.now c.cut_line.result.0.now c.cut_line.result.1 c.cut_line.ensures.lines c.in_default.ensures.read c.in-Some.after c.in-Some.is rest),
 )

@@ -1,6 +1,7 @@
 use Rattle.std.proofs.Common.{length}
 use Rattle.std.specs.List.{AllByRecursion}
-use Rattle.turn_desk_replay.specs.Line.{IsReadable, lines_of}
+use Rattle.program_lines.specs.Cut.{lines_of}
+use Rattle.turn_desk_replay.specs.Line.{IsReadable}
 use Rattle.turn_desk_replay.specs.Replay.{PrintsAnswers}
 use Rattle.turn_desk_replay.proofs.replay.replay_lines.Given as goal
 

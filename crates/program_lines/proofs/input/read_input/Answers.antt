@@ -1,6 +1,6 @@
 use Rattle.std.proofs.Common.{arith}
-use Rattle.turn_desk_replay.proofs.InputLemmas.{consumes_on, length-take-bound, takes_on}
-use Rattle.turn_desk_replay.proofs.input.read_trace.Goals as goal
+use Rattle.program_lines.proofs.InputLemmas.{consumes_on, length-take-bound, takes_on}
+use Rattle.program_lines.proofs.input.read_input.Goals as goal
 
 pub loop-preserved : goal.loop-preserved
 loop-preserved g c =
@@ -17,7 +17,7 @@ returns-in-Err-clause-taken g c =
     let step = c.read_on.ensures.step in
     takes_on 16777217 _ _ _ _ step.0 c.min-room.result c.loop.invariant.0 step.1 (omega (arith, length-take-bound c.min-room.result c.loop.chunk)) (omega arith)
 
-pub returns-then-len-gt-MAX_TRACE-clause-taken : goal.returns-then-len-gt-MAX_TRACE-clause-taken
-returns-then-len-gt-MAX_TRACE-clause-taken g c =
+pub returns-then-len-gt-MAX_INPUT-clause-taken : goal.returns-then-len-gt-MAX_INPUT-clause-taken
+returns-then-len-gt-MAX_INPUT-clause-taken g c =
     let step = c.read_on.ensures.step in
     takes_on 16777217 _ _ _ _ step.0 c.min-room.result c.loop.invariant.0 step.1 (omega (arith, length-take-bound c.min-room.result c.loop.chunk)) (omega arith)

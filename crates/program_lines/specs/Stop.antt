@@ -1,12 +1,12 @@
--- Why a replay stops before its end, and what it prints then.
+-- Why a program stops before its end, and what it prints then.
 use Rattle.std.specs.Prelude.{ℕ, List, [], ◌++◌, codes}
 use Rattle.std.specs.Fmt.{decimal}
-use Rattle.turn_desk_replay.specs.declared.status.Status.{Status}
-use Rattle.turn_desk_replay.specs.declared.status.Status.TheVariants as Ends
-use Rattle.turn_desk_replay.specs.declared.stop.Stop.{Stop}
-use Rattle.turn_desk_replay.specs.declared.stop.Stop.TheVariants.{BadLine, NoMemory, Unread, Unwritten}
+use Rattle.program_lines.specs.declared.status.Status.{Status}
+use Rattle.program_lines.specs.declared.status.Status.TheVariants as Ends
+use Rattle.program_lines.specs.declared.stop.Stop.{Stop}
+use Rattle.program_lines.specs.declared.stop.Stop.TheVariants.{BadLine, NoMemory, Unread, Unwritten}
 
--- the status of a replay that stopped
+-- the status of a program that stopped
 abbrev pub status_of : Stop → Status
 status_of (BadLine number) = Ends.BadTrace
 status_of NoMemory = Ends.NoMemory
@@ -17,7 +17,7 @@ status_of Unwritten = Ends.Fault
 abbrev pub bad_text : ℕ → List ℕ
 bad_text number = codes "bad trace: line " ++ decimal number ++ codes "\n"
 
--- the last line that a replay prints which stopped
+-- the last line that is printed by a program which stopped
 abbrev pub stop_text : Stop → List ℕ
 stop_text (BadLine number) = bad_text number
 stop_text NoMemory = codes "no memory\n"

@@ -1,9 +1,9 @@
-//! How a replay ends.
+//! How a program ends that reads lines.
 
 ghost use Rattle.std.specs.Prelude.{◌≡◌, ◌≤◌};
-ghost use Rattle.turn_desk_replay.specs.Status.{number_of};
+ghost use Rattle.program_lines.specs.Status.{number_of};
 
-/// How a replay ends, as the program's exit status tells it.
+/// How a program ends that reads lines, as the program's exit status tells it.
 #[derive(Clone, Copy, Debug, PartialEq, Eq)]
 pub enum Status {
     /// Each line was done.
@@ -12,7 +12,7 @@ pub enum Status {
     BadTrace,
     /// Memory was refused.
     NoMemory,
-    /// The trace couldn't be read whole or is too long, or an answer couldn't be written.
+    /// The input couldn't be read whole or is too long, or an answer couldn't be written.
     Fault,
 }
 

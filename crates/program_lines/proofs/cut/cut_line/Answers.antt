@@ -1,5 +1,5 @@
-use Rattle.turn_desk_replay.proofs.LineLemmas.{feed_lines, no_feed_lines}
-use Rattle.turn_desk_replay.proofs.line.cut_line.Goals as goal
+use Rattle.program_lines.proofs.CutLemmas.{feed_lines, no_feed_lines}
+use Rattle.program_lines.proofs.cut.cut_line.Goals as goal
 
 pub returns-in-Some-clause-lines : goal.returns-in-Some-clause-lines
 returns-in-Some-clause-lines c = feed_lines c.args.text.now c.in-Some.end c.in-Some.ensures

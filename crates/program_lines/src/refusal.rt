@@ -6,7 +6,7 @@ use std::alloc::{AllocError, AllocFailed};
 use std::fmt;
 use stun_types_base::memory::NoMemory;
 
-/// Why a line of a trace can't be read.
+/// Why a line can't be read.
 #[derive(Clone, Copy, Debug, PartialEq, Eq)]
 pub enum LineError {
     /// The line is no line of the language, or stands where it may not.
@@ -16,7 +16,7 @@ pub enum LineError {
 }
 
 impl fmt::Display for LineError {
-    ghost use Rattle.turn_desk_replay.specs.Refusal.{name_of_line_error};
+    ghost use Rattle.program_lines.specs.Refusal.{name_of_line_error};
     ghost use Rattle.std.specs.Prelude.{Some};
 
     ghost output = { λ error. Some (name_of_line_error error) };
@@ -32,7 +32,7 @@ impl fmt::Display for LineError {
 impl std::error::Error for LineError {}
 
 impl From<NoMemory> for LineError {
-    ghost use Rattle.turn_desk_replay.specs.declared.refusal.LineError.TheVariants as refused;
+    ghost use Rattle.program_lines.specs.declared.refusal.LineError.TheVariants as refused;
 
     ghost from_gives = { λ _ e. e ≡ refused.NoMemory };
 
@@ -42,7 +42,7 @@ impl From<NoMemory> for LineError {
 }
 
 impl From<AllocError> for LineError {
-    ghost use Rattle.turn_desk_replay.specs.declared.refusal.LineError.TheVariants as refused;
+    ghost use Rattle.program_lines.specs.declared.refusal.LineError.TheVariants as refused;
 
     ghost from_gives = { λ _ e. e ≡ refused.NoMemory };
 
@@ -52,7 +52,7 @@ impl From<AllocError> for LineError {
 }
 
 impl<T: Drop> From<AllocFailed<T>> for LineError {
-    ghost use Rattle.turn_desk_replay.specs.declared.refusal.LineError.TheVariants as refused;
+    ghost use Rattle.program_lines.specs.declared.refusal.LineError.TheVariants as refused;
 
     ghost from_gives = { λ _ e. e ≡ refused.NoMemory };
 

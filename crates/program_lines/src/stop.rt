@@ -1,26 +1,37 @@
-//! Why a replay stops before its end, and what it prints then.
+//! Why a program stops before its end, and what it prints then.
 
 ghost use Rattle.std.specs.Prelude.{◌≡◌, ◌≢◌};
 ghost use Rattle.std.specs.Io.KnownBytes.{Appends, Keeps};
-ghost use Rattle.turn_desk_replay.specs.Stop.{status_of, stop_text};
+ghost use Rattle.program_lines.specs.Stop.{status_of, stop_text};
 
+use crate::refusal::LineError;
 use crate::status::Status;
 use std::io::Write;
 
-/// Why a replay stops before its end.
+/// Why a program stops before its end.
 #[derive(Clone, Copy, Debug, PartialEq, Eq)]
 pub enum Stop {
     /// The line of this number is bad, lines counted from 1.
     BadLine(usize),
     /// Memory was refused.
     NoMemory,
-    /// The trace couldn't be read, or is too long.
+    /// The input couldn't be read, or is too long.
     Unread,
     /// An answer couldn't be written.
     Unwritten,
 }
 
-/// Prints why a replay stopped, and answers its status. After a failed write nothing is printed.
+/// Why a program stops at a line that couldn't be done, of this number.
+pub fn stop_at(number: usize, error: LineError) -> Stop
+    ensures { result ≢ Stop.Unwritten }
+{
+    match error {
+        LineError::Bad => Stop::BadLine(number),
+        LineError::NoMemory => Stop::NoMemory,
+    }
+}
+
+/// Prints why a program stopped, and answers its status. After a failed write nothing is printed.
 pub fn print_stop<O: Write>(output: &mut O, stop: Stop) -> Status
     ensures status { result ≢ Status.Fault → result ≡ status_of stop }
     ensures printed { result ≢ Status.Fault → Appends (O.contents output.old) (O.contents output.new) (stop_text stop) }
@@ -37,7 +48,7 @@ pub fn print_stop<O: Write>(output: &mut O, stop: Stop) -> Status
     }
 }
 
-/// The status of a replay that stopped.
+/// The status of a program that stopped.
 fn stop_status(stop: Stop) -> Status
     ensures { result ≡ status_of stop }
 {

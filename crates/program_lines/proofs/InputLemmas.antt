@@ -1,7 +1,7 @@
 -- Bytes that are taken from a reader, one piece after another.
 use Rattle.std.proofs.Common.{ℕ, List, [], ◌++◌, refl, sym, ◌∙◌, ap, append_assoc}
 use Rattle.std.proofs.Common.{◌≤◌, ◌+◌, length, arith, length-append, length-take, take}
-use Rattle.turn_desk_replay.specs.Input.{TakesAtMost}
+use Rattle.program_lines.specs.Input.{TakesAtMost}
 use Rattle.std.specs.Prelude.{Option, Some, None}
 use Rattle.std.specs.Io.KnownBytes.{Consumes, Keeps}
 

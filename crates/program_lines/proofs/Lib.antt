@@ -1,0 +1,4 @@
+pub mod AppendLemmas
+pub mod CutLemmas
+pub mod InputLemmas
+pub mod WordLemmas

@@ -1,0 +1,7 @@
+pub mod Cut
+pub mod Input
+pub mod LowerHex
+pub mod Refusal
+pub mod Status
+pub mod Stop
+pub mod Words
