@@ -19,7 +19,7 @@ ghost use Rattle.turn_desk_core.specs.Verdicts.{grants_of, reply_attributes, rep
 
 use crate::decision::Decision;
 use crate::grant::Grant;
-use crate::request::{ALLOCATE, is_served};
+use crate::request::is_served;
 use crate::verdict::{Verdict, judge};
 use rand_core::Rng;
 use std::alloc::Global;
@@ -34,6 +34,7 @@ use stun_types_base::list::ListOf;
 use stun_types_base::memory::NoMemory;
 use turn_desk_reply::allocated::allocated;
 use turn_desk_reply::failure::{challenge, failure};
+use turn_types_attribute::method::ALLOCATE;
 
 /// A small server core. Contracts see its authenticator and what it granted.
 #[derive(Debug, Drop)]

@@ -7,11 +7,9 @@ ghost use Rattle.turn_desk_core.specs.Requests.{IsServed, protocol_transport, tr
 use std::convert::TryFrom;
 use stun_types::TransportType;
 use stun_types::attribute::AttributeStaticType;
-use stun_types::message::{Message, MessageClass, Method};
+use stun_types::message::{Message, MessageClass};
+use turn_types_attribute::method::ALLOCATE;
 use turn_types_attribute::requested_transport::RequestedTransport;
-
-/// ALLOCATE (RFC 8656, section 17).
-pub(crate) const ALLOCATE: Method = Method(0x003);
 
 /// Whether a message is a request that a desk serves: an ALLOCATE.
 pub(crate) fn is_served(message: &Message) -> bool

@@ -2,6 +2,7 @@
 #![tactic(auto)]
 
 pub mod lifetime;
+pub mod method;
 pub mod requested_transport;
 #[cfg(test)]
 mod tests;
