@@ -1,0 +1,20 @@
+-- Words of a line.
+use Rattle.std.proofs.Common.{ℕ, ◌≡◌, List, subst}
+use Rattle.std.specs.Prelude.{Result, Ok, Err, IfOk}
+use Rattle.stun_inspect.specs.declared.line.Line.{Line}
+use Rattle.stun_inspect.specs.Line.{IsLine, IsLineOf}
+use Rattle.program_lines.specs.Words.{AreWords}
+use Rattle.program_lines.proofs.WordLemmas.{same_words}
+
+-- the words of a line spell it
+pub line_ok : {E : Type 0} (text : List ℕ) (words : List (List ℕ)) (r : Result Line E)
+    → IfOk r (IsLineOf words) → AreWords text words → IfOk r (IsLine text)
+line_ok text words (Ok line) spelled parted = record { words = words; parted = parted; spelled = spelled }
+line_ok text words (Err e) spelled parted = tt
+
+-- words that spell no line are those of none
+pub line_bad : (text : List ℕ) (words : List (List ℕ)) (line : Line)
+    → AreWords text words → ¬ (IsLineOf words line) → ¬ (IsLine text line)
+line_bad text words line parted other is_line =
+    let P : List (List ℕ) → Type 0 = λ w. IsLineOf w line in
+    other (subst P (same_words text is_line.words words is_line.parted parted) is_line.spelled)

@@ -1,0 +1,46 @@
+-- What is printed, one text after another.
+use Rattle.std.proofs.Common.{ℕ, ◌≡◌, ◌≢◌, List, [], ◌++◌}
+use Rattle.std.specs.Prelude.{Option, Result, Ok, Err, codes}
+use Rattle.std.specs.Io.KnownBytes.{Appends}
+use Rattle.program_lines.specs.declared.status.Status.{Status}
+use Rattle.program_lines.specs.declared.status.Status.TheVariants.{Done, BadTrace, NoMemory, Fault}
+use Rattle.program_lines.specs.declared.stop.Stop.{Stop}
+use Rattle.program_lines.specs.declared.stop.Stop.TheVariants as Stops
+use Rattle.program_lines.specs.Stop.{bad_text, status_of, stop_text}
+use Rattle.program_lines.proofs.AppendLemmas.{appends_nothing, appends_on}
+use Rattle.stun_inspect.specs.Printed.{Prints, PrintsText, PrintsTextAnd}
+
+-- nothing is printed
+pub prints_none : (old : Option (List ℕ)) → PrintsText old old
+prints_none old = ([], appends_nothing old)
+
+-- texts behind texts
+pub prints_on : (old mid new : Option (List ℕ)) → PrintsText old mid → PrintsText mid new → PrintsText old new
+prints_on old mid new first second = (first.0 ++ second.0, appends_on old mid new first.0 second.0 first.1 second.1)
+
+-- a last text behind others
+prints_last : (old mid new : Option (List ℕ)) (last : List ℕ) → PrintsText old mid → Appends mid new last → PrintsTextAnd old new last
+prints_last old mid new last first second = (first.0, appends_on old mid new first.0 last first.1 second)
+
+-- how a program ends that stopped
+pub ended : (stop : Stop) (status : Status) (old mid new : Option (List ℕ))
+    → ((◌≡◌ {A = Result (Unit {0}) Stop} (Err stop) (Err Stops.Unwritten) → ⊥) → PrintsText old mid) → (status ≢ Fault → status ≡ status_of stop)
+    → (status ≢ Fault → Appends mid new (stop_text stop)) → Prints status old new
+ended stop Fault old mid new texts same printed = tt
+ended (Stops.BadLine n) BadTrace old mid new texts same printed =
+    (n, prints_last old mid new (bad_text n) (texts (λ e. cc)) (printed (λ e. cc)))
+ended (Stops.BadLine n) Done old mid new texts same printed = let e = same (λ q. cc) in cc
+ended (Stops.BadLine n) NoMemory old mid new texts same printed = let e = same (λ q. cc) in cc
+ended Stops.NoMemory NoMemory old mid new texts same printed =
+    prints_last old mid new (codes "no memory\n") (texts (λ e. cc)) (printed (λ e. cc))
+ended Stops.NoMemory Done old mid new texts same printed = let e = same (λ q. cc) in cc
+ended Stops.NoMemory BadTrace old mid new texts same printed = let e = same (λ q. cc) in cc
+ended Stops.Unread Done old mid new texts same printed = let e = same (λ q. cc) in cc
+ended Stops.Unread BadTrace old mid new texts same printed = let e = same (λ q. cc) in cc
+ended Stops.Unread NoMemory old mid new texts same printed = let e = same (λ q. cc) in cc
+ended Stops.Unwritten Done old mid new texts same printed = let e = same (λ q. cc) in cc
+ended Stops.Unwritten BadTrace old mid new texts same printed = let e = same (λ q. cc) in cc
+ended Stops.Unwritten NoMemory old mid new texts same printed = let e = same (λ q. cc) in cc
+
+pub ok_not_err : {A E : Type 0} (x : A) (e : E) → Ok x ≢ Err e
+ok_not_err x e h = cc

@@ -1,0 +1,96 @@
+//! The lines of the input.
+
+ghost use Rattle.std.specs.Prelude.{◌≡◌, Err, IfOk, List, codes, map, ℕ};
+ghost use Rattle.stun_inspect.specs.declared.line.Line.{Line};
+ghost use Rattle.stun_inspect.specs.Line.{IsLine, IsLineOf, IsNamed, SpellBytes};
+
+use program_lines::lower_hex::read_hex;
+use program_lines::refusal::LineError;
+use program_lines::word::read_words;
+use std::alloc::Global;
+
+/// A line that says something.
+#[derive(Debug, Drop)]
+pub enum Line<'a> {
+    /// `user NAME REALM PASSWORD`: what follows is validated under the key of a user in a realm.
+    User {
+        /// The user's name.
+        name: &'a str,
+        /// The realm.
+        realm: &'a str,
+        /// The user's password.
+        password: &'a str,
+    },
+    /// `password PASSWORD`: what follows is validated under the key of a password alone.
+    Password(&'a str),
+    /// `message HEX`: these bytes as a message.
+    Message(Vec<u8>),
+    /// `raw HEX`: these bytes as one attribute.
+    Raw(Vec<u8>),
+}
+
+/// Reads a line, of which the line feed is no part.
+pub(crate) fn read_line<'a>(alloc: Global, line: &'a [u8]) -> Result<Line<'a>, LineError>
+    ensures ok { IfOk result (IsLine line.entry.now) }
+    ensures bad { result ≡ Err LineError.Bad → (read : Line) → ¬ (IsLine line.entry.now read) }
+{
+    let words = read_words(alloc, line)?;
+    spell(alloc, words.as_slice())
+}
+
+/// The line that some words spell.
+fn spell<'a>(alloc: Global, words: &[&'a str]) -> Result<Line<'a>, LineError>
+    ensures ok { IfOk result (IsLineOf (map (λ x. x.now) words.entry.now)) }
+    ensures bad { result ≡ Err LineError.Bad → (read : Line) → ¬ (IsLineOf (map (λ x. x.now) words.entry.now) read) }
+{
+    match words {
+        ["user", rest @ ..] => read_user(rest),
+        ["password", rest @ ..] => read_password(rest),
+        ["message", rest @ ..] => match read_bytes(alloc, rest) {
+            Ok(bytes) => Ok(Line::Message(bytes)),
+            Err(error) => Err(error),
+        },
+        ["raw", rest @ ..] => match read_bytes(alloc, rest) {
+            Ok(bytes) => Ok(Line::Raw(bytes)),
+            Err(error) => Err(error),
+        },
+        _ => Err(LineError::Bad),
+    }
+}
+
+/// The credentials of a user, from the words behind `user`.
+fn read_user<'a>(words: &[&'a str]) -> Result<Line<'a>, LineError>
+    ensures ok { IfOk result (IsNamed (codes "user") (map (λ x. x.now) words.entry.now)) }
+    ensures bad { result ≡ Err LineError.Bad → (read : Line) → ¬ (IsNamed (codes "user") (map (λ x. x.now) words.entry.now) read) }
+{
+    let [name, realm, password] = words else {
+        return Err(LineError::Bad);
+    };
+    Ok(Line::User {
+        name,
+        realm,
+        password,
+    })
+}
+
+/// The credentials of a password, from the words behind `password`.
+fn read_password<'a>(words: &[&'a str]) -> Result<Line<'a>, LineError>
+    ensures ok { IfOk result (IsNamed (codes "password") (map (λ x. x.now) words.entry.now)) }
+    ensures bad { result ≡ Err LineError.Bad → (read : Line) → ¬ (IsNamed (codes "password") (map (λ x. x.now) words.entry.now) read) }
+{
+    let [password] = words else {
+        return Err(LineError::Bad);
+    };
+    Ok(Line::Password(password))
+}
+
+/// The bytes that one word spells.
+fn read_bytes(alloc: Global, words: &[&str]) -> Result<Vec<u8>, LineError>
+    ensures ok { IfOk result (λ bytes. SpellBytes (map (λ x. x.now) words.now) bytes.items) }
+    ensures bad { result ≡ Err LineError.Bad → (bytes : List ℕ) → ¬ (SpellBytes (map (λ x. x.now) words.now) bytes) }
+{
+    let [word] = words else {
+        return Err(LineError::Bad);
+    };
+    read_hex(alloc, word)
+}

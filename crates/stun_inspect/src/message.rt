@@ -1,0 +1,146 @@
+//! One message: what its header tells, what it shows, and whether it holds.
+
+use crate::attribute::push_attribute;
+use crate::names::{algorithm_name, class_name};
+use crate::refusal::{Objection, Refusal};
+use program_lines::lower_hex::write_hex;
+use std::alloc::Global;
+use stun_types::attribute::{
+    Attribute, AttributeStaticType, Fingerprint, MessageIntegrity, MessageIntegritySha256,
+    RawAttribute,
+};
+use stun_types::message::{
+    IntegrityAlgorithm, Message, MessageHeader, MessageIntegrityCredentials, TransactionId,
+    ValidateError,
+};
+use stun_types::{Names, NoMemory};
+
+/// What bytes are as a message, under some credentials where there are any.
+pub(crate) fn message_in_words(
+    alloc: Global,
+    bytes: &[u8],
+    credentials: Option<&MessageIntegrityCredentials>,
+    names: &Names,
+) -> Result<String, NoMemory> {
+    let size = bytes.len();
+    let mut text = format!(in alloc; "message {size} bytes\n")?;
+    match Message::from_bytes(bytes) {
+        Ok(message) => {
+            push_header(&mut text, &message, names)?;
+            push_shown(alloc, &mut text, &message, names)?;
+            match credentials {
+                Some(credentials) => push_integrity(
+                    alloc,
+                    &mut text,
+                    &message,
+                    credentials,
+                    names,
+                )?,
+                None => text.push_str("validation without credentials\n")?,
+            }
+            push_fingerprint(&mut text, &message)?;
+        }
+        Err(error) => {
+            let refusal = Refusal(error);
+            writeln!(text, "refused {refusal}")?;
+        }
+    }
+    Ok(text)
+}
+
+/// What bytes are as one attribute. An address is xored under the number 0.
+pub(crate) fn raw_in_words(alloc: Global, bytes: &[u8], names: &Names) -> Result<String, NoMemory> {
+    let size = bytes.len();
+    let mut text = format!(in alloc; "raw {size} bytes\n")?;
+    match RawAttribute::from_bytes(bytes) {
+        Ok(raw) => push_attribute(alloc, &mut text, &raw, TransactionId::from(0u128), names)?,
+        Err(error) => {
+            let refusal = Refusal(error);
+            writeln!(text, "refused {refusal}")?;
+        }
+    }
+    Ok(text)
+}
+
+/// Appends class, method and number.
+fn push_header(text: &mut String, message: &Message<'_>, names: &Names) -> Result<(), NoMemory> {
+    let class = class_name(message.class());
+    let method = message.method();
+    let (value, name) = (method.value(), method.name(names));
+    let number = message.transaction_id();
+    writeln!(text, "class {class}")?;
+    writeln!(text, "method 0x{value:03x} {name}")?;
+    writeln!(text, "transaction {number}")?;
+    Ok(())
+}
+
+/// Appends each attribute that is shown, and the bytes that stand behind them.
+fn push_shown(
+    alloc: Global,
+    text: &mut String,
+    message: &Message<'_>,
+    names: &Names,
+) -> Result<(), NoMemory> {
+    let bytes = message.as_ref();
+    let mut behind = bytes.get(MessageHeader::LENGTH..).unwrap_or(&[]);
+    for (_, raw) in message.iter_attributes() {
+        push_attribute(alloc, text, &raw, message.transaction_id(), names)?;
+        behind = behind.get(raw.padded_len()..).unwrap_or(&[]);
+    }
+    let rest = write_hex(alloc, behind)?;
+    writeln!(text, "behind {rest}")?;
+    Ok(())
+}
+
+/// Appends what each integrity attribute that is shown comes to under the credentials, and the
+/// verdict by the last of them.
+fn push_integrity(
+    alloc: Global,
+    text: &mut String,
+    message: &Message<'_>,
+    credentials: &MessageIntegrityCredentials,
+    names: &Names,
+) -> Result<(), NoMemory> {
+    for (atype, algorithm) in [
+        (MessageIntegrity::TYPE, IntegrityAlgorithm::Sha1),
+        (MessageIntegritySha256::TYPE, IntegrityAlgorithm::Sha256),
+    ] {
+        if message.has_attribute(atype) {
+            let key = credentials.make_key(alloc, algorithm)?;
+            let name = atype.name(names);
+            write!(text, "integrity {name} ")?;
+            push_verdict(text, message.validate_integrity_with_key(&key))?;
+        }
+    }
+    text.push_str("validation ")?;
+    push_verdict(text, message.validate_integrity(alloc, credentials))
+}
+
+/// Appends a verdict on a message, and ends its line.
+fn push_verdict(
+    text: &mut String,
+    verdict: Result<IntegrityAlgorithm, ValidateError>,
+) -> Result<(), NoMemory> {
+    match verdict {
+        Ok(algorithm) => {
+            let name = algorithm_name(algorithm);
+            writeln!(text, "valid {name}")?;
+        }
+        Err(ValidateError::NoMemory) => return Err(NoMemory),
+        Err(error) => {
+            let objection = Objection(error);
+            writeln!(text, "refused {objection}")?;
+        }
+    }
+    Ok(())
+}
+
+/// Appends whether a FINGERPRINT is shown.
+fn push_fingerprint(text: &mut String, message: &Message<'_>) -> Result<(), NoMemory> {
+    if message.has_attribute(Fingerprint::TYPE) {
+        text.push_str("fingerprint shown\n")?;
+    } else {
+        text.push_str("fingerprint none\n")?;
+    }
+    Ok(())
+}
