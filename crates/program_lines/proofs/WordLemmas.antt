@@ -1,8 +1,7 @@
 -- The words of a line.
-use Rattle.std.proofs.Common.{ℕ, ◌≡◌, List, [], ◌∷◌, length, false, sym, refl, ◌∙◌, ap, Bor}
+use Rattle.std.proofs.Common.{ℕ, ◌≡◌, List, [], ◌∷◌, length, sym, refl, ◌∙◌, ap, Bor}
 use Rattle.std.specs.Prelude.{map, ◌==◌, ◌||◌}
-use Rattle.std.specs.List.{slice_split, list_any}
-use Rattle.std.specs.Str.{IsUtf8}
+use Rattle.std.specs.List.{list_any}
 use Rattle.program_lines.specs.Words.{AreWords}
 
 -- a test of words is a test of what they point to

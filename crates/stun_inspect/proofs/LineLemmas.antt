@@ -1,5 +1,5 @@
 -- Words of a line.
-use Rattle.std.proofs.Common.{ℕ, ◌≡◌, List, subst}
+use Rattle.std.proofs.Common.{ℕ, List, subst}
 use Rattle.std.specs.Prelude.{Result, Ok, Err, IfOk}
 use Rattle.stun_inspect.specs.declared.line.Line.{Line}
 use Rattle.stun_inspect.specs.Line.{IsLine, IsLineOf}

@@ -1,7 +1,7 @@
 -- What is printed, one line after another.
-use Rattle.std.proofs.Common.{ℕ, ◌≡◌, List, [], ◌∷◌, ◌++◌, sym, ◌∙◌, ap, subst, append_assoc}
+use Rattle.std.proofs.Common.{ℕ, ◌≡◌, List, [], ◌∷◌, ◌++◌, sym, subst}
 use Rattle.std.proofs.Common.{◌≢◌}
-use Rattle.std.specs.Prelude.{Option, Some, None, Result, Ok, Err, OnOk, OnErr, codes}
+use Rattle.std.specs.Prelude.{Option, Result, Ok, Err, OnOk, OnErr, codes}
 use Rattle.program_lines.specs.declared.status.Status.{Status}
 use Rattle.program_lines.specs.declared.status.Status.TheVariants.{Done, BadTrace, NoMemory, Fault}
 use Rattle.program_lines.specs.declared.stop.Stop.{Stop}
