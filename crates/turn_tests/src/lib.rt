@@ -10,8 +10,6 @@ mod errors;
 #[cfg(test)]
 mod parsing;
 #[cfg(test)]
-mod tracing;
-#[cfg(test)]
 mod types;
 #[cfg(test)]
 mod writing;
