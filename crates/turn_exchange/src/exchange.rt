@@ -1,0 +1,112 @@
+//! The exchange: what it has made so far, and its next step.
+
+use crate::step::{Request, Step};
+use rand_chacha::ChaCha20Rng;
+use rand_core::SeedableRng;
+use std::alloc::Global;
+use std::net::{IpAddr, Ipv4Addr, SocketAddr};
+use std::{fmt, io};
+use stun_proto_agent::instant::Instant;
+use stun_proto_server::long_term::LongTermServerAuth;
+use stun_types_base::list::ListOf;
+use stun_types_base::memory::NoMemory;
+use stun_types_integrity::credentials::LongTermCredentials;
+use turn_desk_core::decision::Decision;
+use turn_desk_core::desk::Desk;
+
+/// What an exchange has made so far.
+#[derive(Drop)]
+pub(crate) struct Exchange {
+    alloc: Global,
+    desk: Option<Desk>,
+    decision: Option<Decision>,
+}
+
+impl Exchange {
+    pub(crate) fn new(alloc: Global) -> Exchange {
+        Exchange {
+            alloc,
+            desk: None,
+            decision: None,
+        }
+    }
+
+    /// Takes a step, and prints its line. Answers whether it had the memory that it needs.
+    pub(crate) fn take(&mut self, rt: &impl Print, step: &Step) -> io::Result<bool> {
+        let (name, made) = match step {
+            Step::Desk => ("desk", self.make_desk()),
+            Step::User => ("user", self.add_user()),
+            Step::Decision => ("decision", self.decide()),
+            Step::Request(request) => return self.ask(rt, request),
+        };
+        match made {
+            Ok(()) => println!(rt; "{name}: made")?,
+            Err(NoMemory) => println!(rt; "{name}: no memory")?,
+        }
+        Ok(made.is_ok())
+    }
+
+    fn make_desk(&mut self) -> Result<(), NoMemory> {
+        let realm = String::from_str(self.alloc, "realm")?;
+        let auth = LongTermServerAuth::new(self.alloc, realm);
+        self.desk = Some(Desk::new(self.alloc, auth));
+        Ok(())
+    }
+
+    fn add_user(&mut self) -> Result<(), NoMemory> {
+        let name = String::from_str(self.alloc, "user")?;
+        let password = String::from_str(self.alloc, "pass")?;
+        match &mut self.desk {
+            Some(desk) => desk
+                .auth_mut()
+                .add_user(LongTermCredentials::new(name, password)),
+            None => Err(NoMemory),
+        }
+    }
+
+    fn decide(&mut self) -> Result<(), NoMemory> {
+        let relayed = SocketAddr::new(IpAddr::V4(Ipv4Addr::new(203, 0, 113, 5)), 50_000);
+        let mut addresses = ListOf::new(self.alloc);
+        addresses.push(relayed)?;
+        self.decision = Some(Decision::Allocate {
+            addresses,
+            lifetime: 600,
+        });
+        Ok(())
+    }
+
+    /// Lets a request reach the desk.
+    fn ask(&mut self, rt: &impl Print, request: &Request) -> io::Result<bool> {
+        let (Some(desk), Some(decision)) = (&mut self.desk, &self.decision) else {
+            return Ok(false);
+        };
+        let now = Instant::from_nanos(50_000_000);
+        let mut words = ChaCha20Rng::from_seed([request.seed; 32]);
+        let answer = desk.handle(request.bytes, request.from, now, decision, &mut words);
+        let nonce = desk
+            .auth_mut()
+            .nonce_for_client(request.from)
+            .unwrap_or("none");
+        print!(rt; "{} from {}: nonce {nonce}, ", request.name, request.from)?;
+        let grants = desk.grants().len();
+        match &answer {
+            Ok(Some(reply)) => println!(rt; "grants {grants}, reply {}", Hex(reply.as_slice()))?,
+            Ok(None) => println!(rt; "grants {grants}, no reply")?,
+            Err(NoMemory) => println!(rt; "grants {grants}, no memory")?,
+        }
+        Ok(answer.is_ok())
+    }
+}
+
+/// Bytes that are printed in lower case hex.
+#[derive(Clone, Copy)]
+struct Hex<'a>(&'a [u8]);
+
+impl fmt::Display for Hex<'_> {
+    fn fmt<W: fmt::Write>(&self, f: &mut fmt::Formatter<W>) -> fmt::Result {
+        for byte in self.0 {
+            write!(f, "{byte:02x}")?;
+        }
+        Ok(())
+    }
+}

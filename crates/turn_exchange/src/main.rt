@@ -1,0 +1,33 @@
+//! One exchange between a client and a desk, through the library's own calls: the client is challenged
+//! and granted, and its signed request then comes from another address. Each step prints a line: what
+//! was made, or what the desk replied, which nonce it then keeps for the address, and how many grants
+//! there are.
+//!
+//! A step that is refused memory prints `no memory` in place of the reply, and is taken once more. The
+//! exit status is 0 where no step was refused memory, 2 where one was, and 3 where one was refused it
+//! twice, with which the exchange ends.
+#![tactic(auto)]
+
+mod exchange;
+mod requests;
+mod step;
+
+use crate::exchange::Exchange;
+use crate::step::steps;
+use std::io;
+use std::process::ExitCode;
+
+fn main(rt: HostRuntime) -> io::Result<ExitCode> {
+    let mut exchange = Exchange::new(rt.alloc());
+    let mut status = 0;
+    for step in &steps() {
+        if exchange.take(&rt, step)? {
+            continue;
+        }
+        status = 2;
+        if !exchange.take(&rt, step)? {
+            return Ok(ExitCode::from(3));
+        }
+    }
+    Ok(ExitCode::from(status))
+}

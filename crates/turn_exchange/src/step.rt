@@ -1,0 +1,57 @@
+//! The steps of the exchange.
+
+use crate::requests::{SIGNED, UNSIGNED};
+use std::net::{IpAddr, Ipv4Addr, SocketAddr};
+
+/// A step of the exchange.
+#[derive(Clone, Copy)]
+pub(crate) enum Step {
+    /// A desk of the realm `realm` is made.
+    Desk,
+    /// The desk gets to know `user`.
+    User,
+    /// It is decided that 203.0.113.5:50000 is relayed for ten minutes.
+    Decision,
+    /// A request reaches the desk.
+    Request(Request),
+}
+
+/// A request that reaches the desk.
+#[derive(Clone, Copy)]
+pub(crate) struct Request {
+    /// What its line is called.
+    pub(crate) name: &'static str,
+    pub(crate) bytes: &'static [u8],
+    pub(crate) from: SocketAddr,
+    /// The byte of which 32 are the seed of the words that a nonce is drawn of.
+    pub(crate) seed: u8,
+}
+
+/// All steps, in order.
+pub(crate) fn steps() -> [Step; 6] {
+    let client = SocketAddr::new(IpAddr::V4(Ipv4Addr::new(192, 168, 0, 1)), 1000);
+    let stranger = SocketAddr::new(IpAddr::V4(Ipv4Addr::new(192, 168, 0, 9)), 1);
+    [
+        Step::Desk,
+        Step::User,
+        Step::Decision,
+        Step::Request(Request {
+            name: "unsigned",
+            bytes: UNSIGNED,
+            from: client,
+            seed: 0,
+        }),
+        Step::Request(Request {
+            name: "signed",
+            bytes: SIGNED,
+            from: client,
+            seed: 0,
+        }),
+        Step::Request(Request {
+            name: "signed",
+            bytes: SIGNED,
+            from: stranger,
+            seed: 1,
+        }),
+    ]
+}
