@@ -80,33 +80,27 @@ impl Exchange {
         let (Some(desk), Some(decision)) = (&mut self.desk, &self.decision) else {
             return Ok(false);
         };
+        let from = request.sender.address();
         let now = Instant::from_nanos(50_000_000);
         let mut words = ChaCha20Rng::from_seed([request.seed; 32]);
-        let answer = desk.handle(request.bytes, request.from, now, decision, &mut words);
-        let nonce = desk
-            .auth_mut()
-            .nonce_for_client(request.from)
-            .unwrap_or("none");
-        print!(rt; "{} from {}: nonce {nonce}, ", request.name, request.from)?;
-        let grants = desk.grants().len();
+        let answer = desk.handle(request.bytes, from, now, decision, &mut words);
+        let nonce = desk.auth_mut().nonce_for_client(from).unwrap_or("none");
+        print!(rt; "{} from {from}: nonce {nonce}, ", request.name)?;
+        print!(rt; "grants {}, ", desk.grants().len())?;
         match &answer {
-            Ok(Some(reply)) => println!(rt; "grants {grants}, reply {}", Hex(reply.as_slice()))?,
-            Ok(None) => println!(rt; "grants {grants}, no reply")?,
-            Err(NoMemory) => println!(rt; "grants {grants}, no memory")?,
+            Ok(Some(reply)) => print_reply(rt, reply.as_slice())?,
+            Ok(None) => println!(rt; "no reply")?,
+            Err(NoMemory) => println!(rt; "no memory")?,
         }
         Ok(answer.is_ok())
     }
 }
 
-/// Bytes that are printed in lower case hex.
-#[derive(Clone, Copy)]
-struct Hex<'a>(&'a [u8]);
-
-impl fmt::Display for Hex<'_> {
-    fn fmt<W: fmt::Write>(&self, f: &mut fmt::Formatter<W>) -> fmt::Result {
-        for byte in self.0 {
-            write!(f, "{byte:02x}")?;
-        }
-        Ok(())
+/// Prints a reply in lower case hex, and ends the line.
+fn print_reply(rt: &impl Print, reply: &[u8]) -> io::Result<()> {
+    print!(rt; "reply ")?;
+    for byte in reply {
+        print!(rt; "{byte:02x}")?;
     }
+    println!(rt)
 }

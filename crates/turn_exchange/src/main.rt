@@ -13,14 +13,14 @@ mod requests;
 mod step;
 
 use crate::exchange::Exchange;
-use crate::step::steps;
+use crate::step::STEPS;
 use std::io;
 use std::process::ExitCode;
 
 fn main(rt: HostRuntime) -> io::Result<ExitCode> {
     let mut exchange = Exchange::new(rt.alloc());
     let mut status = 0;
-    for step in &steps() {
+    for step in &STEPS {
         if exchange.take(&rt, step)? {
             continue;
         }

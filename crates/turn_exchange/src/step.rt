@@ -22,36 +22,51 @@ pub(crate) struct Request {
     /// What its line is called.
     pub(crate) name: &'static str,
     pub(crate) bytes: &'static [u8],
-    pub(crate) from: SocketAddr,
+    pub(crate) sender: Sender,
     /// The byte of which 32 are the seed of the words that a nonce is drawn of.
     pub(crate) seed: u8,
 }
 
-/// All steps, in order.
-pub(crate) fn steps() -> [Step; 6] {
-    let client = SocketAddr::new(IpAddr::V4(Ipv4Addr::new(192, 168, 0, 1)), 1000);
-    let stranger = SocketAddr::new(IpAddr::V4(Ipv4Addr::new(192, 168, 0, 9)), 1);
-    [
-        Step::Desk,
-        Step::User,
-        Step::Decision,
-        Step::Request(Request {
-            name: "unsigned",
-            bytes: UNSIGNED,
-            from: client,
-            seed: 0,
-        }),
-        Step::Request(Request {
-            name: "signed",
-            bytes: SIGNED,
-            from: client,
-            seed: 0,
-        }),
-        Step::Request(Request {
-            name: "signed",
-            bytes: SIGNED,
-            from: stranger,
-            seed: 1,
-        }),
-    ]
+/// Who sends a request.
+#[derive(Clone, Copy)]
+pub(crate) enum Sender {
+    /// The client that is challenged.
+    Client,
+    /// Somebody else.
+    Stranger,
 }
+
+impl Sender {
+    /// The address that a request comes from.
+    pub(crate) fn address(self) -> SocketAddr {
+        match self {
+            Sender::Client => SocketAddr::new(IpAddr::V4(Ipv4Addr::new(192, 168, 0, 1)), 1000),
+            Sender::Stranger => SocketAddr::new(IpAddr::V4(Ipv4Addr::new(192, 168, 0, 9)), 1),
+        }
+    }
+}
+
+/// All steps, in order.
+pub(crate) const STEPS: [Step; 6] = [
+    Step::Desk,
+    Step::User,
+    Step::Decision,
+    Step::Request(Request {
+        name: "unsigned",
+        bytes: UNSIGNED,
+        sender: Sender::Client,
+        seed: 0,
+    }),
+    Step::Request(Request {
+        name: "signed",
+        bytes: SIGNED,
+        sender: Sender::Client,
+        seed: 0,
+    }),
+    Step::Request(Request {
+        name: "signed",
+        bytes: SIGNED,
+        sender: Sender::Stranger,
+        seed: 1,
+    }),
+];
