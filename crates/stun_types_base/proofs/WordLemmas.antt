@@ -25,8 +25,9 @@ stream_after-add first (suc more) stream =
 pub word_at-stream_after : (first place : ℕ) (stream : Stream) → word_at (stream_after first stream) place ≡ word_at stream (first + place)
 word_at-stream_after first place stream = ap (λ s. (next_u32 s).0) (sym (stream_after-add first place stream))
 
--- a draw after this many words gives the word at that place, and leaves the stream one word further
-pub drawn : (start before after : Stream) (count word : ℕ) → before ≡ stream_after count start → ◌≡◌ {A = ℕ × Stream} (word, after) (next_u32 before)
+-- a word drawn after this many words is the one at that place, and leaves the stream one word further
+pub drawn : (start before after : Stream) (count word : ℕ) → before ≡ stream_after count start → word ≡ word_at before 0 → after ≡ stream_after 1 before
     → (word ≡ word_at start count) × (after ≡ stream_after (count + 1) start)
-drawn start before after count word at is =
-    (ap (λ p. p.0) is ∙ ap (λ s. (next_u32 s).0) at, ap (λ p. p.1) is ∙ ap (λ s. (next_u32 s).1) at ∙ sym (stream_after-step count start))
+drawn start before after count word at is left =
+    let same : count + 0 ≡ count = omega arith in
+    (is ∙ ap (λ s. word_at s 0) at ∙ word_at-stream_after count 0 start ∙ ap (word_at start) same, left ∙ ap (stream_after 1) at ∙ sym (stream_after-add count 1 start))

@@ -1,7 +1,7 @@
 //! Words drawn from a random number generator, by their place in its stream.
 
 ghost use Rattle.std.specs.Prelude.{◌≡◌};
-ghost use Rattle.stun_types_base.specs.Words.{stream_after, words_of};
+ghost use Rattle.stun_types_base.specs.Words.{stream_after, word_at, words_of};
 
 use rand_core::Rng;
 
@@ -12,7 +12,16 @@ pub fn draw_words<const COUNT: usize, R: Rng>(rng: &mut R) -> [u32; COUNT]
 {
     let mut words = [0; COUNT];
     for word in words.iter_mut() {
-        *word = rng.next_u32();
+        *word = draw_word(rng);
     }
     words
+}
+
+/// The next word of a generator.
+#[tactic(auto, unfolding(crate::specs::Words::stream_after))]
+fn draw_word<R: Rng>(rng: &mut R) -> u32
+    ensures word { result ≡ word_at (R.stream rng.old) 0 }
+    ensures stream { R.stream rng.new ≡ stream_after 1 (R.stream rng.old) }
+{
+    rng.next_u32()
 }

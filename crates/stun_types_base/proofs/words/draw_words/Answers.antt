@@ -15,7 +15,7 @@ loop-word-init g c = record {
 
 pub loop-word-preserved : goal.loop-word-preserved
 loop-word-preserved g c =
-    let draw = drawn (g.R.Rng.stream c.args.rng.now) (g.R.Rng.stream c.loop-word.rng) (g.R.Rng.stream c.next_u32.new.self) c.loop-word.word-index c.next_u32.result c.loop-word.invariant.stream c.next_u32.ensures in
+    let draw = drawn (g.R.Rng.stream c.args.rng.now) (g.R.Rng.stream c.loop-word.rng) (g.R.Rng.stream c.draw_word.new.rng) c.loop-word.word-index c.draw_word.result c.loop-word.invariant.stream c.draw_word.ensures.word c.draw_word.ensures.stream in
     let in_range : c.loop-word.word-index < length c.loop-word.word-items = omega arith in
     record {
       stream = draw.1;
