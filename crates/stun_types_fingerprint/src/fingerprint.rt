@@ -1,6 +1,6 @@
 //! FINGERPRINT (RFC 8489, section 14.7).
 
-ghost use Rattle.std.specs.Prelude.{◌≡◌, ◌≤◌, None, Some, length, bit_xor, bytes_eq, MatchResult};
+ghost use Rattle.std.specs.Prelude.{◌≡◌, ◌≤◌, ◌∷◌, None, Some, length, slice_index, bit_xor, bytes_eq, MatchResult};
 ghost use Rattle.byteorder.specs.Endian.{big_bytes, big_number};
 ghost use Rattle.stun_types_wire.specs.Covered.{with_length};
 ghost use Rattle.stun_types_wire.specs.Fingerprints.{fingerprint_mask, fingerprint_value};
@@ -97,12 +97,20 @@ impl Fingerprint {
         requires { 20 ≤ length bytes.now }
         ensures { turned_bytes result ≡ fingerprint_value (with_length bytes.now len) }
     {
-        let [high, low] = len.to_be_bytes();
         let (_, tail) = bytes.split_at(4);
         Fingerprint {
-            crc: Crc32::of_pieces([bytes[0], bytes[1], high, low], tail),
+            crc: Crc32::of_pieces(front_told(bytes, len), tail),
         }
     }
+}
+
+/// The first four bytes of a message, as if its header told this length.
+fn front_told(bytes: &[u8], len: u16) -> [u8; 4]
+    requires { 20 ≤ length bytes.now }
+    ensures { result ≡ slice_index bytes.now 0 ∷ slice_index bytes.now 1 ∷ big_bytes 2 len }
+{
+    let [high, low] = len.to_be_bytes();
+    [bytes[0], bytes[1], high, low]
 }
 
 impl AttributeStaticType for Fingerprint {

@@ -8,5 +8,5 @@ use Rattle.stun_types_fingerprint.proofs.fingerprint.Fingerprint.of_message.Goal
 pub returns : goal.returns
 unfolding fingerprint_value
 returns c =
-    let text = told_in_pieces c.args.bytes.now _ _ c.args.len c.requires c.to_be_bytes.ensures c.split_at.ensures.back in
+    let text = told_in_pieces c.args.bytes.now _ _ c.args.len c.requires c.front_told.ensures c.split_at.ensures.back in
     ap (λ crc. big_bytes 4 (bit_xor crc fingerprint_mask)) (c.of_pieces.ensures ∙ ap crc32 text)
