@@ -1,6 +1,6 @@
 //! Messages over borrowed bytes.
 
-ghost use Rattle.std.specs.Prelude.{◌≡◌, ◌==◌, ◌+◌, ◌<◌, ◌≤◌, ◌^◌, ◌↔◌, IsTrue, None, Some, MatchResult, find, is_some, length, sum_by, IfOk};
+ghost use Rattle.std.specs.Prelude.{◌≡◌, ◌==◌, ◌+◌, ◌<◌, ◌≤◌, ◌^◌, ◌↔◌, IsTrue, None, Some, MatchResult, drop, find, is_some, length, sum_by, take, IfOk};
 ghost use Rattle.stun_types_wire.specs.Attributes.{attr_size, kind_at, numbered};
 ghost use Rattle.stun_types_wire.specs.Types.{class_of, method_of, is_response_class};
 ghost use Rattle.stun_types_wire.specs.Grammar.{body_refusal, refusal, shown, number_at};
@@ -69,8 +69,7 @@ impl<'a> Message<'a> {
             });
         }
         let end = scan(bytes)?;
-        let (front, _) = bytes.split_at(end);
-        let (_, shown) = front.split_at(MessageHeader::LENGTH);
+        let shown = behind_header(bytes, end);
         Ok(Message {
             header,
             bytes,
@@ -228,4 +227,15 @@ fn scan(bytes: &[u8]) -> Result<usize, StunParseError>
         stage = next;
     }
     Ok(bytes.len())
+}
+
+/// What stands between the header of a message and an offset.
+fn behind_header(bytes: &[u8], end: usize) -> &[u8]
+    requires behind { 20 ≤ end }
+    requires within { end ≤ length bytes.now }
+    ensures { result.now ≡ drop 20 (take end bytes.now) }
+{
+    let (front, _) = bytes.split_at(end);
+    let (_, behind) = front.split_at(MessageHeader::LENGTH);
+    behind
 }
