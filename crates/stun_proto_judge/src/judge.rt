@@ -13,6 +13,7 @@ use crate::error::LongTermServerAuthError;
 use crate::known::Known;
 use crate::user::ValidatedUser;
 use std::alloc::Global;
+use stun_types_base::memory::NoMemory;
 use stun_types_integrity::credentials::{LongTermKeyCredentials, MessageIntegrityCredentials};
 use stun_types_message::message::Message;
 use stun_types_wire::algorithm::IntegrityAlgorithm;
@@ -102,13 +103,25 @@ fn validate_user(
     ensures valid { OnOk result ((text : List ℕ) × Validates message.now (user_key realm.now pending.now.name.now pending.now.password.now pending.now.algorithm) pending.now.algorithm text) }
     ensures refused { IfErr result (λ error. error ≢ LongTermServerAuthError.NoMemory → (error ≡ LongTermServerAuthError.IntegrityFailed pending.now.algorithm) × ((text : List ℕ) → ¬ Validates message.now (user_key realm.now pending.now.name.now pending.now.password.now pending.now.algorithm) pending.now.algorithm text)) }
 {
-    let credentials = MessageIntegrityCredentials::LongTerm(LongTermKeyCredentials::new(
-        String::from_str(alloc, pending.name)?,
-        String::from_str(alloc, pending.password)?,
-        String::from_str(alloc, realm)?,
-    ));
+    let made = credentials_in(alloc, pending, realm)?;
+    let credentials = MessageIntegrityCredentials::LongTerm(made);
     match message.validate_integrity(alloc, &credentials) {
         Ok(_) => Ok(()),
         Err(error) => Err(LongTermServerAuthError::of_digest(pending.algorithm, error)),
     }
+}
+
+/// The credentials of the user in a realm. Where memory is refused, `NoMemory`.
+fn credentials_in(
+    alloc: Global,
+    pending: &Pending<'_>,
+    realm: &str,
+) -> Result<LongTermKeyCredentials, NoMemory>
+    ensures { IfOk result (λ made. made ≡ record { username = pending.now.name.now; password = pending.now.password.now; realm = realm.now }) }
+{
+    Ok(LongTermKeyCredentials::new(
+        String::from_str(alloc, pending.name)?,
+        String::from_str(alloc, pending.password)?,
+        String::from_str(alloc, realm)?,
+    ))
 }
