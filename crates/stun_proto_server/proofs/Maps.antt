@@ -1,15 +1,14 @@
 -- The maps of a server, as its fields keep them and as contracts see them.
-use Rattle.std.proofs.Common.{◌≡◌, ℕ, List, Option, Some, None, refl, sym, ap, ◌∙◌, cond, nat_lt, ◌==◌, true, false}
+use Rattle.std.proofs.Common.{◌≡◌, ℕ, List, Option, Some, None, MatchOption, refl, sym, ap, ◌∙◌, cond}
 use Rattle.std.specs.Prelude as list
 use Rattle.std.specs.BTreeMap as tree
 use Rattle.std.specs.Cmp.Lexicographic.{slice_cmp, nat_list_cmp_total}
 use Rattle.std.specs.FinMap as map
 use Rattle.std.specs.FinMap.{slice_cmp-IsAntisymmetric, nat_cmp-IsAntisymmetric}
 use Rattle.std.specs.Option.{option_map}
-use Rattle.std.specs.Ordering.{is_eq, is_lt, nat_cmp}
+use Rattle.std.specs.Ordering.{is_eq, nat_cmp}
 use Rattle.std.specs.String.{string_bytes, string_cmp}
 use Rattle.std.specs.declared.alloc.Global.{Global}
-use Rattle.std.specs.declared.cmp.Ordering.TheVariants.{Less, Equal, Greater}
 use Rattle.std.specs.declared.net.socket_addr.SocketAddr.{SocketAddr}
 use Rattle.std.specs.declared.string.String.{String}
 use Rattle.std.proofs.lemmas.Map.Text.{btree_map_updates_text, is_eq-slice_cmp}
@@ -65,6 +64,20 @@ pub no-outcome : (s : Inside) (server : Server) (client : SocketAddr) (outcome :
 no-outcome s server client outcome view_is none =
     ap {A = Option Client} {B = Server} (λ r. record server { clients = set_outcome server.clients client outcome r }) (sym (get-clients s server client None view_is none))
 
+-- what is found for an address decides whether an outcome is put
+outcome-found : (s : Inside) (new : tree.BTreeMap SocketAddr ClientRecord) (server : Server) (client : SocketAddr) (outcome : Option Outcome) (found : Option ClientRecord)
+    → server_of s ≡ server → found ≡ tree.get socket_addr_cmp s.clients client
+    → MatchOption found (tree.IsUnchanged s.clients new) (λ kept. tree.Updates socket_addr_cmp s.clients new client (Some (record kept { outcome = outcome })))
+    → server_of (record s { clients = new }) ≡ with_outcome server client outcome
+outcome-found s new server client outcome None view_is found same = same-clients s new server view_is same ∙ no-outcome s server client outcome view_is found
+outcome-found s new server client outcome (Some kept) view_is found updates = set-outcome s new server client kept outcome view_is found updates
+
+-- an outcome is put where something is kept for an address
+pub put-outcome : (s : Inside) (new : tree.BTreeMap SocketAddr ClientRecord) (server : Server) (client : SocketAddr) (outcome : Option Outcome) → server_of s ≡ server
+    → MatchOption (tree.get socket_addr_cmp s.clients client) (tree.IsUnchanged s.clients new) (λ kept. tree.Updates socket_addr_cmp s.clients new client (Some (record kept { outcome = outcome })))
+    → server_of (record s { clients = new }) ≡ with_outcome server client outcome
+put-outcome s new server client outcome view_is = outcome-found s new server client outcome (tree.get socket_addr_cmp s.clients client) view_is refl
+
 -- the password of a user's credentials
 abbrev pub password_of : NameAndPassword → List ℕ
 password_of user = user.password
@@ -99,11 +112,3 @@ remove-users s new server name view_is updates =
     ap {A = map.FinMap (slice_cmp nat_cmp) (List ℕ)} {B = Server} (λ m. record (server_of s) { users = m })
     (remove-finite_map string_bytes nat_list_cmp_total password_of (slice_cmp-IsAntisymmetric nat_cmp-IsAntisymmetric) s.users new name (users_updates s new name None updates))
     ∙ ap {A = Server} {B = Server} (λ v. record v { users = map.remove v.users name }) view_is
-
--- the order's test for less is the test for less
-pub is_lt-nat_cmp : (a b : ℕ) → is_lt (nat_cmp a b) ≡ nat_lt a b
-is_lt-nat_cmp a b =
-    elim (nat_lt a b) as (λ below. is_lt (cond below Less (cond (a == b) Equal Greater)) ≡ below) [
-      | true ↦ refl
-      | false ↦ elim (a == b) as (λ same. is_lt (cond same Equal Greater) ≡ false) [ true ↦ refl | false ↦ refl ]
-    ]

@@ -1,13 +1,16 @@
 //! The server's side of long-term credentials: its users, and a nonce for each client address.
 
-ghost use Rattle.std.specs.Prelude.{◌≡◌, ◌≢◌, ◌*◌, ◌≤◌, length, [], ◌∷◌, Ok, OnOk, OnErr, IsTrue};
+ghost use Rattle.std.specs.Prelude.{◌≡◌, ◌≢◌, ◌*◌, ◌≤◌, nat_lt, length, [], ◌∷◌, Ok, Some, OnOk, OnErr, MatchOption, IsTrue};
+ghost use Rattle.std.specs.BTreeMap as tree;
 ghost use Rattle.std.specs.Duration.{as_nanos};
 ghost use Rattle.std.specs.FinMap as map;
 ghost use Rattle.std.specs.List.{IsDistinct};
 ghost use Rattle.std.specs.Option.{option_copied};
 ghost use Rattle.std.specs.String.{string_bytes};
 ghost use Rattle.std.specs.declared.net.socket_addr.SocketAddr.{SocketAddr};
+ghost use Rattle.stun_proto_agent.specs.Moments.{moment_after};
 ghost use Rattle.stun_proto_auth.specs.Algorithms.{is_same_algorithm, with_algorithm};
+ghost use Rattle.stun_types_base.specs.SocketAddrs.{socket_addr_cmp};
 ghost use Rattle.stun_types_base.specs.Words.{stream_after};
 ghost use Rattle.stun_types_wire.specs.declared.algorithm.IntegrityAlgorithm.TheVariants.{Sha1};
 ghost use Rattle.stun_proto_auth.specs.declared.feature.Feature.TheVariants.{Auto};
@@ -175,7 +178,7 @@ impl LongTermServerAuth {
     pub fn nonce_for_client(&self, client: SocketAddr) -> Option<&str>
         ensures { option_copied result ≡ nonce_at self.now client }
     {
-        match self.clients.get(&client) {
+        match kept_for(&self.clients, client) {
             Some(kept) => Some(kept.nonce.as_str()),
             None => None,
         }
@@ -215,8 +218,8 @@ impl LongTermServerAuth {
     fn has_standing_nonce(&self, client: SocketAddr, now: Instant) -> bool
         ensures { result ≡ has_standing_nonce self.now client now }
     {
-        match self.clients.get(&client) {
-            Some(kept) => now < kept.drawn.saturating_add(self.nonce_expiry),
+        match kept_for(&self.clients, client) {
+            Some(kept) => stands(kept.drawn, self.nonce_expiry, now),
             None => false,
         }
     }
@@ -252,7 +255,7 @@ impl LongTermServerAuth {
     pub fn validated_user(&self, client: SocketAddr) -> Option<&ValidatedUser>
         ensures { option_copied result ≡ outcome_at self.now client }
     {
-        match self.clients.get(&client) {
+        match kept_for(&self.clients, client) {
             Some(kept) => kept.outcome.as_ref(),
             None => None,
         }
@@ -264,10 +267,7 @@ impl LongTermServerAuth {
         ensures kept { self.new ≡ with_outcome self.old from outcome }
         ensures others { (other : SocketAddr) → other ≢ from → SameFor other self.old self.new }
     {
-        let Some(kept) = self.clients.get_mut(&from) else {
-            return;
-        };
-        kept.outcome = outcome;
+        put_outcome(&mut self.clients, from, outcome);
     }
 
     /// The password of the user of a name, where there is a name and such a user.
@@ -294,6 +294,37 @@ impl LongTermServerAuth {
     pub(crate) fn alloc(&self) -> Global {
         self.alloc
     }
+}
+
+/// What is kept for a client, where something is.
+fn kept_for(
+    clients: &BTreeMap<SocketAddr, ClientRecord>,
+    client: SocketAddr,
+) -> Option<&ClientRecord>
+    ensures { option_copied result ≡ tree.get socket_addr_cmp clients.now client }
+{
+    clients.get(&client)
+}
+
+/// Keeps an outcome for a client, where something is kept for it; else nothing changes.
+fn put_outcome(
+    clients: &mut BTreeMap<SocketAddr, ClientRecord>,
+    client: SocketAddr,
+    outcome: Option<ValidatedUser>,
+)
+    ensures { MatchOption (tree.get socket_addr_cmp clients.old client) (tree.IsUnchanged clients.old clients.new) (λ kept. tree.Updates socket_addr_cmp clients.old clients.new client (Some (record kept { outcome = outcome }))) }
+{
+    let Some(kept) = clients.get_mut(&client) else {
+        return;
+    };
+    kept.outcome = outcome;
+}
+
+/// Whether a nonce stands at a moment: the moment is before its drawing plus the expiry.
+fn stands(drawn: Instant, expiry: Duration, now: Instant) -> bool
+    ensures { result ≡ nat_lt now (moment_after drawn (as_nanos expiry)) }
+{
+    now < drawn.saturating_add(expiry)
 }
 
 #[cfg(test)]

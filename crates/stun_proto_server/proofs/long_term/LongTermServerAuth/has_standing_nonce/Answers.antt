@@ -1,15 +1,14 @@
 use Rattle.std.proofs.Common.{sym, ap, ◌∙◌, nat_lt}
 use Rattle.stun_proto_agent.specs.Moments.{moment_after}
 use Rattle.stun_proto_server.specs.Server.{is_standing}
-use Rattle.stun_proto_server.proofs.Maps.{get-clients, is_lt-nat_cmp}
+use Rattle.stun_proto_server.proofs.Maps.{get-clients}
 use Rattle.stun_proto_server.proofs.long_term.LongTermServerAuth.has_standing_nonce.Goals as goal
 
 pub returns-in-None : goal.returns-in-None
 returns-in-None c =
-    sym (ap (is_standing c.args.self.now.nonce_expiry c.args.now) (get-clients c.self.inside _ c.args.client _ c.self.view_is c.in-None.ensures.value))
+    sym (ap (is_standing c.args.self.now.nonce_expiry c.args.now) (get-clients c.self.inside _ c.args.client _ c.self.view_is c.in-None.ensures))
 
 pub returns-in-Some : goal.returns-in-Some
 returns-in-Some c =
-    c.lt.ensures ∙ is_lt-nat_cmp c.args.now c.saturating_add.result
-    ∙ ap (nat_lt c.args.now) (c.saturating_add.ensures ∙ ap (moment_after c.in-Some.kept.now.drawn) (ap (λ v. v.nonce_expiry) c.self.view_is))
-    ∙ sym (ap (is_standing c.args.self.now.nonce_expiry c.args.now) (get-clients c.self.inside _ c.args.client _ c.self.view_is c.in-Some.ensures.value))
+    c.stands.ensures ∙ ap (λ v. nat_lt c.args.now (moment_after c.in-Some.kept.now.drawn v.nonce_expiry)) c.self.view_is
+    ∙ sym (ap (is_standing c.args.self.now.nonce_expiry c.args.now) (get-clients c.self.inside _ c.args.client _ c.self.view_is c.in-Some.ensures))
