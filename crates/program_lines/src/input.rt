@@ -35,7 +35,7 @@ pub fn read_input<I: Read>(alloc: Global, input: &mut I) -> Result<Vec<u8>, Inpu
     let mut bytes = Vec::new(alloc);
     let mut chunk = [0u8; CHUNK];
     for _ in 0..u64::MAX {
-        let room = (MAX_INPUT + 1 - bytes.len()).min(CHUNK);
+        let room = room_left(bytes.len());
         match read_on(input, &mut chunk[..room], &mut bytes) {
             Ok(true) => return Ok(bytes),
             Ok(false) => {}
@@ -46,6 +46,16 @@ pub fn read_input<I: Read>(alloc: Global, input: &mut I) -> Result<Vec<u8>, Inpu
         }
     }
     Err(InputError::Fault)
+}
+
+/// How many bytes are asked for next, where so many were taken.
+fn room_left(taken: usize) -> usize
+    requires { taken ≤ MAX_INPUT }
+    ensures some { 0 < result }
+    ensures chunk { result ≤ CHUNK }
+    ensures bound { taken + result ≤ MAX_INPUT + 1 }
+{
+    (MAX_INPUT + 1 - taken).min(CHUNK)
 }
 
 /// Reads once into the room that is given, and appends what came. Answers whether nothing is left.

@@ -10,14 +10,14 @@ loop-preserved g c =
 pub returns-in-Ok-true-clause-taken : goal.returns-in-Ok-true-clause-taken
 returns-in-Ok-true-clause-taken g c =
     let step = c.read_on.ensures.step in
-    takes_on 16777217 _ _ _ _ step.0 c.min-room.result c.loop.invariant.0 step.1 (omega (arith, length-take-bound c.min-room.result c.loop.chunk)) (omega arith)
+    takes_on 16777217 _ _ _ _ step.0 c.room_left-room.result c.loop.invariant.0 step.1 (omega (arith, length-take-bound c.room_left-room.result c.loop.chunk)) (omega arith)
 
 pub returns-in-Err-clause-taken : goal.returns-in-Err-clause-taken
 returns-in-Err-clause-taken g c =
     let step = c.read_on.ensures.step in
-    takes_on 16777217 _ _ _ _ step.0 c.min-room.result c.loop.invariant.0 step.1 (omega (arith, length-take-bound c.min-room.result c.loop.chunk)) (omega arith)
+    takes_on 16777217 _ _ _ _ step.0 c.room_left-room.result c.loop.invariant.0 step.1 (omega (arith, length-take-bound c.room_left-room.result c.loop.chunk)) (omega arith)
 
 pub returns-then-len-gt-MAX_INPUT-clause-taken : goal.returns-then-len-gt-MAX_INPUT-clause-taken
 returns-then-len-gt-MAX_INPUT-clause-taken g c =
     let step = c.read_on.ensures.step in
-    takes_on 16777217 _ _ _ _ step.0 c.min-room.result c.loop.invariant.0 step.1 (omega (arith, length-take-bound c.min-room.result c.loop.chunk)) (omega arith)
+    takes_on 16777217 _ _ _ _ step.0 c.room_left-room.result c.loop.invariant.0 step.1 (omega (arith, length-take-bound c.room_left-room.result c.loop.chunk)) (omega arith)
