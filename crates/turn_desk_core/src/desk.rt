@@ -15,7 +15,7 @@ ghost use Rattle.turn_desk_core.specs.declared.grant.Grant.{Grant as Granted};
 ghost use Rattle.turn_desk_core.specs.Lending.{LendsAuth};
 ghost use Rattle.turn_desk_core.specs.Requests.{IsServed, transport_asked};
 ghost use Rattle.turn_desk_core.specs.Steps.{IsAnswer, IsAuthAfter, IsGranted, IsSignedFor, key_at, refusal_attributes};
-ghost use Rattle.turn_desk_core.specs.Verdicts.{grants_of, reply_attributes, reply_type, verdict};
+ghost use Rattle.turn_desk_core.specs.Verdicts.{allocation, grants_of, reply_attributes, reply_type, verdict};
 
 use crate::decision::Decision;
 use crate::grant::Grant;
@@ -28,6 +28,7 @@ use std::net::SocketAddr;
 use stun_proto_agent::instant::Instant;
 use stun_proto_judge::error::LongTermServerAuthError;
 use stun_proto_server::long_term::LongTermServerAuth;
+use stun_types::TransportType;
 use stun_types::attribute::ErrorCode;
 use stun_types::message::{Message, MessageWrite, MessageWriteVec};
 use stun_types_base::list::ListOf;
@@ -201,17 +202,8 @@ impl Desk {
             } => {
                 let reply = allocated(self.alloc, request, relayed.as_slice(), lifetime, from)?;
                 let reply = self.sign(reply, from)?;
-                self.grants.push(Grant {
-                    method: ALLOCATE,
-                    number: request.transaction_id(),
-                    from,
-                    transport: Some(transport),
-                    relayed,
-                    lifetime: Some(lifetime),
-                    peers: ListOf::new(self.alloc),
-                    channel: None,
-                    connection: None,
-                })?;
+                let granted = allocation(self.alloc, request, from, transport, relayed, lifetime);
+                self.grants.push(granted)?;
                 Ok(reply)
             }
         }
@@ -228,5 +220,29 @@ impl Desk {
     {
         let signed = self.auth.sign_outgoing_message_unchecked(reply, from)?;
         Ok(signed.finish())
+    }
+}
+
+/// What is kept of an allocation that is granted to a request from an address.
+fn allocation(
+    alloc: Global,
+    request: &Message,
+    from: SocketAddr,
+    transport: TransportType,
+    relayed: ListOf<SocketAddr>,
+    lifetime: u32,
+) -> Grant
+    ensures { result ≡ allocation request.now from transport relayed lifetime }
+{
+    Grant {
+        method: ALLOCATE,
+        number: request.transaction_id(),
+        from,
+        transport: Some(transport),
+        relayed,
+        lifetime: Some(lifetime),
+        peers: ListOf::new(alloc),
+        channel: None,
+        connection: None,
     }
 }
