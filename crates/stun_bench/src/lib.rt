@@ -8,6 +8,4 @@ pub mod digest;
 mod key;
 pub mod read;
 pub mod request;
-#[cfg(test)]
-mod tests;
 pub mod validate;

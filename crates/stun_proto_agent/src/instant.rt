@@ -71,33 +71,3 @@ impl Instant {
         Duration::from_nanos(self.nanos.saturating_sub(earlier.nanos))
     }
 }
-
-#[cfg(test)]
-mod tests {
-    use super::*;
-
-    #[test]
-    fn sums_and_differences(rt: HostRuntime) {
-        let second = Duration::from_secs(1);
-        let later = Instant::from_nanos(1_000_000_000);
-        assert_eq!(rt; Instant::ZERO.as_nanos(), 0);
-        assert_eq!(rt; Instant::ZERO.checked_add(second), Some(later));
-        assert_eq!(rt; Instant::ZERO.saturating_add(second), later);
-        assert_eq!(rt; later.duration_since(Instant::ZERO), second);
-        assert_eq!(rt; Instant::ZERO.duration_since(later), Duration::ZERO);
-    }
-
-    #[test]
-    fn the_greatest_instant(rt: HostRuntime) {
-        let greatest = Instant::from_nanos(u64::MAX);
-        let nanosecond = Duration::from_nanos(1);
-        assert_eq!(rt;
-            Instant::from_nanos(u64::MAX - 1).checked_add(nanosecond),
-            Some(greatest)
-        );
-        assert_eq!(rt; greatest.checked_add(nanosecond), None);
-        assert_eq!(rt; greatest.saturating_add(nanosecond), greatest);
-        assert_eq!(rt; Instant::ZERO.checked_add(Duration::MAX), None);
-        assert_eq!(rt; Instant::ZERO.saturating_add(Duration::MAX), greatest);
-    }
-}

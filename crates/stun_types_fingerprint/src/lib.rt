@@ -3,5 +3,3 @@
 #![tactic(auto)]
 
 pub mod fingerprint;
-#[cfg(test)]
-mod tests;

@@ -5,6 +5,4 @@
 pub mod alternate_domain;
 pub mod alternate_server;
 pub mod software;
-#[cfg(test)]
-mod tests;
 pub mod unknown_attributes;

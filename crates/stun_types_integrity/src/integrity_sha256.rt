@@ -21,9 +21,6 @@ use stun_types_write::attribute::{
 use stun_types_write::reading::value_of;
 use stun_types_write::text::write_attribute;
 
-#[cfg(test)]
-mod tests;
-
 /// The HMAC-SHA256 of a message under a key, or the front of it: 16, 20, 24, 28 or 32 bytes.
 /// Contracts see these bytes.
 #[derive(Debug, Drop)]

@@ -8,5 +8,3 @@ pub mod hmac;
 pub mod integrity;
 pub mod integrity_sha256;
 pub mod key;
-#[cfg(test)]
-mod tests;

@@ -5,6 +5,4 @@
 pub mod algorithm;
 pub mod password_algorithm;
 pub mod password_algorithms;
-#[cfg(test)]
-mod tests;
 pub mod userhash;

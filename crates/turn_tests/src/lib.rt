@@ -1,15 +1,20 @@
-//! Tests that cross crates: worked messages, vectors of RFCs, and each refusal once. Expected bytes
-//! come from outside: from RFCs, from recorded messages, or worked by hand. What reads attributes and
-//! validates messages is tested in `turn_tests_integrity`.
+//! Tests that cross crates, as tables: each kind of thing has a helper that asserts, and each row says
+//! what it shows. Expected values come from outside: from RFCs, from recorded messages, from Python's
+//! hmac and zlib, or worked by hand. What a message or an attribute is that comes as bytes stands in
+//! the stored run of `stun_inspect`.
 #![tactic(auto)]
 
 #[cfg(test)]
 mod attributes;
 #[cfg(test)]
-mod errors;
+mod building;
 #[cfg(test)]
-mod parsing;
+mod headers;
 #[cfg(test)]
-mod types;
+mod objections;
 #[cfg(test)]
-mod writing;
+mod samples;
+#[cfg(test)]
+mod small_types;
+#[cfg(test)]
+mod validating;

@@ -4,6 +4,4 @@
 pub mod lifetime;
 pub mod method;
 pub mod requested_transport;
-#[cfg(test)]
-mod tests;
 pub mod xor_relayed_address;

@@ -1,5 +1,0 @@
-use Rattle.turn_tests.proofs.Pushes.{begun_with}
-use Rattle.turn_tests.proofs.writing.push_as.Goals as goal
-
-pub returns : goal.returns
-returns g c = begun_with _ _ _ _ _ _ c.requires.begun c.in_ok-push_attribute_unchecked.ensures.ok c.requires.kind c.requires.value c.requires.short
