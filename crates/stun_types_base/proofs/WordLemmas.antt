@@ -1,5 +1,5 @@
 -- Lemmas on the words of a stream, by their place.
-use Rattle.std.proofs.Common.{◌≡◌, ℕ, zero, suc, ◌+◌, refl, sym, ap, ◌∙◌, add-one, arith}
+use Rattle.std.proofs.Common.{◌≡◌, ℕ, zero, suc, ◌+◌, refl, sym, ap, ◌∙◌, arith}
 use Rattle.rand_core.specs.Stream.{Stream, next_u32}
 use Rattle.stun_types_base.specs.Words.{stream_after, word_at}
 
@@ -7,11 +7,6 @@ use Rattle.stun_types_base.specs.Words.{stream_after, word_at}
 pub stream_after-zero : (stream : Stream) → stream_after 0 stream ≡ stream
 unfolding stream_after
 stream_after-zero stream = refl
-
--- one word further
-pub stream_after-step : (count : ℕ) (stream : Stream) → stream_after (count + 1) stream ≡ (next_u32 (stream_after count stream)).1
-unfolding stream_after
-stream_after-step count stream = rw add-one refl
 
 -- words drawn in two goes are the words drawn in one
 pub stream_after-add : (first more : ℕ) (stream : Stream) → stream_after (first + more) stream ≡ stream_after more (stream_after first stream)

@@ -1,5 +1,5 @@
 -- A message whose length is to read otherwise, in the pieces of which its CRC-32 is made.
-use Rattle.std.proofs.Common.{◌≡◌, ℕ, ◌≤◌, List, [], ◌∷◌, ◌++◌, length, drop, get_or, refl, arith}
+use Rattle.std.proofs.Common.{◌≡◌, ℕ, ◌≤◌, List, ◌∷◌, ◌++◌, length, drop, get_or, refl, arith}
 use Rattle.byteorder.specs.Endian.{big_bytes}
 use Rattle.stun_types_wire.specs.Covered.{with_length}
 
