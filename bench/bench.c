@@ -90,11 +90,13 @@ static const uint8_t nonce[] = "obMatJos2AAAA0123456789abcdef";
 static const struct allocation granted = {0xcb007105, 0xc0a80001, 600, 50000, 1000};
 static const uint64_t number = 0xd0e0f0a1a2a3a4a5;
 static const uint16_t request_types[] = {0x0019, 0x000d, 0x0006, 0x0014, 0x0015, 0x0008};
+static const uint16_t response_types[] = {0x8022, 0x001c, 0x0016};
 static uint8_t large[4096];
 
 #define KEY key, 16
 #define RESPONSE &granted, number, software, 12, out, sizeof out
 #define REQUEST_TYPES request_types, 6
+#define RESPONSE_TYPES response_types, 3
 #define REQUEST 1800, number, user, 4, realm, 5, nonce, 29, out, sizeof out
 // the text that the FINGERPRINT of a message covers
 #define COVERED(message) message, sizeof message - 8
@@ -216,17 +218,25 @@ static void check_digests(void) {
                                          0x25, 0x71, 0x78, 0x50, 0xc2, 0x6c, 0x9c, 0xd0, 0xd8, 0x9d};
     stun_bench_sha1((const uint8_t *)"abc", 3, digest);
     must(memcmp(digest, abc_sha1, 20) == 0, "SHA-1 of abc");
+    static const uint8_t abc_sha256[32] = {
+        0xba, 0x78, 0x16, 0xbf, 0x8f, 0x01, 0xcf, 0xea, 0x41, 0x41, 0x40, 0xde, 0x5d, 0xae, 0x22, 0x23,
+        0xb0, 0x03, 0x61, 0xa3, 0x96, 0x17, 0x7a, 0x9c, 0xb4, 0x10, 0xff, 0x61, 0xf2, 0x00, 0x15, 0xad};
     stun_bench_sha256((const uint8_t *)"abc", 3, digest);
-    must(digest[0] == 0xba && digest[31] == 0xad, "SHA-256 of abc");
+    must(memcmp(digest, abc_sha256, 32) == 0, "SHA-256 of abc");
     must(stun_bench_crc32((const uint8_t *)"123456789", 9) == 0xcbf43926, "CRC-32 of 123456789");
 }
 
 static void check_reading(void) {
     must(stun_bench_parse(response_sha1, sizeof response_sha1), "parse");
     must(!stun_bench_parse(response_sha1, sizeof response_sha1 - 1), "parse of a part");
+    // both are written: they hold something else before
+    told = (struct allocation){0};
+    fingerprint = true;
     must(stun_bench_read(response_sha1, sizeof response_sha1, &told, &fingerprint), "read");
     must(memcmp(&told, &granted, sizeof told) == 0 && !fingerprint, "what is read");
     must(stun_bench_shows(request_sha1, sizeof request_sha1, REQUEST_TYPES), "look-ups");
+    must(stun_bench_shows(response_sha256, sizeof response_sha256, RESPONSE_TYPES), "look-ups");
+    must(!stun_bench_shows(response_sha1, sizeof response_sha1, RESPONSE_TYPES), "no SHA-256");
     must(stun_bench_look_up(response_whole, sizeof response_whole), "look-ups");
     must(!stun_bench_look_up(response_sha1, sizeof response_sha1), "no FINGERPRINT");
     must(stun_bench_read(response_whole, sizeof response_whole, &told, &fingerprint), "read");
