@@ -15,7 +15,8 @@ TakesAll most old new = (taken : List ℕ) × Consumes old new taken × (length 
 
 -- all of those bytes were taken, and each of their lines passes
 abbrev pub TakesLines : (List ℕ → Type 0) → Option (List ℕ) → Option (List ℕ) → Type 0
-TakesLines Passes old new = (taken : List ℕ) × Consumes old new taken × IsAtEnd new × AllByRecursion Passes (lines_of taken)
+TakesLines Passes old new = (taken : List ℕ) × Consumes old new taken × IsAtEnd new
+    × AllByRecursion Passes (lines_of taken)
 
 -- at most this many bytes were taken, and with an answer they stand behind those from before
 abbrev pub ReadsOn : {E : Type 0} → ℕ → Option (List ℕ) → Option (List ℕ) → List ℕ → List ℕ → Result Bool E → Type 0

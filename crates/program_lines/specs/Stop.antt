@@ -1,10 +1,17 @@
 -- Why a program stops before its end, and what it prints then.
 use Rattle.std.specs.Prelude.{ℕ, List, [], ◌++◌, codes}
 use Rattle.std.specs.Fmt.{decimal}
+use Rattle.program_lines.specs.declared.refusal.LineError.{LineError}
+use Rattle.program_lines.specs.declared.refusal.LineError.TheVariants as Errors
 use Rattle.program_lines.specs.declared.status.Status.{Status}
 use Rattle.program_lines.specs.declared.status.Status.TheVariants as Ends
 use Rattle.program_lines.specs.declared.stop.Stop.{Stop}
 use Rattle.program_lines.specs.declared.stop.Stop.TheVariants.{BadLine, NoMemory, Unread, Unwritten}
+
+-- why a program stops at a line of this number that couldn't be done
+abbrev pub stop_of : ℕ → LineError → Stop
+stop_of number Errors.Bad = BadLine number
+stop_of number Errors.NoMemory = NoMemory
 
 -- the status of a program that stopped
 abbrev pub status_of : Stop → Status

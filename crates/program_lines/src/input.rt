@@ -27,7 +27,8 @@ pub enum InputError {
 pub fn read_input<I: Read>(alloc: Global, input: &mut I) -> Result<Vec<u8>, InputError>
     ensures bound { IfOk result (λ bytes. length bytes.items ≤ MAX_INPUT) }
     // The bytes are what was taken from the reader, and nothing is left there.
-    ensures whole { IfOk result (λ bytes. Consumes (I.remaining input.old) (I.remaining input.new) bytes.items) }
+    ensures whole { IfOk result (λ bytes. Consumes (I.remaining input.old)
+        (I.remaining input.new) bytes.items) }
     ensures end { OnOk result (IsAtEnd (I.remaining input.new)) }
     // Whatever the answer, no more than this is taken.
     ensures taken { TakesAtMost (MAX_INPUT + 1) (I.remaining input.old) (I.remaining input.new) }
@@ -61,7 +62,8 @@ fn room_left(taken: usize) -> usize
 /// Reads once into the room that is given, and appends what came. Answers whether nothing is left.
 fn read_on<I: Read>(input: &mut I, room: &mut [u8], bytes: &mut Vec<u8>) -> Result<bool, InputError>
     requires { 0 < length room.old }
-    ensures step { ReadsOn (length room.old) (I.remaining input.old) (I.remaining input.new) bytes.old.items bytes.new.items result }
+    ensures step { ReadsOn (length room.old) (I.remaining input.old)
+        (I.remaining input.new) bytes.old.items bytes.new.items result }
     ensures end { result ≡ Ok true → IsAtEnd (I.remaining input.new) }
     ensures same { result ≡ Ok true → bytes.new.items ≡ bytes.old.items }
 {

@@ -2,7 +2,7 @@
 
 ghost use Rattle.std.specs.Prelude.{◌≡◌, ◌≢◌};
 ghost use Rattle.std.specs.Io.KnownBytes.{Appends, Keeps};
-ghost use Rattle.program_lines.specs.Stop.{status_of, stop_text};
+ghost use Rattle.program_lines.specs.Stop.{status_of, stop_of, stop_text};
 
 use crate::refusal::LineError;
 use crate::status::Status;
@@ -23,7 +23,8 @@ pub enum Stop {
 
 /// Why a program stops at a line that couldn't be done, of this number.
 pub fn stop_at(number: usize, error: LineError) -> Stop
-    ensures { result ≢ Stop.Unwritten }
+    ensures stop { result ≡ stop_of number error }
+    ensures written { result ≢ Stop.Unwritten }
 {
     match error {
         LineError::Bad => Stop::BadLine(number),
@@ -34,7 +35,8 @@ pub fn stop_at(number: usize, error: LineError) -> Stop
 /// Prints why a program stopped, and answers its status. After a failed write nothing is printed.
 pub fn print_stop<O: Write>(output: &mut O, stop: Stop) -> Status
     ensures status { result ≢ Status.Fault → result ≡ status_of stop }
-    ensures printed { result ≢ Status.Fault → Appends (O.contents output.old) (O.contents output.new) (stop_text stop) }
+    ensures printed { result ≢ Status.Fault → Appends (O.contents output.old)
+        (O.contents output.new) (stop_text stop) }
 {
     let written = match stop {
         Stop::BadLine(number) => writeln!(output, "bad trace: line {number}"),

@@ -11,7 +11,8 @@ use std::alloc::{AllocError, Global};
 /// there are such places, and a piece may be empty.
 pub fn pieces<'a>(alloc: Global, text: &'a str, separator: char) -> Result<Vec<&'a str>, AllocError>
     requires { separator < 128 }
-    ensures { IfOk result (λ v. map (λ x. x.now) v.items ≡ slice_split (λ b. b == separator) text.now) }
+    ensures { IfOk result (λ v. map (λ x. x.now) v.items ≡ slice_split
+        (λ b. b == separator) text.now) }
 {
     text.split(separator).collect(alloc)
 }
@@ -21,7 +22,8 @@ pub fn pieces<'a>(alloc: Global, text: &'a str, separator: char) -> Result<Vec<&
 /// one.
 pub fn read_words<'a>(alloc: Global, line: &'a [u8]) -> Result<Vec<&'a str>, LineError>
     ensures ok { IfOk result (λ v. AreWords line.entry.now (map (λ x. x.now) v.items)) }
-    ensures bad { result ≡ Err LineError.Bad → (words : List (List ℕ)) → ¬ AreWords line.entry.now words }
+    ensures bad { result ≡ Err LineError.Bad → (words : List (List ℕ))
+        → ¬ AreWords line.entry.now words }
 {
     let Ok(text) = std::str::from_utf8(line) else {
         return Err(LineError::Bad);

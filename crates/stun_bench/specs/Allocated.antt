@@ -1,5 +1,5 @@
 -- What the success response to an ALLOCATE tells (RFC 8656, section 7.3), and its text.
-use Rattle.std.specs.Prelude.{◌≡◌, ℕ, ◌==◌, Bool, IsTrue, List, [], ◌∷◌, ◌++◌, length, drop, find, is_some, None, IsSomeAnd}
+use Rattle.std.specs.Prelude.{◌≡◌, ◌<◌, ℕ, ◌==◌, Bool, IsTrue, List, [], ◌∷◌, ◌++◌, length, drop, find, is_some, None, Some, IsSomeAnd}
 use Rattle.std.specs.declared.net.socket_addr.SocketAddr.TheVariants.{V4}
 use Rattle.std.specs.declared.net.socket_addr.SocketAddrV4.{SocketAddrV4}
 use Rattle.std.specs.Net.Addr.{ipv4_bits}
@@ -10,6 +10,7 @@ use Rattle.stun_types_wire.specs.Attributes.{Attr}
 use Rattle.stun_types_wire.specs.Fingerprints.{fingerprint_of}
 use Rattle.stun_types_wire.specs.Grammar.{number_at, shown}
 use Rattle.stun_types_wire.specs.Text.{message_text}
+use Rattle.stun_types_write.specs.Adding.{IsBegun}
 use Rattle.stun_types_write.specs.Reading.{value_refusal}
 use Rattle.stun_types_address.specs.Addresses.{address_again, address_of, address_read_refusal, value_of_parts}
 use Rattle.stun_types_address.specs.Xor.{xored}
@@ -24,7 +25,8 @@ shows_kind kind bytes = is_some (find (λ a. a.kind == kind) (shown bytes))
 
 -- a message shows the two addresses and the LIFETIME of an allocation
 abbrev pub ShowsAllocated : List ℕ → Type 0
-ShowsAllocated bytes = IsTrue (shows_kind 0x0016 bytes) × IsTrue (shows_kind 0x000D bytes) × IsTrue (shows_kind 0x0020 bytes)
+ShowsAllocated bytes = IsTrue (shows_kind 0x0016 bytes) × IsTrue (shows_kind 0x000D bytes)
+    × IsTrue (shows_kind 0x0020 bytes)
 
 -- a message shows SOFTWARE, MESSAGE-INTEGRITY and FINGERPRINT
 abbrev pub ShowsEnd : List ℕ → Type 0
@@ -33,12 +35,15 @@ ShowsEnd bytes = IsTrue (shows_kind 0x8022 bytes) × IsTrue (shows_kind 0x0008 b
 -- the first attribute of this type that a message shows tells this address of IPv4
 abbrev pub TellsAddress : ℕ → List ℕ → SocketAddrV4 → Type 0
 TellsAddress kind bytes addr =
-    IsSomeAnd (find (λ a. a.kind == kind) (shown bytes)) (λ a. (address_read_refusal kind a ≡ None) × (address_of (xored (number_at bytes) (address_again a.value)) ≡ V4 addr))
+    IsSomeAnd (find (λ a. a.kind == kind) (shown bytes))
+    (λ a. (address_read_refusal kind a ≡ None) × (address_of (xored (number_at bytes) (address_again a.value))
+    ≡ Some (V4 addr)))
 
 -- the first LIFETIME that a message shows tells so many seconds
 abbrev pub TellsLifetime : List ℕ → ℕ → Type 0
 TellsLifetime bytes seconds =
-    IsSomeAnd (find (λ a. a.kind == 0x000D) (shown bytes)) (λ a. (value_refusal 0x000D 4 4 a ≡ None) × (seconds ≡ big_number 4 a.value))
+    IsSomeAnd (find (λ a. a.kind == 0x000D) (shown bytes))
+    (λ a. (value_refusal 0x000D 4 4 a ≡ None) × (seconds ≡ big_number 4 a.value))
 
 -- an address, as its number and its port
 pub record IsPlace (ip port : ℕ) (addr : SocketAddrV4) : Type 0 where
@@ -76,19 +81,47 @@ allocated told number software =
 abbrev pub allocated_text : Allocation → ℕ → List ℕ → List ℕ
 allocated_text told number software = message_text 0x0103 number (allocated told number software)
 
+-- the attributes of a message, and behind them the integrity attribute that signs it under a key
+abbrev pub signed : IntegrityAlgorithm → List ℕ → ℕ → ℕ → List Attr → List Attr
+signed algorithm key mtype number adds = adds ++ signature algorithm key (message_text mtype number adds) ∷ []
+
+-- the same, and behind them the FINGERPRINT
+abbrev pub marked : IntegrityAlgorithm → List ℕ → ℕ → ℕ → List Attr → List Attr
+marked algorithm key mtype number adds =
+    signed algorithm key mtype number adds
+    ++ fingerprint_of (message_text mtype number (signed algorithm key mtype number adds)) ∷ []
+
 -- the text of the response, signed under a key
 abbrev pub signed_text : IntegrityAlgorithm → List ℕ → Allocation → ℕ → List ℕ → List ℕ
 signed_text algorithm key told number software =
-    message_text 0x0103 number (allocated told number software ++ signature algorithm key (allocated_text told number software) ∷ [])
+    message_text 0x0103 number (signed algorithm key 0x0103 number (allocated told number software))
 
 -- the text of the response, signed under a key and with its FINGERPRINT
 abbrev pub marked_text : IntegrityAlgorithm → List ℕ → Allocation → ℕ → List ℕ → List ℕ
 marked_text algorithm key told number software =
-    message_text 0x0103 number
-    ((allocated told number software ++ signature algorithm key (allocated_text told number software) ∷ [])
-    ++ fingerprint_of (signed_text algorithm key told number software) ∷ [])
+    message_text 0x0103 number (marked algorithm key 0x0103 number (allocated told number software))
+
+-- the text of a message became that of the same message, signed under a key and with its FINGERPRINT
+abbrev pub IsMarked : IntegrityAlgorithm → List ℕ → List ℕ → List ℕ → Type 0
+IsMarked algorithm key old new =
+    (mtype number : ℕ) (adds : List Attr) → old ≡ message_text mtype number adds
+    → new ≡ message_text mtype number (marked algorithm key mtype number adds)
+
+-- the response of a number was begun, and shows nothing yet
+pub record BeginsResponse (number : ℕ) (bytes : List ℕ) : Type 0 where
+  pub text : bytes ≡ message_text 0x0103 number []
+  pub begun : IsBegun bytes
 
 -- a text stands at the front of bytes, and the rest is as it was
 pub record IsWritten (text before after : List ℕ) (size : ℕ) : Type 0 where
   pub has_size : size ≡ length text
   pub bytes : after ≡ text ++ drop size before
+
+-- a text is written to the front of bytes, and how many it takes is told; or none is told, and nothing is written
+pub record WritesOut (text before after : List ℕ) (size : ℕ) : Type 0 where
+  pub written : 0 < size → IsWritten text before after size
+  pub refused : size ≡ 0 → after ≡ before
+
+-- so many bytes of a text are told, where any are
+abbrev pub IsSizeOf : List ℕ → ℕ → Type 0
+IsSizeOf text size = 0 < size → size ≡ length text

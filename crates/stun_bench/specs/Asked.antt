@@ -24,4 +24,5 @@ asked_text lifetime number user realm nonce = message_text 0x0003 number (asked 
 -- the text of the request, signed under a key
 abbrev pub signed_asked_text : IntegrityAlgorithm → List ℕ → ℕ → ℕ → List ℕ → List ℕ → List ℕ → List ℕ
 signed_asked_text algorithm key lifetime number user realm nonce =
-    message_text 0x0003 number (asked lifetime user realm nonce ++ signature algorithm key (asked_text lifetime number user realm nonce) ∷ [])
+    message_text 0x0003 number (asked lifetime user realm nonce
+    ++ signature algorithm key (asked_text lifetime number user realm nonce) ∷ [])

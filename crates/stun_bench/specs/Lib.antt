@@ -1,2 +1,4 @@
 pub mod Allocated
 pub mod Asked
+pub mod Lifetimes
+pub mod Objected

@@ -2,10 +2,14 @@
 //! message. Each function calls the library's and states again what that states.
 #![tactic(auto)]
 
+pub mod adds;
 pub mod allocation;
 pub mod build;
+pub mod check;
 pub mod digest;
 mod key;
+pub mod lent;
 pub mod read;
 pub mod request;
+mod response;
 pub mod validate;

@@ -6,7 +6,7 @@ ghost use Rattle.std.specs.declared.net.socket_addr.SocketAddr.TheVariants.{V4};
 ghost use Rattle.std.specs.declared.net.socket_addr.SocketAddrV4.{SocketAddrV4 as AddrV4};
 ghost use Rattle.stun_types_wire.specs.Grammar.{IsMessage};
 ghost use Rattle.stun_bench.specs.declared.allocation.Allocation.{Allocation as Told};
-ghost use Rattle.stun_bench.specs.Allocated.{IsPlace, Tells, TellsAddress, ShowsAllocated, ShowsEnd, TellsLifetime, shows_kind};
+ghost use Rattle.stun_bench.specs.Allocated.{Tells, TellsAddress, ShowsAllocated, ShowsEnd, TellsLifetime, shows_kind};
 
 use crate::allocation::Allocation;
 use std::convert::TryFrom;
@@ -14,14 +14,12 @@ use std::net::{SocketAddr, SocketAddrV4};
 use stun_types::attribute::{AttributeType, MessageIntegrity, XorMappedAddress};
 use stun_types::message::Message;
 use stun_types::prelude::AttributeStaticType;
+use stun_types_wire::attribute::FINGERPRINT;
 use turn_types_attribute::lifetime::Lifetime;
 use turn_types_attribute::xor_relayed_address::XorRelayedAddress;
 
 /// The type of SOFTWARE (RFC 8489, section 14.14).
 pub(crate) const SOFTWARE: AttributeType = AttributeType(0x8022);
-
-/// The type of FINGERPRINT (RFC 8489, section 14.7).
-const FINGERPRINT: AttributeType = AttributeType(0x8028);
 
 /// Whether bytes are a message.
 #[unsafe(no_mangle)]
@@ -34,7 +32,8 @@ pub extern "C" fn stun_bench_parse(bytes: &[u8]) -> bool
 /// Whether bytes are a message that shows an attribute of each of these types.
 #[unsafe(no_mangle)]
 pub extern "C" fn stun_bench_shows(bytes: &[u8], atypes: &[u16]) -> bool
-    ensures { IsTrue result ↔ (IsMessage bytes.now × IsTrue (list_all (λ kind. shows_kind kind bytes.now) atypes.now)) }
+    ensures { IsTrue result ↔ (IsMessage bytes.now
+        × IsTrue (list_all (λ kind. shows_kind kind bytes.now) atypes.now)) }
 {
     let Ok(message) = Message::from_bytes(bytes) else {
         return false;
@@ -46,7 +45,8 @@ pub extern "C" fn stun_bench_shows(bytes: &[u8], atypes: &[u16]) -> bool
 /// ALLOCATE, FINGERPRINT among them: a look-up of each.
 #[unsafe(no_mangle)]
 pub extern "C" fn stun_bench_look_up(bytes: &[u8]) -> bool
-    ensures { IsTrue result ↔ (IsMessage bytes.now × ShowsAllocated bytes.now × ShowsEnd bytes.now) }
+    ensures { IsTrue result ↔ (IsMessage bytes.now × ShowsAllocated bytes.now
+        × ShowsEnd bytes.now) }
 {
     match Message::from_bytes(bytes) {
         Ok(message) => shows_allocated(&message) && shows_end(&message),
@@ -84,8 +84,10 @@ pub extern "C" fn stun_bench_read(
 ) -> bool
     ensures read { result ≡ true → IsMessage bytes.now × Tells bytes.now told.new }
     ensures fingerprint { result ≡ true → has_fingerprint.new ≡ shows_kind 0x8028 bytes.now }
-    ensures refused { result ≡ false → IsMessage bytes.now → (other : Told) → ¬ Tells bytes.now other }
-    ensures unchanged { result ≡ false → (told.new ≡ told.old) × (has_fingerprint.new ≡ has_fingerprint.old) }
+    ensures refused { result ≡ false → IsMessage bytes.now → (other : Told)
+        → ¬ Tells bytes.now other }
+    ensures unchanged { result ≡ false → (told.new ≡ told.old)
+        × (has_fingerprint.new ≡ has_fingerprint.old) }
 {
     let Ok(message) = Message::from_bytes(bytes) else {
         return false;
@@ -128,7 +130,8 @@ fn allocation_of(message: &Message) -> Option<Allocation>
 
 /// The relayed address, where it is one of IPv4.
 fn relayed_of(message: &Message) -> Option<SocketAddrV4>
-    ensures { MatchOption result ((addr : AddrV4) → ¬ TellsAddress 0x0016 message.now addr) (TellsAddress 0x0016 message.now) }
+    ensures { MatchOption result ((addr : AddrV4) → ¬ TellsAddress 0x0016 message.now addr)
+        (TellsAddress 0x0016 message.now) }
 {
     let raw = message.raw_attribute(XorRelayedAddress::TYPE)?;
     match XorRelayedAddress::try_from(&raw) {
@@ -139,7 +142,8 @@ fn relayed_of(message: &Message) -> Option<SocketAddrV4>
 
 /// The address from which the request came, where it is one of IPv4.
 fn mapped_of(message: &Message) -> Option<SocketAddrV4>
-    ensures { MatchOption result ((addr : AddrV4) → ¬ TellsAddress 0x0020 message.now addr) (TellsAddress 0x0020 message.now) }
+    ensures { MatchOption result ((addr : AddrV4) → ¬ TellsAddress 0x0020 message.now addr)
+        (TellsAddress 0x0020 message.now) }
 {
     let raw = message.raw_attribute(XorMappedAddress::TYPE)?;
     match XorMappedAddress::try_from(&raw) {
@@ -150,7 +154,8 @@ fn mapped_of(message: &Message) -> Option<SocketAddrV4>
 
 /// For how many seconds the allocation stands.
 fn lifetime_of(message: &Message) -> Option<u32>
-    ensures { MatchOption result ((seconds : ℕ) → ¬ TellsLifetime message.now seconds) (TellsLifetime message.now) }
+    ensures { MatchOption result ((seconds : ℕ) → ¬ TellsLifetime message.now seconds)
+        (TellsLifetime message.now) }
 {
     let raw = message.raw_attribute(Lifetime::TYPE)?;
     match Lifetime::try_from(&raw) {

@@ -6,11 +6,12 @@ ghost use Rattle.stun_types_wire.specs.Attributes.{Attr};
 ghost use Rattle.stun_types_wire.specs.Text.{message_text};
 ghost use Rattle.stun_types_write.specs.Adding.{IsBegun, attr_of};
 ghost use Rattle.stun_types_integrity.specs.Signing.{signature};
-ghost use Rattle.stun_bench.specs.Allocated.{IsWritten};
+ghost use Rattle.stun_bench.specs.Allocated.{WritesOut};
 ghost use Rattle.stun_bench.specs.Asked.{asked_text, signed_asked_text};
 
-use crate::build::{ALLOCATE, ROOM, copy_out};
+use crate::build::{ROOM, copy_out};
 use crate::key::key_of_password;
+use crate::response::ALLOCATE;
 use std::alloc::Global;
 use stun_types::attribute::{AttributeType, RawAttribute};
 use stun_types::message::{
@@ -46,8 +47,8 @@ pub extern "C" fn stun_bench_build_request(
     nonce: &[u8],
     out: &mut [u8],
 ) -> usize
-    ensures written { 0 < result → IsWritten (asked_text lifetime number user.now realm.now nonce.now) out.old out.new result }
-    ensures refused { result ≡ 0 → out.new ≡ out.old }
+    ensures { WritesOut
+        (asked_text lifetime number user.now realm.now nonce.now) out.old out.new result }
 {
     match ask(alloc, lifetime, number, user, realm, nonce) {
         Ok(writer) => copy_out(writer.as_slice(), out),
@@ -68,8 +69,9 @@ pub extern "C" fn stun_bench_sign_request_sha1(
     nonce: &[u8],
     out: &mut [u8],
 ) -> usize
-    ensures written { 0 < result → IsWritten (signed_asked_text Sha1 password.now lifetime number user.now realm.now nonce.now) out.old out.new result }
-    ensures refused { result ≡ 0 → out.new ≡ out.old }
+    ensures { WritesOut
+        (signed_asked_text Sha1 password.now lifetime number user.now realm.now nonce.now)
+        out.old out.new result }
 {
     let Ok(writer) = ask(alloc, lifetime, number, user, realm, nonce) else {
         return 0;
@@ -92,8 +94,9 @@ pub extern "C" fn stun_bench_sign_request_sha256(
     nonce: &[u8],
     out: &mut [u8],
 ) -> usize
-    ensures written { 0 < result → IsWritten (signed_asked_text Sha256 password.now lifetime number user.now realm.now nonce.now) out.old out.new result }
-    ensures refused { result ≡ 0 → out.new ≡ out.old }
+    ensures { WritesOut
+        (signed_asked_text Sha256 password.now lifetime number user.now realm.now nonce.now)
+        out.old out.new result }
 {
     let Ok(writer) = ask(alloc, lifetime, number, user, realm, nonce) else {
         return 0;
@@ -113,7 +116,10 @@ fn sign(
     writer: MessageWriteVec,
 ) -> Option<MessageWriteVec>
     requires begun { IsBegun writer.bytes }
-    ensures { IfSome result (λ signed. (mtype number : ℕ) (adds : List Attr) → writer.bytes ≡ message_text mtype number adds → signed.bytes ≡ message_text mtype number (adds ++ signature algorithm password.now (message_text mtype number adds) ∷ [])) }
+    ensures { IfSome result (λ signed. (mtype number : ℕ) (adds : List Attr) → writer.bytes
+        ≡ message_text mtype number adds → signed.bytes
+        ≡ message_text mtype number (adds ++ signature algorithm password.now
+        (message_text mtype number adds) ∷ [])) }
 {
     let key = key_of_password(alloc, password, algorithm)?;
     let mut writer = writer;
@@ -122,7 +128,8 @@ fn sign(
 }
 
 /// The request, in a writer. Refused with `TooLarge` where a text has more than 763 bytes, with
-/// `NoMemory` where memory is refused.
+/// `NoMemory` where memory is refused. It is part of each function that calls it, as `build` is.
+#[inline(always)]
 fn ask(
     alloc: Global,
     lifetime: u32,
@@ -131,7 +138,8 @@ fn ask(
     realm: &[u8],
     nonce: &[u8],
 ) -> Result<MessageWriteVec, StunWriteError>
-    ensures text { IfOk result (λ writer. writer.bytes ≡ asked_text lifetime number user.now realm.now nonce.now) }
+    ensures text { IfOk result (λ writer. writer.bytes
+        ≡ asked_text lifetime number user.now realm.now nonce.now) }
     ensures begun { IfOk result (λ writer. IsBegun writer.bytes) }
 {
     let number = TransactionId::from(u128::from(number));

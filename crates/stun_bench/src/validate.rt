@@ -1,6 +1,6 @@
 //! Validation under a password.
 
-ghost use Rattle.std.specs.Prelude.{◌≡◌, ◌↔◌, ℕ, List, IsTrue, IfOk, IfSome, MatchOption, false};
+ghost use Rattle.std.specs.Prelude.{◌≡◌, ◌↔◌, ℕ, List, IsTrue, IfSome, MatchOption, false};
 ghost use Rattle.stun_types_wire.specs.declared.algorithm.IntegrityAlgorithm.TheVariants.{Sha1, Sha256};
 ghost use Rattle.stun_types_integrity.specs.Integrity.{IsSigned};
 
@@ -23,7 +23,8 @@ pub struct Answer {
 /// memory is refused for the key.
 #[unsafe(no_mangle)]
 pub extern "C" fn stun_bench_validate_sha1(alloc: Global, password: &[u8], bytes: &[u8]) -> Answer
-    ensures known { IsTrue result.known → (IsTrue result.holds ↔ ((text : List ℕ) × IsSigned bytes.now password.now Sha1 text)) }
+    ensures known { IsTrue result.known → (IsTrue result.holds
+        ↔ ((text : List ℕ) × IsSigned bytes.now password.now Sha1 text)) }
     ensures unknown { result.known ≡ false → result.holds ≡ false }
 {
     told(validates(alloc, password, bytes, IntegrityAlgorithm::Sha1))
@@ -32,7 +33,8 @@ pub extern "C" fn stun_bench_validate_sha1(alloc: Global, password: &[u8], bytes
 /// The same of a MESSAGE-INTEGRITY-SHA256 (RFC 8489, section 14.6).
 #[unsafe(no_mangle)]
 pub extern "C" fn stun_bench_validate_sha256(alloc: Global, password: &[u8], bytes: &[u8]) -> Answer
-    ensures known { IsTrue result.known → (IsTrue result.holds ↔ ((text : List ℕ) × IsSigned bytes.now password.now Sha256 text)) }
+    ensures known { IsTrue result.known → (IsTrue result.holds
+        ↔ ((text : List ℕ) × IsSigned bytes.now password.now Sha256 text)) }
     ensures unknown { result.known ≡ false → result.holds ≡ false }
 {
     told(validates(alloc, password, bytes, IntegrityAlgorithm::Sha256))
@@ -46,7 +48,8 @@ fn validates(
     bytes: &[u8],
     algorithm: IntegrityAlgorithm,
 ) -> Option<bool>
-    ensures { IfSome result (λ holds. IsTrue holds ↔ ((text : List ℕ) × IsSigned bytes.now password.now algorithm text)) }
+    ensures { IfSome result (λ holds. IsTrue holds
+        ↔ ((text : List ℕ) × IsSigned bytes.now password.now algorithm text)) }
 {
     let key = key_of_password(alloc, password, algorithm)?;
     match Message::from_bytes(bytes) {
@@ -57,7 +60,8 @@ fn validates(
 
 /// An answer as C is told it.
 fn told(holds: Option<bool>) -> Answer
-    ensures { MatchOption holds ((result.known ≡ false) × (result.holds ≡ false)) (λ answer. (IsTrue result.known) × (result.holds ≡ answer)) }
+    ensures { MatchOption holds ((result.known ≡ false) × (result.holds ≡ false))
+        (λ answer. (IsTrue result.known) × (result.holds ≡ answer)) }
 {
     match holds {
         Some(holds) => Answer { known: true, holds },

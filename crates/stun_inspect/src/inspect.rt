@@ -27,9 +27,11 @@ pub(crate) fn inspect<I: Read, O: Write>(alloc: Global, input: &mut I, output: &
     // At most one byte more than the longest input is taken from the reader.
     ensures taken { TakesAtMost (MAX_INPUT + 1) (I.remaining input.old) (I.remaining input.new) }
     // Where the input was read, it is all that the reader had.
-    ensures whole { result ≢ Status.Fault → result ≢ Status.NoMemory → TakesAll MAX_INPUT (I.remaining input.old) (I.remaining input.new) }
+    ensures whole { result ≢ Status.Fault → result ≢ Status.NoMemory
+        → TakesAll MAX_INPUT (I.remaining input.old) (I.remaining input.new) }
     // Where it ended well, each line says nothing or can be read.
-    ensures done { result ≡ Status.Done → TakesLines IsReadable (I.remaining input.old) (I.remaining input.new) }
+    ensures done { result ≡ Status.Done → TakesLines IsReadable (I.remaining input.old)
+        (I.remaining input.new) }
     ensures printed { Prints result (O.contents output.old) (O.contents output.new) }
 {
     match inspect_input(alloc, input, output) {
@@ -45,9 +47,12 @@ fn inspect_input<I: Read, O: Write>(
     output: &mut O,
 ) -> Result<(), Stop>
     ensures taken { TakesAtMost (MAX_INPUT + 1) (I.remaining input.old) (I.remaining input.new) }
-    ensures whole { result ≢ Err Stop.Unread → result ≢ Err Stop.NoMemory → TakesAll MAX_INPUT (I.remaining input.old) (I.remaining input.new) }
-    ensures done { OnOk result (TakesLines IsReadable (I.remaining input.old) (I.remaining input.new)) }
-    ensures printed { result ≢ Err Stop.Unwritten → PrintsText (O.contents output.old) (O.contents output.new) }
+    ensures whole { result ≢ Err Stop.Unread → result ≢ Err Stop.NoMemory
+        → TakesAll MAX_INPUT (I.remaining input.old) (I.remaining input.new) }
+    ensures done { OnOk result (TakesLines IsReadable (I.remaining input.old)
+        (I.remaining input.new)) }
+    ensures printed { result ≢ Err Stop.Unwritten
+        → PrintsText (O.contents output.old) (O.contents output.new) }
 {
     match read_input(alloc, input) {
         Ok(text) => inspect_text(alloc, text.as_slice(), output),
@@ -108,7 +113,8 @@ impl Inspector {
 /// Prints what the lines of a text give.
 fn inspect_text<O: Write>(alloc: Global, text: &[u8], output: &mut O) -> Result<(), Stop>
     ensures read { OnOk result (AllByRecursion IsReadable (lines_of text.now)) }
-    ensures printed { result ≢ Err Stop.Unwritten → PrintsText (O.contents output.old) (O.contents output.new) }
+    ensures printed { result ≢ Err Stop.Unwritten
+        → PrintsText (O.contents output.old) (O.contents output.new) }
 {
     let Ok(mut inspector) = Inspector::new(alloc) else {
         return Err(Stop::NoMemory);
@@ -136,7 +142,8 @@ fn inspect_line<O: Write>(
     output: &mut O,
 ) -> Result<(), Stop>
     ensures read { OnOk result (IsReadable line.now) }
-    ensures printed { result ≢ Err Stop.Unwritten → PrintsText (O.contents output.old) (O.contents output.new) }
+    ensures printed { result ≢ Err Stop.Unwritten
+        → PrintsText (O.contents output.old) (O.contents output.new) }
 {
     if is_skipped(line) {
         return Ok(());
@@ -152,7 +159,8 @@ fn inspect_line<O: Write>(
 
 /// Prints a text.
 fn print<O: Write>(text: &str, output: &mut O) -> Result<(), Stop>
-    ensures printed { result ≢ Err Stop.Unwritten → PrintsText (O.contents output.old) (O.contents output.new) }
+    ensures printed { result ≢ Err Stop.Unwritten
+        → PrintsText (O.contents output.old) (O.contents output.new) }
 {
     match output.write_all(text.as_bytes()) {
         Ok(()) => Ok(()),

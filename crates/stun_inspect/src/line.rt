@@ -41,7 +41,8 @@ pub(crate) fn read_line<'a>(alloc: Global, line: &'a [u8]) -> Result<Line<'a>, L
 /// The line that some words spell.
 fn spell<'a>(alloc: Global, words: &[&'a str]) -> Result<Line<'a>, LineError>
     ensures ok { IfOk result (IsLineOf (map (λ x. x.now) words.entry.now)) }
-    ensures bad { result ≡ Err LineError.Bad → (read : Line) → ¬ (IsLineOf (map (λ x. x.now) words.entry.now) read) }
+    ensures bad { result ≡ Err LineError.Bad → (read : Line)
+        → ¬ (IsLineOf (map (λ x. x.now) words.entry.now) read) }
 {
     match words {
         ["user", rest @ ..] => read_user(rest),
@@ -61,7 +62,8 @@ fn spell<'a>(alloc: Global, words: &[&'a str]) -> Result<Line<'a>, LineError>
 /// The credentials of a user, from the words behind `user`.
 fn read_user<'a>(words: &[&'a str]) -> Result<Line<'a>, LineError>
     ensures ok { IfOk result (IsNamed (codes "user") (map (λ x. x.now) words.entry.now)) }
-    ensures bad { result ≡ Err LineError.Bad → (read : Line) → ¬ (IsNamed (codes "user") (map (λ x. x.now) words.entry.now) read) }
+    ensures bad { result ≡ Err LineError.Bad → (read : Line)
+        → ¬ (IsNamed (codes "user") (map (λ x. x.now) words.entry.now) read) }
 {
     let [name, realm, password] = words else {
         return Err(LineError::Bad);
@@ -76,7 +78,8 @@ fn read_user<'a>(words: &[&'a str]) -> Result<Line<'a>, LineError>
 /// The credentials of a password, from the words behind `password`.
 fn read_password<'a>(words: &[&'a str]) -> Result<Line<'a>, LineError>
     ensures ok { IfOk result (IsNamed (codes "password") (map (λ x. x.now) words.entry.now)) }
-    ensures bad { result ≡ Err LineError.Bad → (read : Line) → ¬ (IsNamed (codes "password") (map (λ x. x.now) words.entry.now) read) }
+    ensures bad { result ≡ Err LineError.Bad → (read : Line)
+        → ¬ (IsNamed (codes "password") (map (λ x. x.now) words.entry.now) read) }
 {
     let [password] = words else {
         return Err(LineError::Bad);
@@ -87,7 +90,8 @@ fn read_password<'a>(words: &[&'a str]) -> Result<Line<'a>, LineError>
 /// The bytes that one word spells.
 fn read_bytes(alloc: Global, words: &[&str]) -> Result<Vec<u8>, LineError>
     ensures ok { IfOk result (λ bytes. SpellBytes (map (λ x. x.now) words.now) bytes.items) }
-    ensures bad { result ≡ Err LineError.Bad → (bytes : List ℕ) → ¬ (SpellBytes (map (λ x. x.now) words.now) bytes) }
+    ensures bad { result ≡ Err LineError.Bad → (bytes : List ℕ)
+        → ¬ (SpellBytes (map (λ x. x.now) words.now) bytes) }
 {
     let [word] = words else {
         return Err(LineError::Bad);

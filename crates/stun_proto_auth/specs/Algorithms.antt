@@ -16,7 +16,8 @@ abbrev pub with_algorithm : List IntegrityAlgorithm → IntegrityAlgorithm → L
 with_algorithm algorithms algorithm =
     if list_any (is_same_algorithm algorithm) algorithms then algorithms else algorithms ++ algorithm ∷ []
 
--- whether a server has to tell its clients of password algorithms: it supports anything but Sha1 alone (RFC 8489, section 9.2)
+-- whether a server has to tell its clients of password algorithms: it supports anything but Sha1
+-- alone (RFC 8489, section 9.2)
 abbrev pub needs_password_algorithms : List IntegrityAlgorithm → Bool
 needs_password_algorithms [] = true
 needs_password_algorithms (Sha1 ∷ []) = false

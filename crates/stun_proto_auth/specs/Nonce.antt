@@ -32,7 +32,8 @@ features_offered algorithms anonymous_username = record {
 -- the 24 bits of the features: bit 0 is the highest of the first byte, and bit 1 the next (RFC 8489, section 18.1)
 abbrev pub feature_bytes : NonceFeatures → List ℕ
 feature_bytes features =
-    ((if features.password_algorithms then 0x80 else 0) + (if features.anonymous_username then 0x40 else 0)) ∷ 0 ∷ 0 ∷ []
+    ((if features.password_algorithms then 0x80 else 0) + (if features.anonymous_username then 0x40 else 0)) ∷ 0 ∷ 0
+    ∷ []
 
 -- the features whose bits are set in the first byte
 abbrev pub features_of_byte : ℕ → NonceFeatures
@@ -62,7 +63,9 @@ abbrev pub features_decoded : Result (List ℕ) DecodeError → NonceFeatures
 features_decoded (Ok bytes) = if length bytes == 3 then features_of_byte (slice_index bytes 0) else no_features
 features_decoded (Err error) = no_features
 
--- the features that a nonce tells of: by the four characters behind the cookie, or none where it doesn't begin with the cookie
+-- the features that a nonce tells of: by the four characters behind the cookie, or none where it
+-- doesn't begin with the cookie
 abbrev pub features_told : List ℕ → NonceFeatures
 features_told nonce =
-    if pointwise nat_eq (take 9 nonce) nonce_cookie then features_decoded (decode_of standard (take 4 (drop 9 nonce))) else no_features
+    if pointwise nat_eq (take 9 nonce) nonce_cookie then features_decoded (decode_of standard (take 4 (drop 9 nonce)))
+    else no_features

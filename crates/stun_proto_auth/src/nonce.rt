@@ -128,5 +128,6 @@ pub fn write_nonce(
 
 /// The law of reading: a nonce tells a client of the features that it was written with.
 pub fn nonce_tells_its_features()
-    ensures { (features : NonceFeatures) (words : List ℕ) → features_told (nonce_text features words) ≡ features }
+    ensures { (features : NonceFeatures) (words : List ℕ)
+        → features_told (nonce_text features words) ≡ features }
 {}

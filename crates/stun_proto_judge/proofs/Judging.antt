@@ -7,10 +7,10 @@ use Rattle.stun_types_wire.specs.declared.algorithm.IntegrityAlgorithm.{Integrit
 use Rattle.stun_types_wire.specs.declared.error.ValidateError.{ValidateError}
 use Rattle.stun_types_wire.specs.declared.error.ValidateError.TheVariants as invalid
 use Rattle.stun_types_wire.specs.Grammar.{shown}
-use Rattle.stun_types_integrity.specs.Credentials.{LongTermSecret, long_term_key}
-use Rattle.stun_types_integrity.specs.Integrity.{Validates}
+use Rattle.stun_types_integrity.specs.Credentials.{Key, long_term_key}
+use Rattle.stun_types_integrity.specs.Integrity.{IsSigned, Validates}
 use Rattle.stun_types_message.specs.Validation.{last_algorithm}
-use Rattle.stun_types_message.proofs.Validating.{validates_last}
+use Rattle.stun_types_message.proofs.Validating.{signed_validates}
 use Rattle.stun_proto_judge.specs.declared.error.LongTermServerAuthError.{LongTermServerAuthError}
 use Rattle.stun_proto_judge.specs.declared.error.LongTermServerAuthError.TheVariants.{Unauthorized, IntegrityFailed, BadRequest, StaleNonce, NoMemory}
 use Rattle.stun_proto_judge.specs.Errors.{digest_error}
@@ -165,18 +165,15 @@ answers known bytes (Err (IntegrityFailed x)) valid refused algorithm name a = a
 
 -- ---- the digest
 
--- the algorithm that is answered is that of the last integrity attribute
-valid_last : (bytes : List ℕ) (realm name password : List ℕ) (algorithm answered : IntegrityAlgorithm) → last_algorithm (shown bytes) ≡ Some algorithm
-    → (text : List ℕ) × Validates bytes (user_key realm name password answered) answered text → (text : List ℕ) × Validates bytes (user_key realm name password algorithm) algorithm text
-valid_last bytes realm name password algorithm answered last valid =
-    let same = some_same answered algorithm (sym (validates_last bytes (user_key realm name password answered) answered valid.0 valid.1) ∙ last) in
-    (valid.0, subst (λ (b : IntegrityAlgorithm). Validates bytes (user_key realm name password b) b valid.0) same valid.1)
-
--- credentials that hold these texts make this key
-pub valid_by : (bytes : List ℕ) (secret : LongTermSecret) (realm name password : List ℕ) (algorithm answered : IntegrityAlgorithm) → secret ≡ record { username = name; password = password; realm = realm } → last_algorithm (shown bytes) ≡ Some algorithm
-    → (text : List ℕ) × Validates bytes (long_term_key secret answered).bytes answered text → (text : List ℕ) × Validates bytes (user_key realm name password algorithm) algorithm text
-valid_by bytes secret realm name password algorithm answered is last valid =
-    valid_last bytes realm name password algorithm answered last (valid.0, subst (λ (s : LongTermSecret). Validates bytes (long_term_key s answered).bytes answered valid.0) is valid.1)
+-- what is signed under the key of the texts, by the algorithm of the last integrity attribute, validates
+pub valid_by : (bytes : List ℕ) (key : Key) (realm name password : List ℕ) (algorithm answered : IntegrityAlgorithm) → key ≡ long_term_key (record { username = name; password = password; realm = realm }) algorithm → last_algorithm (shown bytes) ≡ Some algorithm
+    → (answered ≡ key.algorithm) × ((text : List ℕ) × IsSigned bytes key.bytes answered text) → (text : List ℕ) × Validates bytes (user_key realm name password algorithm) algorithm text
+valid_by bytes key realm name password algorithm answered is last valid =
+    let own = user_key realm name password algorithm in
+    let same : answered ≡ algorithm = valid.0 ∙ ap (λ (k : Key). k.algorithm) is in
+    let signed : IsSigned bytes own algorithm valid.1.0 =
+    subst (λ (a : IntegrityAlgorithm). IsSigned bytes own a valid.1.0) same (subst (λ (k : Key). IsSigned bytes k.bytes answered valid.1.0) is valid.1.1) in
+    (valid.1.0, signed_validates bytes own algorithm valid.1.0 last signed)
 
 -- why a message does not validate is that it does not, or want of memory
 wrong_or_memory : (P : Type 0) (algorithm : IntegrityAlgorithm) (error : ValidateError) → (P → error ≡ invalid.NoMemory) → digest_error algorithm error ≢ NoMemory → (digest_error algorithm error ≡ IntegrityFailed algorithm) × (P → ⊥)
@@ -184,13 +181,13 @@ wrong_or_memory P algorithm (invalid.Parse cause) h other = (refl, λ p. Prim.cc
 wrong_or_memory P algorithm invalid.IntegrityFailed h other = (refl, λ p. Prim.cc (h p))
 wrong_or_memory P algorithm invalid.NoMemory h other = absurd (other refl)
 
-pub wrong_by : (bytes : List ℕ) (secret : LongTermSecret) (realm name password : List ℕ) (algorithm : IntegrityAlgorithm) (error : ValidateError) (answered : LongTermServerAuthError) → answered ≡ digest_error algorithm error → secret ≡ record { username = name; password = password; realm = realm }
-    → ((a : IntegrityAlgorithm) (text : List ℕ) → Validates bytes (long_term_key secret a).bytes a text → error ≡ invalid.NoMemory) → answered ≢ NoMemory
+pub wrong_by : (bytes : List ℕ) (key : Key) (realm name password : List ℕ) (algorithm : IntegrityAlgorithm) (error : ValidateError) (answered : LongTermServerAuthError) → answered ≡ digest_error algorithm error → key ≡ long_term_key (record { username = name; password = password; realm = realm }) algorithm
+    → ((text : List ℕ) → IsSigned bytes key.bytes key.algorithm text → error ≡ invalid.NoMemory) → answered ≢ NoMemory
     → (answered ≡ IntegrityFailed algorithm) × ((text : List ℕ) → ¬ Validates bytes (user_key realm name password algorithm) algorithm text)
-wrong_by bytes secret realm name password algorithm error answered made is accepted other =
+wrong_by bytes key realm name password algorithm error answered made is accepted other =
     let P : Type 0 = (text : List ℕ) × Validates bytes (user_key realm name password algorithm) algorithm text in
     let both = wrong_or_memory P algorithm error
-    (λ p. accepted algorithm p.0 (subst (λ (s : LongTermSecret). Validates bytes (long_term_key s algorithm).bytes algorithm p.0) (sym is) p.1)) (λ e. other (made ∙ e)) in (made ∙ both.0, λ text v. both.1 (text, v))
+    (λ p. accepted p.0 (subst (λ (k : Key). IsSigned bytes k.bytes k.algorithm p.0) (sym is) p.1.signed)) (λ e. other (made ∙ e)) in (made ∙ both.0, λ text v. both.1 (text, v))
 
 -- the user that is answered is the one that was found
 pub accepts_user : (known : Knowledge) (bytes : List ℕ) (algorithm : IntegrityAlgorithm) (name copy : List ℕ) (user : Outcome) → user ≡ record { name = copy; algorithm = algorithm } → copy ≡ name → ServerAccepts known bytes algorithm name → ServerAccepts known bytes user.algorithm user.name
@@ -210,3 +207,8 @@ digest_refused known bytes claim algorithm name password realm (Err e) error is 
 -- the key of the realm that is known
 pub in_realm : (bytes realm own name password : List ℕ) (algorithm : IntegrityAlgorithm) → realm ≡ own → (text : List ℕ) × Validates bytes (user_key realm name password algorithm) algorithm text → (text : List ℕ) × Validates bytes (user_key own name password algorithm) algorithm text
 in_realm bytes realm own name password algorithm is valid = (valid.0, subst (λ (r : List ℕ). Validates bytes (user_key r name password algorithm) algorithm valid.0) is valid.1)
+
+-- where nothing that is claimed is refused, only the digest can be
+pub judged : (known : Knowledge) (bytes : List ℕ) (claim : Claimed) → claim ≡ claimed bytes → is_response bytes ≡ false → claim_refusal known claim ≡ None → judgement known bytes ≡ None
+unfolding judgement
+judged known bytes claim is other none = rw other (ap (λ (c : Claimed). claim_refusal known c) (sym is) ∙ none)

@@ -21,7 +21,8 @@ abbrev pub integrity_of : LongTermServerAuthError → Option IntegrityAlgorithm
 integrity_of (IntegrityFailed algorithm) = Some algorithm
 integrity_of _ = None
 
--- what a server answers where a message does not validate for an algorithm: an attribute of unlawful length is wrong too
+-- what a server answers where a message does not validate for an algorithm: an attribute of
+-- unlawful length is wrong too
 abbrev pub digest_error : IntegrityAlgorithm → ValidateError → LongTermServerAuthError
 digest_error algorithm (invalid.Parse cause) = IntegrityFailed algorithm
 digest_error algorithm invalid.IntegrityFailed = IntegrityFailed algorithm

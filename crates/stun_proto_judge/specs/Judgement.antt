@@ -13,7 +13,8 @@ use Rattle.stun_proto_judge.specs.declared.error.LongTermServerAuthError.{LongTe
 use Rattle.stun_proto_judge.specs.declared.error.LongTermServerAuthError.TheVariants.{Unauthorized, IntegrityFailed, BadRequest, StaleNonce}
 use Rattle.stun_proto_judge.specs.Claims.{Claimed, claimed}
 
--- what a server knows: its realm and the algorithms that it supports, the nonce that stands for the address, and the password of the user of the name that is claimed
+-- what a server knows: its realm and the algorithms that it supports, the nonce that stands for the
+-- address, and the password of the user of the name that is claimed
 pub record Knowledge : Type 0 where
   pub realm : List ℕ
   pub algorithms : List IntegrityAlgorithm
@@ -38,17 +39,23 @@ supports_sha1 algorithms = list_any is_sha1 algorithms
 abbrev pub is_response : List ℕ → Bool
 is_response bytes = is_response_class (class_of (kind_at bytes))
 
--- what is shown of password algorithms, which this server does not offer yet: none, the last integrity attribute is MESSAGE-INTEGRITY, and Sha1 is supported
+-- what is shown of password algorithms, which this server does not offer yet: none, the last
+-- integrity attribute is MESSAGE-INTEGRITY, and Sha1 is supported
 abbrev pub is_consistent : Bool → Option IntegrityAlgorithm → List IntegrityAlgorithm → Bool
 is_consistent has_password_algorithms None algorithms = false
-is_consistent has_password_algorithms (Some algorithm) algorithms = not has_password_algorithms && (is_sha1 algorithm && supports_sha1 algorithms)
+is_consistent has_password_algorithms (Some algorithm) algorithms = not has_password_algorithms &&
+    (is_sha1 algorithm && supports_sha1 algorithms)
 
 -- the bytes of the key of a realm's user, by name and password
 abbrev pub user_key : List ℕ → List ℕ → List ℕ → IntegrityAlgorithm → List ℕ
-user_key realm name password algorithm = (long_term_key (record { username = name; password = password; realm = realm }) algorithm).bytes
+user_key realm name password algorithm = (long_term_key
+    (record { username = name; password = password; realm = realm }) algorithm).bytes
 
--- a message is no response, shows an integrity attribute of the algorithm as the last one, a realm, the nonce that stands for its address and the name of a user that is there, has consistent algorithms, and validates under that user's key in the server's realm
-pub record ServerAccepts (known : Knowledge) (bytes : List ℕ) (algorithm : IntegrityAlgorithm) (name : List ℕ) : Type 0 where
+-- a message is no response, shows an integrity attribute of the algorithm as the last one, a realm,
+-- the nonce that stands for its address and the name of a user that is there, has consistent
+-- algorithms, and validates under that user's key in the server's realm
+pub record ServerAccepts (known : Knowledge) (bytes : List ℕ) (algorithm : IntegrityAlgorithm)
+    (name : List ℕ) : Type 0 where
   pub no_response : is_response bytes ≡ false
   pub last : (claimed bytes).integrity ≡ Some algorithm
   pub named : (claimed bytes).username ≡ Some name
@@ -76,7 +83,8 @@ integrity_refusal (Some algorithm) = None
 
 -- neither a name nor its hash, no realm, or no nonce
 abbrev pub parts_refusal : Claimed → Option LongTermServerAuthError
-parts_refusal claim = if (is_some claim.username || claim.has_user_hash) && (is_some claim.realm && is_some claim.nonce) then None else Some BadRequest
+parts_refusal claim = if (is_some claim.username || claim.has_user_hash) &&
+    (is_some claim.realm && is_some claim.nonce) then None else Some BadRequest
 
 -- whether two texts are there, and are the same
 abbrev pub is_same_text : Option (List ℕ) → Option (List ℕ) → Bool
@@ -89,7 +97,8 @@ nonce_refusal claim standing = if is_same_text claim standing then None else Som
 
 -- inconsistent password algorithms
 abbrev pub algorithms_refusal : Claimed → List IntegrityAlgorithm → Option LongTermServerAuthError
-algorithms_refusal claim algorithms = if is_consistent claim.has_password_algorithms claim.integrity algorithms then None else Some BadRequest
+algorithms_refusal claim algorithms = if is_consistent claim.has_password_algorithms claim.integrity algorithms
+    then None else Some BadRequest
 
 -- no name, or no user of that name
 abbrev pub user_refusal : Option (List ℕ) → Option (List ℕ) → Option LongTermServerAuthError
@@ -99,7 +108,8 @@ user_refusal _ _ = Some Unauthorized
 -- the first cause for which a claim is refused, whatever the digest is
 unfoldable pub claim_refusal : Knowledge → Claimed → Option LongTermServerAuthError
 claim_refusal known claim =
-    option_or (integrity_refusal claim.integrity) (option_or (parts_refusal claim) (option_or (nonce_refusal claim.nonce known.nonce)
+    option_or (integrity_refusal claim.integrity) (option_or (parts_refusal claim)
+    (option_or (nonce_refusal claim.nonce known.nonce)
     (option_or (algorithms_refusal claim known.algorithms) (user_refusal claim.username known.password))))
 
 -- the first cause for which a message is refused, whatever its digest is
@@ -111,8 +121,10 @@ pub record HasWrongDigest (known : Knowledge) (bytes : List ℕ) (error : LongTe
   pub algorithm : IntegrityAlgorithm
   pub last : (claimed bytes).integrity ≡ Some algorithm
   pub is : error ≡ IntegrityFailed algorithm
-  pub wrong : (name password text : List ℕ) → (claimed bytes).username ≡ Some name → known.password ≡ Some password → ¬ Validates bytes (user_key known.realm name password algorithm) algorithm text
+  pub wrong : (name password text : List ℕ) → (claimed bytes).username ≡ Some name → known.password ≡ Some password
+      → ¬ Validates bytes (user_key known.realm name password algorithm) algorithm text
 
 -- why a server refuses a message: the first cause, or, where there is none, its digest
 abbrev pub IsRefused : Knowledge → List ℕ → LongTermServerAuthError → Type 0
-IsRefused known bytes error = MatchOption (judgement known bytes) (HasWrongDigest known bytes error) (λ cause. error ≡ cause)
+IsRefused known bytes error = MatchOption (judgement known bytes) (HasWrongDigest known bytes error)
+    (λ cause. error ≡ cause)

@@ -107,7 +107,9 @@ impl<'a> Claim<'a> {
     /// The algorithm of the last integrity attribute. Refused with `Unauthorized` where none is
     /// shown.
     pub(crate) fn check_integrity(&self) -> Result<IntegrityAlgorithm, LongTermServerAuthError>
-        ensures { MatchResult result (λ algorithm. (self.now.integrity ≡ Some algorithm) × (integrity_refusal self.now.integrity ≡ None)) (λ error. integrity_refusal self.now.integrity ≡ Some error) }
+        ensures { MatchResult result (λ algorithm. (self.now.integrity ≡ Some algorithm)
+            × (integrity_refusal self.now.integrity ≡ None))
+            (λ error. integrity_refusal self.now.integrity ≡ Some error) }
     {
         match self.integrity {
             Some(algorithm) => Ok(algorithm),
@@ -117,7 +119,8 @@ impl<'a> Claim<'a> {
 
     /// Whether all is shown that goes with an integrity attribute. Refused with `BadRequest`.
     pub(crate) fn check_parts(&self) -> Result<(), LongTermServerAuthError>
-        ensures { MatchResult result (λ _. parts_refusal self.now ≡ None) (λ error. parts_refusal self.now ≡ Some error) }
+        ensures { MatchResult result (λ _. parts_refusal self.now ≡ None)
+            (λ error. parts_refusal self.now ≡ Some error) }
     {
         let has_user = self.username().is_some() || self.has_user_hash();
         if has_user && self.has_realm() && self.nonce().is_some() {
@@ -129,7 +132,8 @@ impl<'a> Claim<'a> {
 
     /// Whether the nonce is the one that stands for the address. Refused with `StaleNonce`.
     pub(crate) fn check_nonce(&self, known: &Known) -> Result<(), LongTermServerAuthError>
-        ensures { MatchResult result (λ _. nonce_refusal self.now.nonce known.now.nonce ≡ None) (λ error. nonce_refusal self.now.nonce known.now.nonce ≡ Some error) }
+        ensures { MatchResult result (λ _. nonce_refusal self.now.nonce known.now.nonce ≡ None)
+            (λ error. nonce_refusal self.now.nonce known.now.nonce ≡ Some error) }
     {
         match (self.nonce(), known.nonce()) {
             (Some(nonce), Some(standing)) if nonce == standing => Ok(()),
@@ -139,7 +143,8 @@ impl<'a> Claim<'a> {
 
     /// Whether the password algorithms are consistent. Refused with `BadRequest`.
     pub(crate) fn check_algorithms(&self, known: &Known) -> Result<(), LongTermServerAuthError>
-        ensures { MatchResult result (λ _. algorithms_refusal self.now known.now.algorithms ≡ None) (λ error. algorithms_refusal self.now known.now.algorithms ≡ Some error) }
+        ensures { MatchResult result (λ _. algorithms_refusal self.now known.now.algorithms ≡ None)
+            (λ error. algorithms_refusal self.now known.now.algorithms ≡ Some error) }
     {
         match self.integrity {
             Some(IntegrityAlgorithm::Sha1)

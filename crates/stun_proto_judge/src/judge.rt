@@ -1,12 +1,13 @@
 //! The judgement of a message.
 
-ghost use Rattle.std.specs.Prelude.{◌≡◌, ◌≢◌, ℕ, List, Some, None, IfOk, IfErr, OnOk, MatchResult, false};
+ghost use Rattle.std.specs.Prelude.{◌≡◌, ◌≢◌, ℕ, List, Some, None, Err, IfOk, IfErr, OnOk, MatchResult, false};
 ghost use Rattle.stun_types_wire.specs.Grammar.{shown};
 ghost use Rattle.stun_types_message.specs.Validation.{last_algorithm};
 ghost use Rattle.stun_types_wire.specs.declared.algorithm.IntegrityAlgorithm.{IntegrityAlgorithm as Algorithm};
+ghost use Rattle.stun_types_integrity.specs.Credentials.{long_term_key};
 ghost use Rattle.stun_types_integrity.specs.Integrity.{Validates};
 ghost use Rattle.stun_proto_judge.specs.Claims.{claimed};
-ghost use Rattle.stun_proto_judge.specs.Judgement.{IsRefused, ServerAccepts, claim_refusal, is_response, user_key};
+ghost use Rattle.stun_proto_judge.specs.Judgement.{IsRefused, ServerAccepts, claim_refusal, is_response, judgement, user_key};
 
 use crate::claim::Claim;
 use crate::error::LongTermServerAuthError;
@@ -14,7 +15,7 @@ use crate::known::Known;
 use crate::user::ValidatedUser;
 use std::alloc::Global;
 use stun_types_base::memory::NoMemory;
-use stun_types_integrity::credentials::{LongTermKeyCredentials, MessageIntegrityCredentials};
+use stun_types_integrity::key::IntegrityKey;
 use stun_types_message::message::Message;
 use stun_types_wire::algorithm::IntegrityAlgorithm;
 
@@ -34,9 +35,17 @@ pub fn judge(
 ) -> Result<ValidatedUser, LongTermServerAuthError>
     requires claim { claim.now ≡ claimed message.now }
     requires no_response { is_response message.now ≡ false }
-    ensures valid { IfOk result (λ user. ServerAccepts known.now message.now user.algorithm user.name) }
-    ensures accepted { (algorithm : Algorithm) (name : List ℕ) → ServerAccepts known.now message.now algorithm name → MatchResult result (λ user. user ≡ record { name = name; algorithm = algorithm }) (λ error. error ≡ LongTermServerAuthError.NoMemory) }
-    ensures refused { IfErr result (λ error. error ≢ LongTermServerAuthError.NoMemory → IsRefused known.now message.now error) }
+    ensures valid { IfOk result (λ user.
+        ServerAccepts known.now message.now user.algorithm user.name) }
+    ensures accepted { (algorithm : Algorithm) (name : List ℕ)
+        → ServerAccepts known.now message.now algorithm name → MatchResult result
+        (λ user. user ≡ record { name = name; algorithm = algorithm })
+        (λ error. error ≡ LongTermServerAuthError.NoMemory) }
+    ensures refused { IfErr result (λ error. error ≢ LongTermServerAuthError.NoMemory
+        → IsRefused known.now message.now error) }
+    // Memory is asked for only where nothing but the digest can refuse the message.
+    ensures memory { result ≡ Err LongTermServerAuthError.NoMemory
+        → judgement known.now message.now ≡ None }
 {
     decide(alloc, message, claim, known)
 }
@@ -51,8 +60,12 @@ fn decide(
 ) -> Result<ValidatedUser, LongTermServerAuthError>
     requires claim { claim.now ≡ claimed message.now }
     requires no_response { is_response message.now ≡ false }
-    ensures valid { IfOk result (λ user. ServerAccepts known.now message.now user.algorithm user.name) }
-    ensures refused { IfErr result (λ error. error ≢ LongTermServerAuthError.NoMemory → IsRefused known.now message.now error) }
+    ensures valid { IfOk result (λ user.
+        ServerAccepts known.now message.now user.algorithm user.name) }
+    ensures refused { IfErr result (λ error. error ≢ LongTermServerAuthError.NoMemory
+        → IsRefused known.now message.now error) }
+    ensures memory { result ≡ Err LongTermServerAuthError.NoMemory
+        → judgement known.now message.now ≡ None }
 {
     let pending = check(claim, known)?;
     validate_user(alloc, message, &pending, known.realm())?;
@@ -74,8 +87,12 @@ fn check<'a>(
     claim: &'a Claim<'_>,
     known: &Known<'a>,
 ) -> Result<Pending<'a>, LongTermServerAuthError>
-    ensures passed { IfOk result (λ pending. (claim_refusal known.now claim.now ≡ None) × (claim.now.integrity ≡ Some pending.algorithm) × (claim.now.username ≡ Some pending.name.now) × (known.now.password ≡ Some pending.password.now)) }
-    ensures refused { IfErr result (λ error. claim_refusal known.now claim.now ≡ Some error) }
+    ensures passed { IfOk result (λ pending. (claim_refusal known.now claim.now ≡ None)
+        × (claim.now.integrity ≡ Some pending.algorithm)
+        × (claim.now.username ≡ Some pending.name.now)
+        × (known.now.password ≡ Some pending.password.now)) }
+    ensures refused { IfErr result (λ error. (claim_refusal known.now claim.now ≡ Some error)
+        × (error ≢ LongTermServerAuthError.NoMemory)) }
 {
     let algorithm = claim.check_integrity()?;
     claim.check_parts()?;
@@ -100,28 +117,36 @@ fn validate_user(
     realm: &str,
 ) -> Result<(), LongTermServerAuthError>
     requires { last_algorithm (shown message.now) ≡ Some pending.now.algorithm }
-    ensures valid { OnOk result ((text : List ℕ) × Validates message.now (user_key realm.now pending.now.name.now pending.now.password.now pending.now.algorithm) pending.now.algorithm text) }
-    ensures refused { IfErr result (λ error. error ≢ LongTermServerAuthError.NoMemory → (error ≡ LongTermServerAuthError.IntegrityFailed pending.now.algorithm) × ((text : List ℕ) → ¬ Validates message.now (user_key realm.now pending.now.name.now pending.now.password.now pending.now.algorithm) pending.now.algorithm text)) }
+    ensures valid { OnOk result ((text : List ℕ)
+        × Validates message.now
+        (user_key realm.now pending.now.name.now pending.now.password.now pending.now.algorithm)
+        pending.now.algorithm text) }
+    ensures refused { IfErr result (λ error. error ≢ LongTermServerAuthError.NoMemory
+        → (error ≡ LongTermServerAuthError.IntegrityFailed pending.now.algorithm)
+        × ((text : List ℕ) → ¬ Validates message.now
+        (user_key realm.now pending.now.name.now pending.now.password.now pending.now.algorithm)
+        pending.now.algorithm text)) }
 {
-    let made = credentials_in(alloc, pending, realm)?;
-    let credentials = MessageIntegrityCredentials::LongTerm(made);
-    match message.validate_integrity(alloc, &credentials) {
+    let key = key_in(alloc, pending, realm)?;
+    match message.validate_integrity_with_key(&key) {
         Ok(_) => Ok(()),
         Err(error) => Err(LongTermServerAuthError::of_digest(pending.algorithm, error)),
     }
 }
 
-/// The credentials of the user in a realm. Where memory is refused, `NoMemory`.
-fn credentials_in(
-    alloc: Global,
-    pending: &Pending<'_>,
-    realm: &str,
-) -> Result<LongTermKeyCredentials, NoMemory>
-    ensures { IfOk result (λ made. made ≡ record { username = pending.now.name.now; password = pending.now.password.now; realm = realm.now }) }
+/// The key of the user in a realm. Where memory is refused, `NoMemory`.
+fn key_in(alloc: Global, pending: &Pending<'_>, realm: &str) -> Result<IntegrityKey, NoMemory>
+    ensures { IfOk result (λ key. key ≡ long_term_key (record {
+      username = pending.now.name.now;
+      password = pending.now.password.now;
+      realm = realm.now;
+    }) pending.now.algorithm) }
 {
-    Ok(LongTermKeyCredentials::new(
-        String::from_str(alloc, pending.name)?,
-        String::from_str(alloc, pending.password)?,
-        String::from_str(alloc, realm)?,
-    ))
+    IntegrityKey::long_term(
+        alloc,
+        pending.name,
+        realm,
+        pending.password,
+        pending.algorithm,
+    )
 }

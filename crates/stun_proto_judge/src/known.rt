@@ -24,7 +24,13 @@ impl<'a> Model for Known<'a> {
 
     ghost Value = { Knowledge };
 
-    ghost view = { λ k. record { realm = k.realm.now; algorithms = k.supported.now; nonce = option_copied k.nonce; password = option_copied k.password } };
+    ghost view = { λ k.
+        record {
+          realm = k.realm.now;
+          algorithms = k.supported.now;
+          nonce = option_copied k.nonce;
+          password = option_copied k.password;
+        } };
 }
 
 impl<'a> Known<'a> {
@@ -35,7 +41,13 @@ impl<'a> Known<'a> {
         nonce: Option<&'a str>,
         password: Option<&'a str>,
     ) -> Known<'a>
-        ensures { result ≡ record { realm = realm.now; algorithms = supported.now; nonce = option_copied nonce.entry; password = option_copied password.entry } }
+        ensures { result
+            ≡ record {
+              realm = realm.now;
+              algorithms = supported.now;
+              nonce = option_copied nonce.entry;
+              password = option_copied password.entry;
+            } }
     {
         Known {
             realm,

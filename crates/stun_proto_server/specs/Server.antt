@@ -18,13 +18,15 @@ use Rattle.stun_types_base.specs.Words.{words_of}
 use Rattle.stun_types_wire.specs.contracts.algorithm.IntegrityAlgorithm as algorithm
 use Rattle.stun_types_wire.specs.declared.algorithm.IntegrityAlgorithm.{IntegrityAlgorithm}
 
--- what is kept for one address: the nonce's text, the moment of its drawing, and the last outcome under it, where that was a validation
+-- what is kept for one address: the nonce's text, the moment of its drawing, and the last outcome
+-- under it, where that was a validation
 pub record Client : Type 0 where
   pub nonce : List ℕ
   pub drawn : ℕ
   pub outcome : Option Outcome
 
--- a server: the realm, each user's password by name, what is kept for each address, how many nanoseconds a nonce stands, and what it supports
+-- a server: the realm, each user's password by name, what is kept for each address, how many
+-- nanoseconds a nonce stands, and what it supports
 pub record Server : Type 0 where
   pub realm : List ℕ
   pub users : map.FinMap (slice_cmp nat_cmp) (List ℕ)
@@ -36,7 +38,8 @@ pub record Server : Type 0 where
 -- the code of an outcome
 abbrev pub outcome_code : Coded Outcome
 outcome_code =
-    code_by (List ℕ × IntegrityAlgorithm) (coded× (coded_list coded_ℕ) algorithm.the_row.coded) (λ o. (o.name, o.algorithm)) (λ p. record { name = p.0; algorithm = p.1 }) (λ _. refl)
+    code_by (List ℕ × IntegrityAlgorithm) (coded× (coded_list coded_ℕ) algorithm.the_row.coded)
+    (λ o. (o.name, o.algorithm)) (λ p. record { name = p.0; algorithm = p.1 }) (λ _. refl)
 
 -- the code of what is kept for one address
 abbrev pub client_code : Coded Client
@@ -55,10 +58,19 @@ clients_code = map.code addr.the_row.coded client_code
 -- the code of a server
 abbrev pub server_code : Coded Server
 server_code =
-    code_by (List ℕ × (map.FinMap (slice_cmp nat_cmp) (List ℕ) × (map.FinMap socket_addr_cmp Client × (ℕ × (List IntegrityAlgorithm × Feature)))))
-    (coded× (coded_list coded_ℕ) (coded× users_code (coded× clients_code (coded× coded_ℕ (coded× (coded_list algorithm.the_row.coded) feature.the_row.coded)))))
+    code_by (List ℕ × (map.FinMap (slice_cmp nat_cmp) (List ℕ)
+    × (map.FinMap socket_addr_cmp Client × (ℕ × (List IntegrityAlgorithm × Feature)))))
+    (coded× (coded_list coded_ℕ) (coded× users_code (coded× clients_code
+    (coded× coded_ℕ (coded× (coded_list algorithm.the_row.coded) feature.the_row.coded)))))
     (λ s. (s.realm, (s.users, (s.clients, (s.nonce_expiry, (s.algorithms, s.anonymous_username))))))
-    (λ p. record { realm = p.0; users = p.1.0; clients = p.1.1.0; nonce_expiry = p.1.1.1.0; algorithms = p.1.1.1.1.0; anonymous_username = p.1.1.1.1.1 })
+    (λ p. record {
+      realm = p.0;
+      users = p.1.0;
+      clients = p.1.1.0;
+      nonce_expiry = p.1.1.1.0;
+      algorithms = p.1.1.1.1.0;
+      anonymous_username = p.1.1.1.1.1;
+    })
     (λ _. refl)
 
 -- the nonce that is kept for an address, of any age
@@ -88,20 +100,28 @@ new_client server now stream = record {
 
 -- the server with a nonce drawn for an address
 abbrev pub with_new_nonce : Server → SocketAddr → ℕ → Stream → Server
-with_new_nonce server from now stream = record server { clients = map.insert server.clients from (new_client server now stream) }
+with_new_nonce server from now stream = record server {
+  clients = map.insert server.clients from
+      (new_client server now stream);
+}
 
 -- the server with a nonce that stands for an address
 abbrev pub refreshed : Server → SocketAddr → ℕ → Stream → Server
-refreshed server from now stream = if has_standing_nonce server from now then server else with_new_nonce server from now stream
+refreshed server from now stream = if has_standing_nonce server from now then server
+    else with_new_nonce server from now stream
 
 -- the clients with another outcome for an address for which something is kept
-abbrev pub set_outcome : map.FinMap socket_addr_cmp Client → SocketAddr → Option Outcome → Option Client → map.FinMap socket_addr_cmp Client
+abbrev pub set_outcome : map.FinMap socket_addr_cmp Client → SocketAddr → Option Outcome → Option Client
+    → map.FinMap socket_addr_cmp Client
 set_outcome clients from outcome None = clients
 set_outcome clients from outcome (Some kept) = map.insert clients from (record kept { outcome = outcome })
 
 -- the server with the last outcome of an address
 abbrev pub with_outcome : Server → SocketAddr → Option Outcome → Server
-with_outcome server from outcome = record server { clients = set_outcome server.clients from outcome (map.get server.clients from) }
+with_outcome server from outcome = record server {
+  clients = set_outcome server.clients from outcome
+      (map.get server.clients from);
+}
 
 -- how many words a refresh draws
 abbrev pub words_drawn : Server → SocketAddr → ℕ → ℕ

@@ -34,14 +34,17 @@ words_of_validation server from bytes now = if is_response bytes then 0 else wor
 
 -- the server after a refusal for another cause than memory
 abbrev pub after_refusal : Server → SocketAddr → List ℕ → ℕ → Stream → Server
-after_refusal server from bytes now stream = if is_response bytes then server else with_outcome (refreshed server from now stream) from None
+after_refusal server from bytes now stream = if is_response bytes then server
+    else with_outcome (refreshed server from now stream) from None
 
 -- the server after a refusal for memory: as it was, or with a nonce that stands for the address
 abbrev pub IsAfterNoMemory : Server → SocketAddr → ℕ → Stream → Server → Type 0
 IsAfterNoMemory server from now stream new = (new ≡ server) ⊎ (new ≡ refreshed server from now stream)
 
--- a validation by an algorithm: the server accepts the message as that of a user, and keeps the user and the algorithm for the address
-pub record IsValidatedBy (server : Server) (from : SocketAddr) (bytes : List ℕ) (algorithm : IntegrityAlgorithm) (new : Server) : Type 0 where
+-- a validation by an algorithm: the server accepts the message as that of a user, and keeps the
+-- user and the algorithm for the address
+pub record IsValidatedBy (server : Server) (from : SocketAddr) (bytes : List ℕ) (algorithm : IntegrityAlgorithm)
+    (new : Server) : Type 0 where
   pub name : List ℕ
   pub accepts : Accepts server from bytes algorithm name
   pub kept : new ≡ with_outcome server from (Some (record { name = name; algorithm = algorithm }))

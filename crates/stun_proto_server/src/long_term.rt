@@ -109,7 +109,9 @@ impl LongTermServerAuth {
     /// Adds a user, in place of one of that name. Where memory is refused, nothing changes.
     pub fn add_user(&mut self, user: LongTermCredentials) -> Result<(), NoMemory>
         ensures ok { OnOk result
-            (self.new ≡ record self.old { users = map.insert self.old.users user.username user.password }) }
+            (self.new ≡ record self.old {
+              users = map.insert self.old.users user.username user.password;
+            }) }
         ensures err { OnErr result (self.new ≡ self.old) }
     {
         let name = String::from_str(self.alloc, user.username())?;
@@ -138,7 +140,8 @@ impl LongTermServerAuth {
     /// Supports an integrity algorithm too, as the last one; one that is there already changes
     /// nothing.
     pub fn add_supported_integrity(&mut self, algorithm: IntegrityAlgorithm)
-        ensures { self.new ≡ record self.old { algorithms = with_algorithm self.old.algorithms algorithm } }
+        ensures { self.new
+            ≡ record self.old { algorithms = with_algorithm self.old.algorithms algorithm } }
     {
         self.supported = self.supported.with(algorithm);
     }
@@ -186,7 +189,8 @@ impl LongTermServerAuth {
 
     /// Forgets what is kept for a client. One that isn't known changes nothing.
     pub fn remove_client(&mut self, client: SocketAddr)
-        ensures removed { self.new ≡ record self.old { clients = map.remove self.old.clients client } }
+        ensures removed { self.new
+            ≡ record self.old { clients = map.remove self.old.clients client } }
         ensures others { (other : SocketAddr) → other ≢ client → SameFor other self.old self.new }
     {
         self.clients.remove(&client);
@@ -202,7 +206,8 @@ impl LongTermServerAuth {
         now: Instant,
         rng: &mut R,
     ) -> Result<(), NoMemory>
-        ensures stream { R.stream rng.new ≡ stream_after (words_drawn self.old from now) (R.stream rng.old) }
+        ensures stream { R.stream rng.new ≡ stream_after (words_drawn self.old from now)
+            (R.stream rng.old) }
         ensures ok { OnOk result (self.new ≡ refreshed self.old from now (R.stream rng.old)) }
         ensures err { OnErr result (self.new ≡ self.old) }
         ensures standing { IsTrue (has_standing_nonce self.old from now) → result ≡ Ok tt }
@@ -312,7 +317,10 @@ fn put_outcome(
     client: SocketAddr,
     outcome: Option<ValidatedUser>,
 )
-    ensures { MatchOption (tree.get socket_addr_cmp clients.old client) (tree.IsUnchanged clients.old clients.new) (λ kept. tree.Updates socket_addr_cmp clients.old clients.new client (Some (record kept { outcome = outcome }))) }
+    ensures { MatchOption (tree.get socket_addr_cmp clients.old client)
+        (tree.IsUnchanged clients.old clients.new)
+        (λ kept. tree.Updates socket_addr_cmp clients.old clients.new client
+        (Some (record kept { outcome = outcome }))) }
 {
     let Some(kept) = clients.get_mut(&client) else {
         return;

@@ -1,11 +1,12 @@
 //! The signing of what goes out.
 
-ghost use Rattle.std.specs.Prelude.{◌≡◌, ◌≢◌, ◌++◌, length, ℕ, List, None, Some, IsSome, IfErr, IfOk, false};
-ghost use Rattle.stun_types_wire.specs.Attributes.{Attr, kind_at};
-ghost use Rattle.stun_types_wire.specs.Text.{message_text};
+ghost use Rattle.std.specs.Prelude.{◌≡◌, None, IsSome, IfOk, false};
+ghost use Rattle.stun_types_base.specs.Refusals.{RefusesFor};
+ghost use Rattle.stun_types_wire.specs.Attributes.{kind_at};
 ghost use Rattle.stun_types_wire.specs.Types.{class_of};
 ghost use Rattle.stun_types_write.specs.Adding.{IsBegun};
-ghost use Rattle.stun_proto_sign.specs.Addition.{Addition, addition_refusal, after_addition, attrs, kinds_of_addition, with_signature};
+ghost use Rattle.stun_proto_sign.specs.Addition.{addition_refusal};
+ghost use Rattle.stun_proto_sign.specs.Stages.{IsMade};
 ghost use Rattle.stun_proto_sign.specs.Sizes.{size_of_addition};
 ghost use Rattle.stun_types_wire.specs.declared.class.MessageClass.TheVariants.{Success};
 ghost use Rattle.stun_proto_server.specs.Signing.{addition_for, class_asked as class_of_size, party_at};
@@ -32,26 +33,23 @@ impl LongTermServerAuth {
     ///
     /// Refused with `IntegrityFailed` where no nonce is kept for the address; where its last message
     /// was not validated, and the message is no error response; and where the user by whom it was
-    /// validated is no user any more. Else the attributes are added one after another, and the first
+    /// validated is no user any more. Else the attributes are taken one after another, and the first
     /// cause counts: of a text `TooLarge`, for more than 513 bytes of a name or 763 of a realm or a
     /// nonce, and then the causes of `add_attribute`; of the integrity attribute those of
-    /// `add_message_integrity`. Where memory is refused, `NoMemory`. A refusal drops the writer. The
-    /// server is as it was in each case.
+    /// `add_message_integrity`. Where memory is refused, and nothing else is, `NoMemory`. A refusal
+    /// drops the writer. The server is as it was in each case.
     pub fn sign_outgoing_message<W: MessageWrite + Drop>(
         &self,
         writer: W,
         to: SocketAddr,
     ) -> Result<W, StunWriteError>
-        requires { IsBegun (W.written writer) }
-        ensures written { IfOk result (λ signed. W.written signed ≡ after_addition (W.written writer) (addition_for self.now to (class_of (kind_at (W.written writer))))) }
-        // A message text becomes the text of all that is added.
-        ensures text { IfOk result (λ signed. (a : Addition) × (addition_for self.now to (class_of (kind_at (W.written writer))) ≡ Some a)
-            × ((mtype number : ℕ) (adds : List Attr) → W.written writer ≡ message_text mtype number adds → W.written signed ≡ message_text mtype number (with_signature a.signer mtype number (adds ++ attrs a.texts)))) }
-        ensures kinds { IfOk result (λ signed. W.kinds signed ≡ W.kinds writer ++ kinds_of_addition (addition_for self.now to (class_of (kind_at (W.written writer))))) }
-        ensures accepted { IfOk result (λ _. addition_refusal (addition_for self.now to (class_of (kind_at (W.written writer)))) (W.kinds writer) (W.limit writer) (length (W.written writer)) ≡ None) }
-        ensures refused { IfErr result (λ error. error ≢ StunWriteError.NoMemory → addition_refusal (addition_for self.now to (class_of (kind_at (W.written writer)))) (W.kinds writer) (W.limit writer) (length (W.written writer)) ≡ Some error) }
-        ensures limit { IfOk result (λ signed. W.limit signed ≡ W.limit writer) }
-        ensures begun { IfOk result (λ signed. IsBegun (W.written signed)) }
+        requires { IsBegun (W.draft writer).bytes }
+        ensures ok { IfOk result (λ signed. IsMade
+            (addition_for self.now to (class_of (kind_at (W.draft writer).bytes)))
+            (W.draft writer) (W.draft signed)) }
+        ensures cause { RefusesFor StunWriteError.NoMemory (addition_refusal
+            (addition_for self.now to (class_of (kind_at (W.draft writer).bytes)))
+            (W.draft writer)) result }
     {
         match self.addressee(to) {
             Some(addressee) => sign_outgoing(self.alloc(), writer, &addressee),
@@ -66,17 +64,17 @@ impl LongTermServerAuth {
         writer: W,
         to: SocketAddr,
     ) -> Result<W, NoMemory>
-        requires begun { IsBegun (W.written writer) }
-        requires accepted { addition_refusal (addition_for self.now to (class_of (kind_at (W.written writer)))) (W.kinds writer) (W.limit writer) (length (W.written writer)) ≡ None }
-        ensures written { IfOk result (λ signed. W.written signed ≡ after_addition (W.written writer) (addition_for self.now to (class_of (kind_at (W.written writer))))) }
-        ensures text { IfOk result (λ signed. (a : Addition) × (addition_for self.now to (class_of (kind_at (W.written writer))) ≡ Some a)
-            × ((mtype number : ℕ) (adds : List Attr) → W.written writer ≡ message_text mtype number adds → W.written signed ≡ message_text mtype number (with_signature a.signer mtype number (adds ++ attrs a.texts)))) }
-        ensures kinds { IfOk result (λ signed. W.kinds signed ≡ W.kinds writer ++ kinds_of_addition (addition_for self.now to (class_of (kind_at (W.written writer))))) }
-        ensures limit { IfOk result (λ signed. W.limit signed ≡ W.limit writer) }
-        ensures begun { IfOk result (λ signed. IsBegun (W.written signed)) }
+        requires begun { IsBegun (W.draft writer).bytes }
+        requires accepted { addition_refusal
+            (addition_for self.now to (class_of (kind_at (W.draft writer).bytes)))
+            (W.draft writer) ≡ None }
+        ensures { IfOk result (λ signed. IsMade
+            (addition_for self.now to (class_of (kind_at (W.draft writer).bytes)))
+            (W.draft writer) (W.draft signed)) }
     {
         match self.sign_outgoing_message(writer, to) {
             Ok(signed) => Ok(signed),
+            // What is required leaves want of memory alone.
             Err(_) => Err(NoMemory),
         }
     }
@@ -85,9 +83,11 @@ impl LongTermServerAuth {
     /// response, which is an error response where the last message from the address was not validated.
     /// It is 0 where nothing may be added, and where a text that would be is over its limit.
     pub fn message_signature_bytes(&self, to: SocketAddr, is_request: bool) -> usize
-        ensures bytes { result ≡ size_of_addition (addition_for self.now to (class_of_size is_request)) }
+        ensures bytes { result ≡ size_of_addition (addition_for self.now to
+            (class_of_size is_request)) }
         // A success response that may be signed grows by as much as an error response.
-        ensures success { is_request ≡ false → IsSome (addition_for self.now to Success) → result ≡ size_of_addition (addition_for self.now to Success) }
+        ensures success { is_request ≡ false → IsSome (addition_for self.now to Success) → result
+            ≡ size_of_addition (addition_for self.now to Success) }
     {
         self.bytes_for(to, class_asked(is_request))
     }

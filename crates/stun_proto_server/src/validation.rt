@@ -48,12 +48,24 @@ impl LongTermServerAuth {
         now: Instant,
         rng: &mut R,
     ) -> Result<LongTermServerValidation, LongTermServerAuthError>
-        ensures valid { IfOk result (λ answer. IsValidated (refreshed self.old from now (R.stream rng.old)) from message.now answer self.new) }
-        ensures accepted { (algorithm : Algorithm) (name : List ℕ) → Accepts (refreshed self.old from now (R.stream rng.old)) from message.now algorithm name → MatchResult result (λ answer. answer ≡ LongTermServerValidation.Validated algorithm) (λ error. error ≡ LongTermServerAuthError.NoMemory) }
-        ensures refused { IfErr result (λ error. error ≢ LongTermServerAuthError.NoMemory → IsRefused (known_of (refreshed self.old from now (R.stream rng.old)) from message.now) message.now error) }
-        ensures forgotten { IfErr result (λ error. error ≢ LongTermServerAuthError.NoMemory → self.new ≡ after_refusal self.old from message.now now (R.stream rng.old)) }
-        ensures memory { IfErr result (λ error. error ≡ LongTermServerAuthError.NoMemory → IsAfterNoMemory self.old from now (R.stream rng.old) self.new) }
-        ensures stream { R.stream rng.new ≡ stream_after (words_of_validation self.old from message.now now) (R.stream rng.old) }
+        ensures valid { IfOk result (λ answer. IsValidated
+            (refreshed self.old from now (R.stream rng.old)) from message.now answer self.new) }
+        ensures accepted { (algorithm : Algorithm) (name : List ℕ)
+            → Accepts (refreshed self.old from now (R.stream rng.old)) from message.now algorithm name
+            → MatchResult result
+            (λ answer. answer ≡ LongTermServerValidation.Validated algorithm)
+            (λ error. error ≡ LongTermServerAuthError.NoMemory) }
+        // A message that is refused is forgotten.
+        ensures refused { IfErr result (λ error. error ≢ LongTermServerAuthError.NoMemory
+            → IsRefused (known_of (refreshed self.old from now (R.stream rng.old)) from message.now)
+            message.now error
+            × (self.new ≡ after_refusal self.old from message.now now (R.stream rng.old))) }
+        // Memory is wanted for no response.
+        ensures memory { IfErr result (λ error. error ≡ LongTermServerAuthError.NoMemory
+            → (is_response message.now ≡ false)
+            × IsAfterNoMemory self.old from now (R.stream rng.old) self.new) }
+        ensures stream { R.stream rng.new ≡ stream_after
+            (words_of_validation self.old from message.now now) (R.stream rng.old) }
         ensures others { (other : SocketAddr) → other ≢ from → SameFor other self.old self.new }
     {
         if message.is_response() {
@@ -71,10 +83,14 @@ impl LongTermServerAuth {
         from: SocketAddr,
     ) -> Result<LongTermServerValidation, LongTermServerAuthError>
         requires { is_response message.now ≡ false }
-        ensures valid { IfOk result (λ answer. IsValidated self.old from message.now answer self.new) }
-        ensures refused { IfErr result (λ error. error ≢ LongTermServerAuthError.NoMemory → IsRefused (known_of self.old from message.now) message.now error) }
-        ensures forgotten { IfErr result (λ error. error ≢ LongTermServerAuthError.NoMemory → self.new ≡ with_outcome self.old from None) }
-        ensures memory { IfErr result (λ error. error ≡ LongTermServerAuthError.NoMemory → self.new ≡ self.old) }
+        ensures valid { IfOk result (λ answer.
+            IsValidated self.old from message.now answer self.new) }
+        ensures refused { IfErr result (λ error. error ≢ LongTermServerAuthError.NoMemory
+            → IsRefused (known_of self.old from message.now) message.now error) }
+        ensures forgotten { IfErr result (λ error. error ≢ LongTermServerAuthError.NoMemory
+            → self.new ≡ with_outcome self.old from None) }
+        ensures memory { IfErr result (λ error. error ≡ LongTermServerAuthError.NoMemory → self.new
+            ≡ self.old) }
         ensures others { (other : SocketAddr) → other ≢ from → SameFor other self.old self.new }
     {
         match self.judge(message, from) {
@@ -99,8 +115,10 @@ impl LongTermServerAuth {
         from: SocketAddr,
     ) -> Result<ValidatedUser, LongTermServerAuthError>
         requires { is_response message.now ≡ false }
-        ensures valid { IfOk result (λ user. Accepts self.now from message.now user.algorithm user.name) }
-        ensures refused { IfErr result (λ error. error ≢ LongTermServerAuthError.NoMemory → IsRefused (known_of self.now from message.now) message.now error) }
+        ensures valid { IfOk result (λ user.
+            Accepts self.now from message.now user.algorithm user.name) }
+        ensures refused { IfErr result (λ error. error ≢ LongTermServerAuthError.NoMemory
+            → IsRefused (known_of self.now from message.now) message.now error) }
     {
         let claim = Claim::of(message);
         let known = Known::new(

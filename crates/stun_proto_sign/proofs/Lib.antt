@@ -1,1 +1,2 @@
-pub mod Composed
+mod Fitting
+pub mod Made

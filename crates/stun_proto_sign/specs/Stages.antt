@@ -1,35 +1,55 @@
--- What the steps of an addition leave of a message.
-use Rattle.std.specs.Prelude.{◌≡◌, ℕ, ◌+◌, List, ◌++◌, length, Option, Some, None}
-use Rattle.stun_types_wire.specs.Attributes.{Attr}
-use Rattle.stun_types_wire.specs.Text.{message_text}
-use Rattle.stun_types_write.specs.Adding.{IsBegun}
-use Rattle.stun_types_integrity.specs.Credentials.{Key}
-use Rattle.stun_proto_sign.specs.Addition.{TextOf, Addition, after_addition, after_signer, after_texts, addition_refusal, attrs, kinds_of_addition, kinds_of_signer, kinds_of_texts, signer_refusal, size_of_texts, texts_refusal, with_signature}
+-- What the steps of an addition find, and what they leave of a message.
+use Rattle.std.specs.Prelude.{◌≡◌, ◌≢◌, ℕ, ◌+◌, ◌≤◌, List, Option, Some, None}
+use Rattle.std.specs.Option.{option_or}
+use Rattle.stun_types_wire.specs.declared.algorithm.IntegrityAlgorithm.{IntegrityAlgorithm}
+use Rattle.stun_types_wire.specs.declared.error.StunWriteError.{StunWriteError}
+use Rattle.stun_types_wire.specs.declared.error.StunWriteError.TheVariants.{NoMemory}
+use Rattle.stun_types_write.specs.Adding.{IsBegun, add_refusal, greatest_size, growth_refusal}
+use Rattle.stun_types_write.specs.Drafts.{Draft}
+use Rattle.stun_types_attribute.specs.Texts.{text_refusal}
+use Rattle.stun_types_integrity.specs.Signing.{hmac_length, order_refusal}
+use Rattle.stun_types_build.specs.Calls.{AreAccepted, after_calls}
+use Rattle.stun_proto_sign.specs.Addition.{TextOf, Addition, calls_of, calls_of_texts, size_of_text, size_of_texts, texts_refusal}
 
--- texts were added to a message of this greatest size: its bytes and types before, and after
-pub record AreAdded (texts : List TextOf) (limit : Option ℕ) (bytes kinds new new_kinds : List ℕ) : Type 0 where
-  pub written : new ≡ after_texts bytes texts
-  pub told : new_kinds ≡ kinds ++ kinds_of_texts texts
-  pub size : length new ≡ length bytes + size_of_texts texts
-  pub accepted : texts_refusal kinds limit (length bytes) texts ≡ None
-  pub begun : IsBegun new
+-- ---- what is found before anything is added
 
--- a message was signed under a key, where there is one
-pub record IsSealed (signer : Option Key) (limit : Option ℕ) (bytes kinds new new_kinds : List ℕ) : Type 0 where
-  pub written : new ≡ after_signer bytes signer
-  pub told : new_kinds ≡ kinds ++ kinds_of_signer signer
-  pub accepted : signer_refusal kinds limit (length bytes) signer ≡ None
-  pub begun : IsBegun new
+-- why a text is not added behind so many bytes more
+abbrev pub refusal_behind : Draft → ℕ → TextOf → Option StunWriteError
+refusal_behind draft before t = option_or (text_refusal t.most t.text) (add_refusal draft (before + size_of_text t))
 
--- a message text becomes the text of what is added, signed
-abbrev pub Signs : Option Addition → List ℕ → List ℕ → Type 0
-Signs what bytes new =
-    (a : Addition) × (what ≡ Some a) × ((mtype number : ℕ) (adds : List Attr) → bytes ≡ message_text mtype number adds → new ≡ message_text mtype number (with_signature a.signer mtype number (adds ++ attrs a.texts)))
+-- why a message is not signed by an algorithm behind so many bytes more
+abbrev pub signing_refusal_behind : Draft → ℕ → IntegrityAlgorithm → Option StunWriteError
+signing_refusal_behind draft before algorithm =
+    option_or (order_refusal draft.ended algorithm) (growth_refusal draft (before + (4 + hmac_length algorithm)))
 
--- an addition was made to a message
-pub record IsMade (what : Option Addition) (limit : Option ℕ) (bytes kinds new new_kinds : List ℕ) : Type 0 where
-  pub written : new ≡ after_addition bytes what
-  pub text : Signs what bytes new
-  pub told : new_kinds ≡ kinds ++ kinds_of_addition what
-  pub accepted : addition_refusal what kinds limit (length bytes) ≡ None
-  pub begun : IsBegun new
+-- a text can be added behind so many bytes more; with it these are `after`
+pub record FitsBehind (draft : Draft) (before : ℕ) (t : TextOf) (after : ℕ) : Type 0 where
+  pub accepted : refusal_behind draft before t ≡ None
+  pub grown : after ≡ before + size_of_text t
+  pub short : after ≤ greatest_size
+
+-- texts can be added, of so many bytes
+pub record TextsFit (draft : Draft) (texts : List TextOf) (size : ℕ) : Type 0 where
+  pub accepted : texts_refusal draft texts ≡ None
+  pub sum : size ≡ size_of_texts texts
+  pub short : size ≤ greatest_size
+
+-- the cause of a refusal, which is not want of memory
+pub record IsNamed (refusal : Option StunWriteError) (error : StunWriteError) : Type 0 where
+  pub cause : refusal ≡ Some error
+  pub named : error ≢ NoMemory
+
+-- ---- what is left
+
+-- texts were added
+pub record AreAdded (texts : List TextOf) (old new : Draft) : Type 0 where
+  pub is : new ≡ after_calls (calls_of_texts texts) old
+  pub begun : IsBegun new.bytes
+
+-- an addition was made: its calls were accepted, each in its turn, and left the new draft
+pub record IsMade (what : Option Addition) (old new : Draft) : Type 0 where
+  pub made : Addition
+  pub known : what ≡ Some made
+  pub accepted : AreAccepted (calls_of made) old
+  pub is : new ≡ after_calls (calls_of made) old
+  pub begun : IsBegun new.bytes

@@ -20,13 +20,15 @@ impl<'a> Model for SigningUser<'a> {
 
     ghost Value = { Signer };
 
-    ghost view = { λ user. record { name = user.name.now; password = user.password.now; algorithm = user.algorithm } };
+    ghost view = { λ user.
+        record { name = user.name.now; password = user.password.now; algorithm = user.algorithm } };
 }
 
 impl<'a> SigningUser<'a> {
     /// The user of this name and password, by an algorithm.
     pub fn new(name: &'a str, password: &'a str, algorithm: IntegrityAlgorithm) -> SigningUser<'a>
-        ensures { result ≡ record { name = name.now; password = password.now; algorithm = algorithm } }
+        ensures { result
+            ≡ record { name = name.now; password = password.now; algorithm = algorithm } }
     {
         SigningUser {
             name,

@@ -5,5 +5,6 @@
 pub mod addressee;
 mod integrity;
 pub mod outgoing;
+mod room;
 pub mod size;
 mod texts;

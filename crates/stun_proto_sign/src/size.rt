@@ -26,7 +26,8 @@ pub fn signature_bytes(to: &Addressee<'_>, class: MessageClass) -> usize
 
 /// How many bytes a message of a class gets where its addressee was validated.
 fn bytes_for_user(to: &Addressee<'_>, user: &SigningUser<'_>, class: MessageClass) -> usize
-    ensures { result ≡ size_of_addition (Some (addition_for_user to.now.realm to.now.nonce user.now class)) }
+    ensures { result ≡ size_of_addition
+        (Some (addition_for_user to.now.realm to.now.nonce user.now class)) }
 {
     let integrity = 4 + hmac_length(user.algorithm());
     match class {

@@ -1,102 +1,141 @@
 //! USERNAME, REALM and NONCE, added to a message.
 
-ghost use Rattle.std.specs.Prelude.{◌≡◌, ◌≢◌, ◌∷◌, [], length, None, Some, IfErr, OnOk};
+ghost use Rattle.std.specs.Prelude.{◌≡◌, ◌≤◌, ◌∷◌, [], length, None, OnOk};
+ghost use Rattle.stun_types_base.specs.Refusals.{RefusesFor};
+ghost use Rattle.stun_types_attribute.specs.Texts.{longest_text};
 ghost use Rattle.stun_types_write.specs.Adding.{IsBegun};
-ghost use Rattle.stun_proto_sign.specs.Addition.{nonce_of, realm_of, texts_refusal, username_of};
+ghost use Rattle.stun_types_write.specs.Outcomes.{IsAdded};
+ghost use Rattle.stun_proto_sign.specs.Addition.{attr_of_text, nonce_of, one_refusal, realm_of, texts_refusal, username_of};
 ghost use Rattle.stun_proto_sign.specs.Stages.{AreAdded};
 
-use std::alloc::Global;
+use std::marker::Model;
 use stun_types_attribute::nonce::Nonce;
 use stun_types_attribute::realm::Realm;
 use stun_types_attribute::username::Username;
 use stun_types_build::ext::add_as;
+use stun_types_wire::attribute::{AttributeType, RawAttribute};
 use stun_types_wire::error::StunWriteError;
+use stun_types_write::attribute::AttributeStaticType;
 use stun_types_write::writer::MessageWrite;
 
-/// Adds the USERNAME of a name. Refused as `Username::new` is, and then as `add_attribute`.
-#[tactic(auto, using(crate::proofs::Composed::text_refused))]
-fn add_username<W: MessageWrite>(
-    alloc: Global,
-    writer: &mut W,
-    name: &str,
-) -> Result<(), StunWriteError>
-    requires { IsBegun (W.written writer.old) }
-    ensures ok { OnOk result (AreAdded (username_of name.now ∷ []) (W.limit writer.old) (W.written writer.old) (W.kinds writer.old) (W.written writer.new) (W.kinds writer.new)) }
-    ensures refused { IfErr result (λ error. error ≢ StunWriteError.NoMemory → texts_refusal (W.kinds writer.old) (W.limit writer.old) (length (W.written writer.old)) (username_of name.now ∷ []) ≡ Some error) }
-    ensures limit { W.limit writer.new ≡ W.limit writer.old }
-{
-    let username = Username::new(alloc, name)?;
-    add_as(writer, &username, &username)?;
-    Ok(())
+/// A text that is to be added: the type of its attribute, how many bytes it has at most, and the
+/// text. Contracts see the record `TextOf`.
+#[derive(Debug, Drop)]
+pub(crate) struct BorrowedText<'a> {
+    atype: AttributeType,
+    most: usize,
+    text: &'a str,
 }
 
-/// Adds the REALM of a text. Refused as `Realm::new` is, and then as `add_attribute`.
-#[tactic(auto, using(crate::proofs::Composed::text_refused))]
-fn add_realm<W: MessageWrite>(
-    alloc: Global,
+impl<'a> Model for BorrowedText<'a> {
+    ghost use Rattle.std.specs.Prelude.{◌≡◌, ◌≤◌};
+    ghost use Rattle.stun_types_attribute.specs.Texts.{longest_text};
+    ghost use Rattle.stun_types_wire.specs.Shape.{rank};
+    ghost use Rattle.stun_proto_sign.specs.Addition.{TextOf};
+
+    ghost Value = { TextOf };
+
+    ghost view = { λ t. record { kind = t.atype.0; most = t.most; text = t.text.now } };
+
+    ghost invariant = { λ t. (t.most ≤ longest_text) × (rank t.atype.0 ≡ 0) };
+}
+
+impl<'a> BorrowedText<'a> {
+    /// The USERNAME of a name.
+    pub(crate) fn username(name: &'a str) -> BorrowedText<'a>
+        ensures { result ≡ username_of name.now }
+    {
+        BorrowedText {
+            atype: Username::TYPE,
+            most: Username::MAX_LEN,
+            text: name,
+        }
+    }
+
+    /// The REALM of a text.
+    pub(crate) fn realm(realm: &'a str) -> BorrowedText<'a>
+        ensures { result ≡ realm_of realm.now }
+    {
+        BorrowedText {
+            atype: Realm::TYPE,
+            most: Realm::MAX_LEN,
+            text: realm,
+        }
+    }
+
+    /// The NONCE of a text.
+    pub(crate) fn nonce(nonce: &'a str) -> BorrowedText<'a>
+        ensures { result ≡ nonce_of nonce.now }
+    {
+        BorrowedText {
+            atype: Nonce::TYPE,
+            most: Nonce::MAX_LEN,
+            text: nonce,
+        }
+    }
+
+    /// How many bytes the text has at most.
+    pub(crate) fn most(&self) -> usize
+        ensures value { result ≡ self.now.most }
+        ensures short { result ≤ longest_text }
+    {
+        self.most
+    }
+
+    /// How many bytes the text has.
+    pub(crate) fn len(&self) -> usize
+        ensures { result ≡ length self.now.text }
+    {
+        self.text.len()
+    }
+
+    /// Adds the text, which fits. Refused for want of memory alone.
+    fn add_to<W: MessageWrite>(&self, writer: &mut W) -> Result<(), StunWriteError>
+        requires begun { IsBegun (W.draft writer.old).bytes }
+        requires accepted { one_refusal (W.draft writer.old) self.now ≡ None }
+        ensures ok { OnOk result (IsAdded (attr_of_text self.now)
+            (W.draft writer.old) (W.draft writer.new)) }
+        ensures memory { RefusesFor StunWriteError.NoMemory None result }
+    {
+        let raw = RawAttribute::new(self.atype, self.text.as_bytes());
+        add_as(writer, &raw, &raw)
+    }
+}
+
+/// Adds REALM and then NONCE, which fit. Refused for want of memory alone.
+pub(crate) fn add_challenge<W: MessageWrite>(
     writer: &mut W,
     realm: &str,
-) -> Result<(), StunWriteError>
-    requires { IsBegun (W.written writer.old) }
-    ensures ok { OnOk result (AreAdded (realm_of realm.now ∷ []) (W.limit writer.old) (W.written writer.old) (W.kinds writer.old) (W.written writer.new) (W.kinds writer.new)) }
-    ensures refused { IfErr result (λ error. error ≢ StunWriteError.NoMemory → texts_refusal (W.kinds writer.old) (W.limit writer.old) (length (W.written writer.old)) (realm_of realm.now ∷ []) ≡ Some error) }
-    ensures limit { W.limit writer.new ≡ W.limit writer.old }
-{
-    let realm = Realm::new(alloc, realm)?;
-    add_as(writer, &realm, &realm)?;
-    Ok(())
-}
-
-/// Adds the NONCE of a text. Refused as `Nonce::new` is, and then as `add_attribute`.
-#[tactic(auto, using(crate::proofs::Composed::text_refused))]
-fn add_nonce<W: MessageWrite>(
-    alloc: Global,
-    writer: &mut W,
     nonce: &str,
 ) -> Result<(), StunWriteError>
-    requires { IsBegun (W.written writer.old) }
-    ensures ok { OnOk result (AreAdded (nonce_of nonce.now ∷ []) (W.limit writer.old) (W.written writer.old) (W.kinds writer.old) (W.written writer.new) (W.kinds writer.new)) }
-    ensures refused { IfErr result (λ error. error ≢ StunWriteError.NoMemory → texts_refusal (W.kinds writer.old) (W.limit writer.old) (length (W.written writer.old)) (nonce_of nonce.now ∷ []) ≡ Some error) }
-    ensures limit { W.limit writer.new ≡ W.limit writer.old }
+    requires begun { IsBegun (W.draft writer.old).bytes }
+    requires accepted { texts_refusal (W.draft writer.old)
+        (realm_of realm.now ∷ nonce_of nonce.now ∷ []) ≡ None }
+    ensures ok { OnOk result (AreAdded (realm_of realm.now ∷ nonce_of nonce.now ∷ [])
+        (W.draft writer.old) (W.draft writer.new)) }
+    ensures memory { RefusesFor StunWriteError.NoMemory None result }
 {
-    let nonce = Nonce::new(alloc, nonce)?;
-    add_as(writer, &nonce, &nonce)?;
+    BorrowedText::realm(realm).add_to(writer)?;
+    BorrowedText::nonce(nonce).add_to(writer)?;
     Ok(())
 }
 
-/// Adds REALM and then NONCE.
-#[tactic(auto, using(crate::proofs::Composed::first_refused, crate::proofs::Composed::rest_refused))]
-pub(crate) fn add_realm_and_nonce<W: MessageWrite>(
-    alloc: Global,
-    writer: &mut W,
-    realm: &str,
-    nonce: &str,
-) -> Result<(), StunWriteError>
-    requires { IsBegun (W.written writer.old) }
-    ensures ok { OnOk result (AreAdded (realm_of realm.now ∷ nonce_of nonce.now ∷ []) (W.limit writer.old) (W.written writer.old) (W.kinds writer.old) (W.written writer.new) (W.kinds writer.new)) }
-    ensures refused { IfErr result (λ error. error ≢ StunWriteError.NoMemory → texts_refusal (W.kinds writer.old) (W.limit writer.old) (length (W.written writer.old)) (realm_of realm.now ∷ nonce_of nonce.now ∷ []) ≡ Some error) }
-    ensures limit { W.limit writer.new ≡ W.limit writer.old }
-{
-    add_realm(alloc, writer, realm)?;
-    add_nonce(alloc, writer, nonce)?;
-    Ok(())
-}
-
-/// Adds USERNAME, REALM and then NONCE.
-#[tactic(auto, using(crate::proofs::Composed::first_refused, crate::proofs::Composed::rest_refused))]
+/// Adds USERNAME, REALM and then NONCE, which fit. Refused for want of memory alone.
 pub(crate) fn add_claim<W: MessageWrite>(
-    alloc: Global,
     writer: &mut W,
     name: &str,
     realm: &str,
     nonce: &str,
 ) -> Result<(), StunWriteError>
-    requires { IsBegun (W.written writer.old) }
-    ensures ok { OnOk result (AreAdded (username_of name.now ∷ realm_of realm.now ∷ nonce_of nonce.now ∷ []) (W.limit writer.old) (W.written writer.old) (W.kinds writer.old) (W.written writer.new) (W.kinds writer.new)) }
-    ensures refused { IfErr result (λ error. error ≢ StunWriteError.NoMemory → texts_refusal (W.kinds writer.old) (W.limit writer.old) (length (W.written writer.old)) (username_of name.now ∷ realm_of realm.now ∷ nonce_of nonce.now ∷ []) ≡ Some error) }
-    ensures limit { W.limit writer.new ≡ W.limit writer.old }
+    requires begun { IsBegun (W.draft writer.old).bytes }
+    requires accepted { texts_refusal (W.draft writer.old)
+        (username_of name.now ∷ realm_of realm.now ∷ nonce_of nonce.now ∷ []) ≡ None }
+    ensures ok { OnOk result (AreAdded
+        (username_of name.now ∷ realm_of realm.now ∷ nonce_of nonce.now ∷ [])
+        (W.draft writer.old) (W.draft writer.new)) }
+    ensures memory { RefusesFor StunWriteError.NoMemory None result }
 {
-    add_username(alloc, writer, name)?;
-    add_realm_and_nonce(alloc, writer, realm, nonce)?;
+    BorrowedText::username(name).add_to(writer)?;
+    add_challenge(writer, realm, nonce)?;
     Ok(())
 }

@@ -2,11 +2,12 @@
 //! but for `written_and_read`, which writes an attribute and reads it.
 
 pub use stun_types_address::address::{value_is_told, xor_is_undone};
-pub use stun_types_build::agreement::same_adds_same_bytes;
 pub use stun_types_grammar::{
     fingerprint_refusals, header_refusals, message_is_text, shown_is_longest_front, text_is_read,
     written_is_read,
 };
-pub use stun_types_laws::{covered_text_fixes_message, signed_validates};
+pub use stun_types_laws::{
+    calls_compose, covered_text_fixes_message, same_adds_same_bytes, signed_validates,
+};
 pub use stun_types_message::check::unknown_types_are_listed;
 pub use stun_types_write::attribute::written_and_read;

@@ -18,11 +18,25 @@ abbrev pub address_value : SocketAddr → List ℕ
 address_value (V4 a) = value_of_parts 1 (v4_port a) (ipv4_octets (v4_ip a))
 address_value (V6 a) = value_of_parts 2 (v6_port a) (ipv6_octets (v6_ip a))
 
--- the address that a value tells, with no flow information and no scope
-abbrev pub address_of : List ℕ → SocketAddr
+-- the address of IPv4 behind the family
+abbrev pub v4_of : List ℕ → SocketAddr
+v4_of value = V4 (record { ip = record { octets = drop 4 value }; port = big_number 2 (drop 2 value) })
+
+-- the address of IPv6 behind the family, with no flow information and no scope
+abbrev pub v6_of : List ℕ → SocketAddr
+v6_of value = V6 (record {
+  ip = record { segments = segments_of (drop 4 value) };
+  port = big_number 2 (drop 2 value);
+  flowinfo = 0;
+  scope_id = 0;
+})
+
+-- the address that a value tells: none where the family is none
+abbrev pub address_of : List ℕ → Option SocketAddr
 address_of value =
-    if slice_index value 1 == 1 then V4 (record { ip = record { octets = drop 4 value }; port = big_number 2 (drop 2 value) })
-    else V6 (record { ip = record { segments = segments_of (drop 4 value) }; port = big_number 2 (drop 2 value); flowinfo = 0; scope_id = 0 })
+    if slice_index value 1 == 1 then Some (v4_of value)
+    else if slice_index value 1 == 2 then Some (v6_of value)
+    else None
 
 -- an address without the flow information and the scope, which have no bytes
 abbrev pub on_the_wire : SocketAddr → SocketAddr
@@ -46,7 +60,8 @@ address_refusal value =
 
 -- why a type and a value are not an address of this type
 unfoldable pub address_read_refusal : ℕ → Attr → Option StunParseError
-address_read_refusal kind a = if not (a.kind == kind) then Some WrongAttributeImplementation else address_refusal a.value
+address_read_refusal kind a = if not (a.kind == kind) then Some WrongAttributeImplementation
+    else address_refusal a.value
 
 -- a value as it is written again: the first byte is not looked at
 abbrev pub address_again : List ℕ → List ℕ

@@ -1,6 +1,7 @@
 //! Plain and xored addresses.
 
 ghost use Rattle.std.specs.Prelude.{◌≡◌, ◌+◌, ◌≤◌, ◌++◌, ℕ, length, drop, None, Some, IfOk, MatchResult};
+ghost use Rattle.stun_types_write.specs.Reading.{IsNamed};
 ghost use Rattle.stun_types_wire.specs.Attributes.{padded};
 ghost use Rattle.stun_types_wire.specs.Text.{attribute_text};
 ghost use Rattle.stun_types_write.specs.Adding.{attr_of};
@@ -26,14 +27,15 @@ pub struct MappedSocketAddr {
 }
 
 impl Model for MappedSocketAddr {
-    ghost use Rattle.std.specs.Prelude.{◌≡◌, ℕ, List, None};
+    ghost use Rattle.std.specs.Prelude.{◌≡◌, ℕ, List, None, Some};
     ghost use Rattle.stun_types_address.specs.Addresses.{address_of, address_refusal, address_value};
 
     ghost Value = { List ℕ };
 
     ghost view = { λ a. address_value a.addr };
 
-    ghost invariant = { λ a. (a.addr ≡ address_of (address_value a.addr)) × (address_refusal (address_value a.addr) ≡ None) };
+    ghost invariant = { λ a. (Some a.addr ≡ address_of (address_value a.addr))
+        × (address_refusal (address_value a.addr) ≡ None) };
 }
 
 impl MappedSocketAddr {
@@ -51,7 +53,8 @@ impl MappedSocketAddr {
     /// family is not 1 or 2, `Truncated` or `TooLarge` where it has not the 8 bytes of IPv4 or the 20
     /// of IPv6.
     pub fn from_raw(raw: &RawAttribute<'_>) -> Result<MappedSocketAddr, StunParseError>
-        ensures { MatchResult result (λ read. (address_refusal raw.now.value ≡ None) × (read ≡ address_again raw.now.value)) (λ error. address_refusal raw.now.value ≡ Some error) }
+        ensures { MatchResult result (λ read. (address_refusal raw.now.value ≡ None)
+            × (read ≡ address_again raw.now.value)) (IsNamed (address_refusal raw.now.value)) }
     {
         let addr = read_address(raw.value())?;
         Ok(MappedSocketAddr { addr })
@@ -64,7 +67,9 @@ impl MappedSocketAddr {
         raw: &RawAttribute<'_>,
         atype: AttributeType,
     ) -> Result<MappedSocketAddr, StunParseError>
-        ensures { MatchResult result (λ read. (address_read_refusal atype.0 raw.now ≡ None) × (raw.now.kind ≡ atype.0) × (read ≡ address_again raw.now.value)) (λ error. address_read_refusal atype.0 raw.now ≡ Some error) }
+        ensures { MatchResult result (λ read. (address_read_refusal atype.0 raw.now ≡ None)
+            × (raw.now.kind ≡ atype.0) × (read ≡ address_again raw.now.value))
+            (IsNamed (address_read_refusal atype.0 raw.now)) }
     {
         if raw.get_type() != atype {
             return Err(StunParseError::WrongAttributeImplementation);
@@ -74,7 +79,7 @@ impl MappedSocketAddr {
 
     /// The address, with no flow information and no scope.
     pub fn addr(&self) -> SocketAddr
-        ensures told { result ≡ address_of self.now }
+        ensures told { Some result ≡ address_of self.now }
         ensures value { address_value result ≡ self.now }
     {
         self.addr
@@ -116,7 +121,8 @@ impl MappedSocketAddr {
     /// included.
     pub fn write_into_unchecked(&self, atype: AttributeType, dest: &mut [u8])
         requires { 4 + padded (length self.now) ≤ length dest.old }
-        ensures { dest.new ≡ attribute_text (attr_of atype.0 self.now) ++ drop (4 + padded (length self.now)) dest.old }
+        ensures { dest.new ≡ attribute_text (attr_of atype.0 self.now)
+            ++ drop (4 + padded (length self.now)) dest.old }
     {
         match self.addr {
             SocketAddr::V4(v4) => {
@@ -167,7 +173,7 @@ impl XorSocketAddr {
 
     /// The address under a number, with no flow information and no scope.
     pub fn addr(&self, number: TransactionId) -> SocketAddr
-        ensures told { result ≡ address_of (xored number self.now) }
+        ensures told { Some result ≡ address_of (xored number self.now) }
         ensures value { address_value result ≡ xored number self.now }
     {
         XorSocketAddr::xor_addr(self.masked.addr(), number)
@@ -176,9 +182,9 @@ impl XorSocketAddr {
     /// An address xored under a number. The same again is the address, without flow information and
     /// scope.
     pub fn xor_addr(addr: SocketAddr, number: TransactionId) -> SocketAddr
-        ensures told { result ≡ address_of (xored number (address_value addr)) }
+        ensures told { Some result ≡ address_of (xored number (address_value addr)) }
         ensures value { address_value result ≡ xored number (address_value addr) }
-        ensures undone { address_of (xored number (address_value result)) ≡ on_the_wire addr }
+        ensures undone { address_of (xored number (address_value result)) ≡ Some (on_the_wire addr) }
     {
         value_is_told(addr);
         xor_is_undone(addr, number);
@@ -188,7 +194,8 @@ impl XorSocketAddr {
     /// The xored address in the value of an attribute of any type. Refused as
     /// `MappedSocketAddr::from_raw` is.
     pub fn from_raw(raw: &RawAttribute<'_>) -> Result<XorSocketAddr, StunParseError>
-        ensures { MatchResult result (λ read. (address_refusal raw.now.value ≡ None) × (read ≡ address_again raw.now.value)) (λ error. address_refusal raw.now.value ≡ Some error) }
+        ensures { MatchResult result (λ read. (address_refusal raw.now.value ≡ None)
+            × (read ≡ address_again raw.now.value)) (IsNamed (address_refusal raw.now.value)) }
     {
         let masked = MappedSocketAddr::from_raw(raw)?;
         Ok(XorSocketAddr { masked })
@@ -200,7 +207,9 @@ impl XorSocketAddr {
         raw: &RawAttribute<'_>,
         atype: AttributeType,
     ) -> Result<XorSocketAddr, StunParseError>
-        ensures { MatchResult result (λ read. (address_read_refusal atype.0 raw.now ≡ None) × (raw.now.kind ≡ atype.0) × (read ≡ address_again raw.now.value)) (λ error. address_read_refusal atype.0 raw.now ≡ Some error) }
+        ensures { MatchResult result (λ read. (address_read_refusal atype.0 raw.now ≡ None)
+            × (raw.now.kind ≡ atype.0) × (read ≡ address_again raw.now.value))
+            (IsNamed (address_read_refusal atype.0 raw.now)) }
     {
         let masked = MappedSocketAddr::from_raw_of_type(raw, atype)?;
         Ok(XorSocketAddr { masked })
@@ -228,7 +237,8 @@ impl XorSocketAddr {
     /// included.
     pub fn write_into_unchecked(&self, atype: AttributeType, dest: &mut [u8])
         requires { 4 + padded (length self.now) ≤ length dest.old }
-        ensures { dest.new ≡ attribute_text (attr_of atype.0 self.now) ++ drop (4 + padded (length self.now)) dest.old }
+        ensures { dest.new ≡ attribute_text (attr_of atype.0 self.now)
+            ++ drop (4 + padded (length self.now)) dest.old }
     {
         self.masked.write_into_unchecked(atype, dest);
     }
@@ -254,7 +264,7 @@ pub fn xor_is_undone(addr: SocketAddr, number: TransactionId)
 /// Says that a value tells its address, but for flow information and scope. It does nothing.
 #[tactic(auto, using(crate::proofs::Bytes::port_again))]
 pub fn value_is_told(addr: SocketAddr)
-    ensures { address_of (address_value addr) ≡ on_the_wire addr }
+    ensures { address_of (address_value addr) ≡ Some (on_the_wire addr) }
 {
     match addr {
         SocketAddr::V4(v4) => {

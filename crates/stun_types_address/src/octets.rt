@@ -1,6 +1,7 @@
 //! Addresses in parts: a port and the octets of the address.
 
-ghost use Rattle.std.specs.Prelude.{◌≡◌, ◌∷◌, [], ◌+◌, ◌*◌, ◌++◌, ◌≤◌, length, slice_index, None, Some, MatchResult};
+ghost use Rattle.std.specs.Prelude.{◌≡◌, ◌∷◌, [], ◌+◌, ◌*◌, ◌≤◌, length, slice_index, None, Some, MatchResult};
+ghost use Rattle.stun_types_write.specs.Reading.{IsNamed};
 ghost use Rattle.byteorder.specs.Endian.{big_bytes};
 ghost use Rattle.stun_types_address.specs.Addresses.{address_again, address_of, address_refusal, address_value, length_refusal, value_of_parts};
 ghost use Rattle.std.specs.Net.Addr.{octets_of, segments_of};
@@ -14,7 +15,7 @@ use stun_types_wire::transaction::{MAGIC_COOKIE, TransactionId};
 #[tactic(auto, using(crate::proofs::Bytes::v4_is_accepted))]
 pub(crate) fn v4_address(port: u16, octets: [u8; 4]) -> SocketAddr
     ensures value { address_value result ≡ value_of_parts 1 port octets }
-    ensures told { result ≡ address_of (value_of_parts 1 port octets) }
+    ensures told { Some result ≡ address_of (value_of_parts 1 port octets) }
     ensures accepted { address_refusal (value_of_parts 1 port octets) ≡ None }
 {
     SocketAddr::V4(SocketAddrV4::new(Ipv4Addr::from_octets(octets), port))
@@ -24,7 +25,7 @@ pub(crate) fn v4_address(port: u16, octets: [u8; 4]) -> SocketAddr
 #[tactic(auto, using(crate::proofs::Bytes::v6_is_accepted, crate::proofs::Bytes::sixteen_again))]
 pub(crate) fn v6_address(port: u16, octets: &[u8; 16]) -> SocketAddr
     ensures value { address_value result ≡ value_of_parts 2 port octets.now }
-    ensures told { result ≡ address_of (value_of_parts 2 port octets.now) }
+    ensures told { Some result ≡ address_of (value_of_parts 2 port octets.now) }
     ensures accepted { address_refusal (value_of_parts 2 port octets.now) ≡ None }
 {
     SocketAddr::V6(SocketAddrV6::new(Ipv6Addr::from_octets(*octets), port, 0, 0))
@@ -33,7 +34,7 @@ pub(crate) fn v6_address(port: u16, octets: &[u8; 16]) -> SocketAddr
 /// The same address without flow information and scope.
 pub(crate) fn without_scope(addr: SocketAddr) -> SocketAddr
     ensures value { address_value result ≡ address_value addr }
-    ensures told { result ≡ address_of (address_value addr) }
+    ensures told { Some result ≡ address_of (address_value addr) }
     ensures accepted { address_refusal (address_value addr) ≡ None }
 {
     match addr {
@@ -55,7 +56,11 @@ pub(crate) fn front_of(family: u8, port: u16) -> [u8; 4]
 /// has not the length of its family.
 #[tactic(auto, unfolding(crate::specs::Addresses::address_refusal))]
 pub(crate) fn read_address(value: &[u8]) -> Result<SocketAddr, StunParseError>
-    ensures { MatchResult result (λ addr. (address_refusal value.now ≡ None) × (address_value addr ≡ address_again value.now) × (addr ≡ address_of (address_again value.now)) × (address_refusal (address_again value.now) ≡ None)) (λ error. address_refusal value.now ≡ Some error) }
+    ensures { MatchResult result (λ addr. (address_refusal value.now ≡ None)
+        × (address_value addr ≡ address_again value.now)
+        × (Some addr ≡ address_of (address_again value.now))
+        × (address_refusal (address_again value.now) ≡ None))
+        (IsNamed (address_refusal value.now)) }
 {
     if value.len() < 4 {
         return Err(StunParseError::Truncated {
@@ -75,7 +80,11 @@ pub(crate) fn read_address(value: &[u8]) -> Result<SocketAddr, StunParseError>
 fn read_v4(value: &[u8]) -> Result<SocketAddr, StunParseError>
     requires front { 4 ≤ length value.now }
     requires family { slice_index value.now 1 ≡ 1 }
-    ensures { MatchResult result (λ addr. (length_refusal 8 value.now ≡ None) × (address_value addr ≡ address_again value.now) × (addr ≡ address_of (address_again value.now)) × (address_refusal (address_again value.now) ≡ None)) (λ error. length_refusal 8 value.now ≡ Some error) }
+    ensures { MatchResult result (λ addr. (length_refusal 8 value.now ≡ None)
+        × (address_value addr ≡ address_again value.now)
+        × (Some addr ≡ address_of (address_again value.now))
+        × (address_refusal (address_again value.now) ≡ None))
+        (IsNamed (length_refusal 8 value.now)) }
 {
     check_length(value, 8)?;
     let mut octets = [0; 4];
@@ -88,7 +97,11 @@ fn read_v4(value: &[u8]) -> Result<SocketAddr, StunParseError>
 fn read_v6(value: &[u8]) -> Result<SocketAddr, StunParseError>
     requires front { 4 ≤ length value.now }
     requires family { slice_index value.now 1 ≡ 2 }
-    ensures { MatchResult result (λ addr. (length_refusal 20 value.now ≡ None) × (address_value addr ≡ address_again value.now) × (addr ≡ address_of (address_again value.now)) × (address_refusal (address_again value.now) ≡ None)) (λ error. length_refusal 20 value.now ≡ Some error) }
+    ensures { MatchResult result (λ addr. (length_refusal 20 value.now ≡ None)
+        × (address_value addr ≡ address_again value.now)
+        × (Some addr ≡ address_of (address_again value.now))
+        × (address_refusal (address_again value.now) ≡ None))
+        (IsNamed (length_refusal 20 value.now)) }
 {
     check_length(value, 20)?;
     let mut octets = [0; 16];
@@ -106,7 +119,8 @@ fn port_in(value: &[u8]) -> u16
 
 /// Whether a value has exactly this length.
 fn check_length(value: &[u8], expected: usize) -> Result<(), StunParseError>
-    ensures { MatchResult result (λ _. (length_refusal expected value.now ≡ None) × (length value.now ≡ expected)) (λ error. length_refusal expected value.now ≡ Some error) }
+    ensures { MatchResult result (λ _. (length_refusal expected value.now ≡ None)
+        × (length value.now ≡ expected)) (IsNamed (length_refusal expected value.now)) }
 {
     let actual = value.len();
     if actual < expected {
@@ -122,7 +136,7 @@ fn check_length(value: &[u8], expected: usize) -> Result<(), StunParseError>
 #[tactic(auto, unfolding(crate::specs::Xor::octets_mask))]
 pub(crate) fn xor_address(addr: SocketAddr, number: TransactionId) -> SocketAddr
     ensures value { address_value result ≡ xored number (address_value addr) }
-    ensures told { result ≡ address_of (xored number (address_value addr)) }
+    ensures told { Some result ≡ address_of (xored number (address_value addr)) }
     ensures accepted { address_refusal (xored number (address_value addr)) ≡ None }
 {
     let mask = mask_of(number);

@@ -20,7 +20,8 @@ error_value e = 0 ∷ 0 ∷ (e.code / 100) ∷ (e.code % 100) ∷ e.reason
 
 -- why no attribute is made of a code and a reason: the code's cause comes first
 unfoldable pub error_refusal : ℕ → List ℕ → Option StunWriteError
-error_refusal code reason = if nat_lt code 300 || nat_lt 699 code then Some (OutOfRange code 300 699) else text_refusal longest_text reason
+error_refusal code reason = if nat_lt code 300 || nat_lt 699 code then Some (OutOfRange code 300 699)
+    else text_refusal longest_text reason
 
 -- the reason that goes with a code
 abbrev pub reason_for : ℕ → List ℕ

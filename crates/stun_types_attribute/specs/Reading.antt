@@ -20,4 +20,5 @@ error_told value = record { code = 100 * slice_index value 2 + slice_index value
 
 -- why a type and a value are no ERROR-CODE
 unfoldable pub error_read_refusal : Attr → Option StunParseError
-error_read_refusal a = or_else (value_refusal 0x0009 4 (4 + longest_text) a) (or_else (code_refusal a.value) (utf8_refusal (drop 4 a.value)))
+error_read_refusal a = or_else (value_refusal 0x0009 4 (4 + longest_text) a)
+    (or_else (code_refusal a.value) (utf8_refusal (drop 4 a.value)))

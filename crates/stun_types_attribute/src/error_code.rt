@@ -1,6 +1,8 @@
 //! ERROR-CODE (RFC 8489, section 14.8).
 
-ghost use Rattle.std.specs.Prelude.{◌≡◌, ◌≢◌, ◌≤◌, ◌/◌, ◌%◌, ◌∷◌, [], IfOk, IfErr, None, Some, length, drop, MatchOption, MatchResult};
+ghost use Rattle.std.specs.Prelude.{◌≡◌, ◌≤◌, ◌/◌, ◌%◌, ◌∷◌, [], IfOk, None, Some, length, drop, MatchResult};
+ghost use Rattle.stun_types_base.specs.Refusals.{RefusesFor};
+ghost use Rattle.stun_types_write.specs.Reading.{IsNamed};
 ghost use Rattle.stun_types_wire.specs.Grammar.{or_else};
 ghost use Rattle.stun_types_attribute.specs.Texts.{longest_text};
 ghost use Rattle.stun_types_attribute.specs.Errors.{CodeAndReason, error_refusal, reason_for, reason_of};
@@ -35,7 +37,8 @@ impl Model for ErrorCode {
 
     ghost view = { λ e. record { code = e.code; reason = string_bytes e.reason } };
 
-    ghost invariant = { λ e. (300 ≤ e.code) × (e.code ≤ 699) × (length (string_bytes e.reason) ≤ longest_text) };
+    ghost invariant = { λ e. (300 ≤ e.code) × (e.code ≤ 699)
+        × (length (string_bytes e.reason) ≤ longest_text) };
 }
 
 impl ErrorCode {
@@ -86,9 +89,9 @@ impl ErrorCode {
     /// refused, `NoMemory`.
     #[tactic(auto, unfolding(crate::specs::Errors::error_refusal))]
     pub fn new(alloc: Global, code: u16, reason: &str) -> Result<ErrorCode, StunWriteError>
-        ensures ok { IfOk result (λ made. (made.code ≡ code) × (made.reason ≡ reason.now) × (error_refusal code reason.now ≡ None)) }
-        ensures refused { IfErr result (λ error. error ≢ StunWriteError.NoMemory → error_refusal code reason.now ≡ Some error) }
-        ensures last { IfErr result (λ error. error ≡ StunWriteError.NoMemory → error_refusal code reason.now ≡ None) }
+        ensures ok { IfOk result (λ made. (made.code ≡ code) × (made.reason ≡ reason.now)
+            × (error_refusal code reason.now ≡ None)) }
+        ensures cause { RefusesFor StunWriteError.NoMemory (error_refusal code reason.now) result }
     {
         if code < ErrorCode::MIN_CODE || code > ErrorCode::MAX_CODE {
             return Err(StunWriteError::OutOfRange {
@@ -191,9 +194,11 @@ impl<'reason> ErrorCodeBuilder<'reason> {
 
     /// The ERROR-CODE. Refused as `ErrorCode::new` is.
     pub fn build(self, alloc: Global) -> Result<ErrorCode, StunWriteError>
-        ensures ok { IfOk result (λ made. (made.code ≡ self.entry.code) × (made.reason ≡ reason_of self.entry) × (error_refusal self.entry.code (reason_of self.entry) ≡ None)) }
-        ensures refused { IfErr result (λ error. error ≢ StunWriteError.NoMemory → error_refusal self.entry.code (reason_of self.entry) ≡ Some error) }
-        ensures last { IfErr result (λ error. error ≡ StunWriteError.NoMemory → error_refusal self.entry.code (reason_of self.entry) ≡ None) }
+        ensures ok { IfOk result (λ made. (made.code ≡ self.entry.code)
+            × (made.reason ≡ reason_of self.entry) ×
+            (error_refusal self.entry.code (reason_of self.entry) ≡ None)) }
+        ensures cause { RefusesFor StunWriteError.NoMemory
+            (error_refusal self.entry.code (reason_of self.entry)) result }
     {
         let reason = match self.reason {
             Some(reason) => reason,
@@ -280,7 +285,10 @@ impl<'a> AttributeFromRaw<'a> for ErrorCode {
 #[tactic(auto, unfolding(crate::specs::Reading::code_refusal))]
 fn read_code(value: &[u8]) -> Result<(u16, &str), StunParseError>
     requires { 4 ≤ length value.now }
-    ensures { MatchResult result (λ told. (code_refusal value.now ≡ None) × (utf8_refusal (drop 4 value.now) ≡ None) × (told.0 ≡ (error_told value.now).code) × (told.1.now ≡ (error_told value.now).reason) × (300 ≤ told.0) × (told.0 ≤ 699)) (λ error. or_else (code_refusal value.now) (utf8_refusal (drop 4 value.now)) ≡ Some error) }
+    ensures { MatchResult result (λ told. (code_refusal value.now ≡ None)
+        × (utf8_refusal (drop 4 value.now) ≡ None) × (told.0 ≡ (error_told value.now).code)
+        × (told.1.now ≡ (error_told value.now).reason) × (300 ≤ told.0) × (told.0 ≤ 699))
+        (IsNamed (or_else (code_refusal value.now) (utf8_refusal (drop 4 value.now)))) }
 {
     let (hundreds, rest) = (value[2], value[3]);
     if hundreds < 3 || hundreds > 6 || rest > 99 {

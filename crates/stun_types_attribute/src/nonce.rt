@@ -1,6 +1,7 @@
 //! NONCE (RFC 8489, section 14.10).
 
-ghost use Rattle.std.specs.Prelude.{◌≡◌, ◌≢◌, ◌≤◌, IfOk, IfErr, None, Some, length};
+ghost use Rattle.std.specs.Prelude.{◌≡◌, ◌≤◌, IfOk, None, length};
+ghost use Rattle.stun_types_base.specs.Refusals.{RefusesFor};
 ghost use Rattle.stun_types_attribute.specs.Texts.{longest_text, text_refusal};
 
 use std::alloc::Global;
@@ -40,9 +41,10 @@ impl Nonce {
     /// The NONCE of a text. Refused with `TooLarge` where the text has more than 763 bytes; where
     /// memory is refused, with `NoMemory`.
     pub fn new(alloc: Global, nonce: &str) -> Result<Nonce, StunWriteError>
-        ensures ok { IfOk result (λ made. (made ≡ nonce.now) × (text_refusal longest_text nonce.now ≡ None)) }
-        ensures refused { IfErr result (λ error. error ≢ StunWriteError.NoMemory → text_refusal longest_text nonce.now ≡ Some error) }
-        ensures last { IfErr result (λ error. error ≡ StunWriteError.NoMemory → text_refusal longest_text nonce.now ≡ None) }
+        ensures ok { IfOk result (λ made. (made ≡ nonce.now)
+            × (text_refusal longest_text nonce.now ≡ None)) }
+        ensures cause { RefusesFor StunWriteError.NoMemory
+            (text_refusal longest_text nonce.now) result }
     {
         if nonce.len() > Nonce::MAX_LEN {
             return Err(StunWriteError::TooLarge {

@@ -1,6 +1,7 @@
 //! REALM (RFC 8489, section 14.9).
 
-ghost use Rattle.std.specs.Prelude.{◌≡◌, ◌≢◌, ◌≤◌, IfOk, IfErr, None, Some, length};
+ghost use Rattle.std.specs.Prelude.{◌≡◌, ◌≤◌, IfOk, None, length};
+ghost use Rattle.stun_types_base.specs.Refusals.{RefusesFor};
 ghost use Rattle.stun_types_attribute.specs.Texts.{longest_text, text_refusal};
 
 use std::alloc::Global;
@@ -40,9 +41,10 @@ impl Realm {
     /// The REALM of a text. Refused with `TooLarge` where the text has more than 763 bytes; where
     /// memory is refused, with `NoMemory`.
     pub fn new(alloc: Global, realm: &str) -> Result<Realm, StunWriteError>
-        ensures ok { IfOk result (λ made. (made ≡ realm.now) × (text_refusal longest_text realm.now ≡ None)) }
-        ensures refused { IfErr result (λ error. error ≢ StunWriteError.NoMemory → text_refusal longest_text realm.now ≡ Some error) }
-        ensures last { IfErr result (λ error. error ≡ StunWriteError.NoMemory → text_refusal longest_text realm.now ≡ None) }
+        ensures ok { IfOk result (λ made. (made ≡ realm.now)
+            × (text_refusal longest_text realm.now ≡ None)) }
+        ensures cause { RefusesFor StunWriteError.NoMemory
+            (text_refusal longest_text realm.now) result }
     {
         if realm.len() > Realm::MAX_LEN {
             return Err(StunWriteError::TooLarge {

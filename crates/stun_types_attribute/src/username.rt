@@ -1,6 +1,7 @@
 //! USERNAME (RFC 8489, section 14.3).
 
-ghost use Rattle.std.specs.Prelude.{◌≡◌, ◌≢◌, ◌≤◌, IfOk, IfErr, None, Some, length};
+ghost use Rattle.std.specs.Prelude.{◌≡◌, ◌≤◌, IfOk, None, length};
+ghost use Rattle.stun_types_base.specs.Refusals.{RefusesFor};
 ghost use Rattle.stun_types_attribute.specs.Texts.{longest_username, text_refusal};
 
 use std::alloc::Global;
@@ -39,9 +40,10 @@ impl Username {
     /// The USERNAME of a text. Refused with `TooLarge` where the text has more than 513 bytes; where
     /// memory is refused, with `NoMemory`.
     pub fn new(alloc: Global, username: &str) -> Result<Username, StunWriteError>
-        ensures ok { IfOk result (λ made. (made ≡ username.now) × (text_refusal longest_username username.now ≡ None)) }
-        ensures refused { IfErr result (λ error. error ≢ StunWriteError.NoMemory → text_refusal longest_username username.now ≡ Some error) }
-        ensures last { IfErr result (λ error. error ≡ StunWriteError.NoMemory → text_refusal longest_username username.now ≡ None) }
+        ensures ok { IfOk result (λ made. (made ≡ username.now)
+            × (text_refusal longest_username username.now ≡ None)) }
+        ensures cause { RefusesFor StunWriteError.NoMemory
+            (text_refusal longest_username username.now) result }
     {
         if username.len() > Username::MAX_LEN {
             return Err(StunWriteError::TooLarge {

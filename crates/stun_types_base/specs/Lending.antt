@@ -10,4 +10,5 @@ module _ (T : RattleType) (lent : MutBor (List T.Denot)) where
 
   -- the elements are those that the borrow shows last, and as many as before
   abbrev pub LendsSlice : MutBor (List T.Denot) → Fml
-  LendsSlice borrow = Lends (the_row T) (Array T 0) lent borrow (λ shown. take (length lent.now) (shown ++ drop (length shown) lent.now))
+  LendsSlice borrow = Lends (the_row T) (Array T 0) lent borrow
+      (λ shown. take (length lent.now) (shown ++ drop (length shown) lent.now))

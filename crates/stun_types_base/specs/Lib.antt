@@ -1,3 +1,4 @@
 pub mod Lending
+pub mod Refusals
 pub mod SocketAddrs
 pub mod Words

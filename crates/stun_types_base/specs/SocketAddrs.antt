@@ -43,8 +43,10 @@ same_v6 a b segments port flowinfo scope_id i =
 -- only equal addresses tie
 pub socket_addr_cmp-IsAntisymmetric : IsAntisymmetric socket_addr_cmp
 socket_addr_cmp-IsAntisymmetric (V4 a) (V4 b) tie =
-    let parts = both_equal (slice_cmp nat_cmp (ipv4_octets (v4_ip a)) (ipv4_octets (v4_ip b))) (nat_cmp (v4_port a) (v4_port b)) tie in
-    ap V4 (same_v4 a b (slice_cmp-IsAntisymmetric nat_cmp-IsAntisymmetric _ _ parts.0) (nat_cmp-IsAntisymmetric _ _ parts.1))
+    let parts = both_equal (slice_cmp nat_cmp (ipv4_octets (v4_ip a)) (ipv4_octets (v4_ip b)))
+    (nat_cmp (v4_port a) (v4_port b)) tie in
+    ap V4 (same_v4 a b (slice_cmp-IsAntisymmetric nat_cmp-IsAntisymmetric _ _ parts.0)
+    (nat_cmp-IsAntisymmetric _ _ parts.1))
 socket_addr_cmp-IsAntisymmetric (V6 a) (V6 b) tie =
     let scope = nat_cmp (v6_scope_id a) (v6_scope_id b) in
     let flow = nat_cmp (v6_flowinfo a) (v6_flowinfo b) in
@@ -53,7 +55,8 @@ socket_addr_cmp-IsAntisymmetric (V6 a) (V6 b) tie =
     let ip_parts = both_equal segments (ordering_then port (ordering_then flow scope)) tie in
     let port_parts = both_equal port (ordering_then flow scope) ip_parts.1 in
     let flow_parts = both_equal flow scope port_parts.1 in
-    ap V6 (same_v6 a b (slice_cmp-IsAntisymmetric nat_cmp-IsAntisymmetric _ _ ip_parts.0) (nat_cmp-IsAntisymmetric _ _ port_parts.0)
+    ap V6 (same_v6 a b (slice_cmp-IsAntisymmetric nat_cmp-IsAntisymmetric _ _ ip_parts.0)
+    (nat_cmp-IsAntisymmetric _ _ port_parts.0)
     (nat_cmp-IsAntisymmetric _ _ flow_parts.0) (nat_cmp-IsAntisymmetric _ _ flow_parts.1))
 socket_addr_cmp-IsAntisymmetric (V4 a) (V6 b) tie = absurd (Prim.cc tie)
 socket_addr_cmp-IsAntisymmetric (V6 a) (V4 b) tie = absurd (Prim.cc tie)

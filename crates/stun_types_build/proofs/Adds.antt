@@ -77,7 +77,13 @@ added bytes pushed after kind end value begun pushed-is end-is after-is =
     after-is ∙ ap (λ (l : List ℕ). with_length l (end - 20)) pushed-is ∙ with_length-append bytes (attribute_text (attr_of kind value)) (end - 20) long
     ∙ ap (λ k. with_length bytes k ++ attribute_text (attr_of kind value)) n
 
-add_begun : (bytes : List ℕ) (a : Attr) → IsBegun bytes → length bytes + attr_size a ≤ greatest_size → IsBegun (after_add bytes a)
+pub length-after_add : (bytes : List ℕ) (a : Attr) → IsBegun bytes → length (after_add bytes a) ≡ length bytes + attr_size a
+unfolding after_add
+length-after_add bytes a begun =
+    let n = length bytes - 20 + attr_size a in
+    omega (arith, length-append (with_length bytes n) (attribute_text a), length-with_length bytes n (long_enough bytes begun), length-attribute_text a)
+
+pub add_begun : (bytes : List ℕ) (a : Attr) → IsBegun bytes → length bytes + attr_size a ≤ greatest_size → IsBegun (after_add bytes a)
 unfolding after_add header_refusal
 add_begun bytes a begun fits =
     let long = long_enough bytes begun in

@@ -1,4 +1,5 @@
+pub mod Added
 pub mod Adds
-pub mod Agree
-pub mod Signs
-pub mod Marks
+pub mod Begun
+pub mod Refused
+pub mod Taken

@@ -1,18 +1,16 @@
 //! FINGERPRINT, added at the end of a message (RFC 8489, section 14.7).
 
-ghost use Rattle.std.specs.Prelude.{◌≡◌, ◌≢◌, ◌++◌, ◌∷◌, [], length, drop, ℕ, List, OnOk, OnErr, IfErr, MatchResult, None, Some};
-ghost use Rattle.stun_types_wire.specs.Attributes.{Attr};
+ghost use Rattle.std.specs.Prelude.{◌≡◌, ◌≢◌, Err, IsSome, OnOk, OnErr};
 ghost use Rattle.stun_types_wire.specs.Fingerprints.{fingerprint_of};
-ghost use Rattle.stun_types_wire.specs.Shape.{fingerprint_kind};
-ghost use Rattle.stun_types_wire.specs.Text.{message_text};
-ghost use Rattle.stun_types_write.specs.Adding.{after_add, fingerprint_add_refusal, IsBegun};
+ghost use Rattle.stun_types_write.specs.Adding.{IsBegun, fingerprint_add_refusal};
+ghost use Rattle.stun_types_write.specs.Outcomes.{IsAdded};
+ghost use Rattle.stun_types_base.specs.Refusals.{RefusesFor};
 
 use crate::room::end_of_add;
 use crate::signing::push_as;
 use stun_types_fingerprint::fingerprint::Fingerprint;
 use stun_types_wire::error::StunWriteError;
 use stun_types_wire::header::MessageHeader;
-use stun_types_write::attribute::AttributeStaticType;
 use stun_types_write::writer::MessageWrite;
 
 /// How many bytes a FINGERPRINT takes, its header included.
@@ -21,19 +19,15 @@ const SIZE: usize = 8;
 /// Adds a FINGERPRINT. What it refuses stands at `MessageWriteExt::add_fingerprint`.
 #[tactic(auto, unfolding(stun_types_write::specs::Adding::fingerprint_add_refusal), using(crate::proofs::Adds::long_enough))]
 pub(crate) fn mark<W: MessageWrite>(writer: &mut W) -> Result<(), StunWriteError>
-    requires begun { IsBegun (W.written writer.old) }
-    ensures ok { OnOk result (W.written writer.new ≡ after_add (W.written writer.old) (fingerprint_of (W.written writer.old))) }
-    ensures kinds { OnOk result (W.kinds writer.new ≡ W.kinds writer.old ++ fingerprint_kind ∷ []) }
-    ensures text { OnOk result ((mtype number : ℕ) (adds : List Attr) → W.written writer.old ≡ message_text mtype number adds → W.written writer.new ≡ message_text mtype number (adds ++ fingerprint_of (message_text mtype number adds) ∷ [])) }
-    ensures accepted { OnOk result (fingerprint_add_refusal (W.kinds writer.old) (W.limit writer.old) (length (W.written writer.old)) ≡ None) }
-    ensures refused { IfErr result (λ error. error ≢ StunWriteError.NoMemory → fingerprint_add_refusal (W.kinds writer.old) (W.limit writer.old) (length (W.written writer.old)) ≡ Some error) }
-    ensures last { IfErr result (λ error. error ≡ StunWriteError.NoMemory → fingerprint_add_refusal (W.kinds writer.old) (W.limit writer.old) (length (W.written writer.old)) ≡ None) }
-    ensures unchanged { OnErr result ((W.written writer.new ≡ W.written writer.old) × (W.kinds writer.new ≡ W.kinds writer.old)) }
-    ensures behind { MatchResult result (λ _. W.behind writer.new ≡ drop 8 (W.behind writer.old)) (λ _. W.behind writer.new ≡ W.behind writer.old) }
-    ensures limit { W.limit writer.new ≡ W.limit writer.old }
-    ensures begun { IsBegun (W.written writer.new) }
+    requires begun { IsBegun (W.draft writer.old).bytes }
+    ensures ok { OnOk result (IsAdded (fingerprint_of (W.draft writer.old).bytes)
+        (W.draft writer.old) (W.draft writer.new)) }
+    ensures err { OnErr result (W.draft writer.new ≡ W.draft writer.old) }
+    ensures cause { RefusesFor StunWriteError.NoMemory
+        (fingerprint_add_refusal (W.draft writer.old)) result }
+    ensures lent { IsSome (W.draft writer.old).limit → result ≢ Err StunWriteError.NoMemory }
 {
-    if writer.has_attribute(Fingerprint::TYPE) {
+    if writer.ended().fingerprint {
         return Err(StunWriteError::FingerprintExists);
     }
     let end = end_of_add(&*writer, SIZE)?;

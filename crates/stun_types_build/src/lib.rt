@@ -1,7 +1,6 @@
 //! What is added to a message that was begun, by any writer.
 #![tactic(auto)]
 
-pub mod agreement;
 pub mod ext;
 mod fingerprint;
 pub mod room;

@@ -1,10 +1,15 @@
-//! How long a message may grow.
+//! What may be added to a message, and how long it may grow.
 
-ghost use Rattle.std.specs.Prelude.{◌≡◌, ◌≢◌, ◌+◌, ◌*◌, ◌≤◌, length, IfOk, IfErr, IfSome, None, Some};
-ghost use Rattle.stun_types_write.specs.Adding.{greatest_size, size_refusal};
+ghost use Rattle.std.specs.Prelude.{◌≡◌, ◌≢◌, ◌*◌, ◌≤◌, length, IfErr, MatchResult, None, Some};
+ghost use Rattle.stun_types_write.specs.Adding.{greatest_size};
+ghost use Rattle.stun_types_write.specs.Outcomes.{Fits, IsTooLong};
+ghost use Rattle.stun_types_integrity.specs.Signing.{order_refusal};
 
+use stun_types_wire::algorithm::IntegrityAlgorithm;
+use stun_types_wire::attribute::{MESSAGE_INTEGRITY, MESSAGE_INTEGRITY_SHA256};
 use stun_types_wire::error::StunWriteError;
 use stun_types_wire::header::MessageHeader;
+use stun_types_write::ended::Ended;
 use stun_types_write::writer::MessageWrite;
 
 /// The greatest length that a header tells, in sixteen bits.
@@ -16,14 +21,10 @@ const MAX_MESSAGE_LENGTH: usize = 65_555;
 /// Where a message ends to which so many bytes are added. Refused with `TooLarge` where its length
 /// field can't tell that, and with `TooSmall` where the writer has not the room.
 pub fn end_of_add<W: MessageWrite>(writer: &W, size: usize) -> Result<usize, StunWriteError>
-    requires begun { length (W.written writer.now) ≤ greatest_size }
+    requires begun { length (W.draft writer.now).bytes ≤ greatest_size }
     requires small { size ≤ 2 * greatest_size }
-    ensures end { IfOk result (λ end. end ≡ length (W.written writer.now) + size) }
-    ensures fits { IfOk result (λ end. end ≤ greatest_size) }
-    ensures room { IfOk result (λ end. IfSome (W.limit writer.now) (λ most. end ≤ most)) }
-    ensures accepted { IfOk result (λ end. size_refusal (W.limit writer.now) (length (W.written writer.now) + size) ≡ None) }
-    ensures refused { IfErr result (λ error. size_refusal (W.limit writer.now) (length (W.written writer.now) + size) ≡ Some error) }
-    ensures named { IfErr result (λ error. error ≢ StunWriteError.NoMemory) }
+    ensures { MatchResult result (Fits (W.draft writer.now) size)
+        (IsTooLong (W.draft writer.now) size) }
 {
     let end = writer.len() + size;
     if end > MAX_MESSAGE_LENGTH {
@@ -41,4 +42,34 @@ pub fn end_of_add<W: MessageWrite>(writer: &W, size: usize) -> Result<usize, Stu
         }
     }
     Ok(end)
+}
+
+/// Whether the integrity attribute of an algorithm may follow what was added (RFC 8489, sections 14.5
+/// to 14.7). Refused, in this order: `FingerprintExists`; `AttributeExists` where that attribute was
+/// added; `MessageIntegrityExists` where MESSAGE-INTEGRITY-SHA256 was and `Sha1` is asked for.
+#[tactic(auto, unfolding(stun_types_integrity::specs::Signing::order_refusal))]
+pub fn may_sign(ended: Ended, algorithm: IntegrityAlgorithm) -> Result<(), StunWriteError>
+    ensures order { MatchResult result (λ _. order_refusal ended algorithm ≡ None)
+        (λ error. order_refusal ended algorithm ≡ Some error) }
+    ensures named { IfErr result (λ error. error ≢ StunWriteError.NoMemory) }
+{
+    if ended.fingerprint {
+        return Err(StunWriteError::FingerprintExists);
+    }
+    match algorithm {
+        IntegrityAlgorithm::Sha1 => {
+            if ended.integrity {
+                return Err(StunWriteError::AttributeExists(MESSAGE_INTEGRITY));
+            }
+            if ended.sha256 {
+                return Err(StunWriteError::MessageIntegrityExists);
+            }
+        }
+        IntegrityAlgorithm::Sha256 => {
+            if ended.sha256 {
+                return Err(StunWriteError::AttributeExists(MESSAGE_INTEGRITY_SHA256));
+            }
+        }
+    }
+    Ok(())
 }

@@ -1,27 +1,26 @@
 //! The integrity attribute, added at the end of a message (RFC 8489, sections 14.5 and 14.6).
 
-ghost use Rattle.std.specs.Prelude.{◌≡◌, ◌≢◌, ◌+◌, ◌≤◌, ◌^◌, ◌++◌, ◌∷◌, [], length, drop, ℕ, List, OnOk, OnErr, IfErr, IfSome, MatchResult, None, Some};
-ghost use Rattle.stun_types_wire.specs.Attributes.{Attr, padded};
-ghost use Rattle.stun_types_wire.specs.Text.{attribute_text, message_text};
-ghost use Rattle.stun_types_write.specs.Adding.{after_add, attr_of, greatest_size, IsBegun};
+ghost use Rattle.std.specs.Prelude.{◌≡◌, ◌≢◌, ◌≤◌, length, OnOk, OnErr, Err, IsOk, IsSome};
+ghost use Rattle.stun_types_wire.specs.Attributes.{attr_size};
 ghost use Rattle.stun_types_wire.specs.Covered.{with_length};
+ghost use Rattle.stun_types_write.specs.Adding.{attr_of, greatest_size, IsBegun};
 ghost use Rattle.stun_types_integrity.specs.Hmacs.{hmac_bytes};
-ghost use Rattle.stun_types_integrity.specs.Integrity.{attribute_kind, integrity_hmac};
-ghost use Rattle.stun_types_integrity.specs.Signing.{hmac_length as length_of_hmac, order_refusal, signature, signing_refusal};
+ghost use Rattle.stun_types_integrity.specs.Integrity.{integrity_hmac};
+ghost use Rattle.stun_types_integrity.specs.Signing.{hmac_length as length_of_hmac, signature, signing_refusal};
+ghost use Rattle.stun_types_write.specs.Drafts.{HasRoom, pushed_attribute};
+ghost use Rattle.stun_types_write.specs.Outcomes.{IsAdded};
+ghost use Rattle.stun_types_base.specs.Refusals.{RefusesFor};
 
-use crate::room::end_of_add;
+use crate::room::{end_of_add, may_sign};
 use stun_types_base::memory::NoMemory;
-use stun_types_fingerprint::fingerprint::Fingerprint;
-use stun_types_integrity::algorithm::{
-    MESSAGE_INTEGRITY, MESSAGE_INTEGRITY_SHA256, attribute_type, hmac_length,
-};
+use stun_types_integrity::algorithm::{attribute_type, hmac_length};
 use stun_types_integrity::hmac::IntegrityHmac;
 use stun_types_integrity::key::IntegrityKey;
 use stun_types_wire::algorithm::IntegrityAlgorithm;
 use stun_types_wire::attribute::RawAttribute;
 use stun_types_wire::error::StunWriteError;
 use stun_types_wire::header::MessageHeader;
-use stun_types_write::attribute::{Attribute, AttributeStaticType, AttributeWrite};
+use stun_types_write::attribute::{Attribute, AttributeWrite};
 use stun_types_write::writer::MessageWrite;
 
 /// Adds the integrity attribute of an algorithm under a key. What it refuses stands at
@@ -32,19 +31,15 @@ pub(crate) fn sign<W: MessageWrite>(
     key: &IntegrityKey,
     algorithm: IntegrityAlgorithm,
 ) -> Result<(), StunWriteError>
-    requires begun { IsBegun (W.written writer.old) }
-    ensures ok { OnOk result (W.written writer.new ≡ after_add (W.written writer.old) (signature algorithm key.now.bytes (W.written writer.old))) }
-    ensures kinds { OnOk result (W.kinds writer.new ≡ W.kinds writer.old ++ attribute_kind algorithm ∷ []) }
-    ensures text { OnOk result ((mtype number : ℕ) (adds : List Attr) → W.written writer.old ≡ message_text mtype number adds → W.written writer.new ≡ message_text mtype number (adds ++ signature algorithm key.now.bytes (message_text mtype number adds) ∷ [])) }
-    ensures accepted { OnOk result (signing_refusal (W.kinds writer.old) (W.limit writer.old) (length (W.written writer.old)) key.now.algorithm algorithm ≡ None) }
-    ensures refused { IfErr result (λ error. error ≢ StunWriteError.NoMemory → signing_refusal (W.kinds writer.old) (W.limit writer.old) (length (W.written writer.old)) key.now.algorithm algorithm ≡ Some error) }
-    ensures last { IfErr result (λ error. error ≡ StunWriteError.NoMemory → signing_refusal (W.kinds writer.old) (W.limit writer.old) (length (W.written writer.old)) key.now.algorithm algorithm ≡ None) }
-    ensures unchanged { OnErr result ((W.written writer.new ≡ W.written writer.old) × (W.kinds writer.new ≡ W.kinds writer.old)) }
-    ensures behind { MatchResult result (λ _. W.behind writer.new ≡ drop (4 + length_of_hmac algorithm) (W.behind writer.old)) (λ _. W.behind writer.new ≡ W.behind writer.old) }
-    ensures limit { W.limit writer.new ≡ W.limit writer.old }
-    ensures begun { IsBegun (W.written writer.new) }
+    requires begun { IsBegun (W.draft writer.old).bytes }
+    ensures ok { OnOk result (IsAdded (signature algorithm key.now.bytes (W.draft writer.old).bytes)
+        (W.draft writer.old) (W.draft writer.new)) }
+    ensures err { OnErr result (W.draft writer.new ≡ W.draft writer.old) }
+    ensures cause { RefusesFor StunWriteError.NoMemory
+        (signing_refusal (W.draft writer.old) key.now.algorithm algorithm) result }
+    ensures lent { IsSome (W.draft writer.old).limit → result ≢ Err StunWriteError.NoMemory }
 {
-    may_sign(&*writer, algorithm)?;
+    may_sign(writer.ended(), algorithm)?;
     if key.algorithm() != algorithm {
         return Err(StunWriteError::IntegrityFailed);
     }
@@ -57,41 +52,12 @@ pub(crate) fn sign<W: MessageWrite>(
     Ok(())
 }
 
-/// Whether the integrity attribute of an algorithm may follow what was added.
-#[tactic(auto, unfolding(stun_types_integrity::specs::Signing::order_refusal))]
-pub(crate) fn may_sign<W: MessageWrite>(
-    writer: &W,
-    algorithm: IntegrityAlgorithm,
-) -> Result<(), StunWriteError>
-    ensures order { MatchResult result (λ _. order_refusal (W.kinds writer.now) algorithm ≡ None) (λ error. order_refusal (W.kinds writer.now) algorithm ≡ Some error) }
-    ensures named { IfErr result (λ error. error ≢ StunWriteError.NoMemory) }
-{
-    if writer.has_attribute(Fingerprint::TYPE) {
-        return Err(StunWriteError::FingerprintExists);
-    }
-    match algorithm {
-        IntegrityAlgorithm::Sha1 => {
-            if writer.has_attribute(MESSAGE_INTEGRITY) {
-                return Err(StunWriteError::AttributeExists(MESSAGE_INTEGRITY));
-            }
-            if writer.has_attribute(MESSAGE_INTEGRITY_SHA256) {
-                return Err(StunWriteError::MessageIntegrityExists);
-            }
-        }
-        IntegrityAlgorithm::Sha256 => {
-            if writer.has_attribute(MESSAGE_INTEGRITY_SHA256) {
-                return Err(StunWriteError::AttributeExists(MESSAGE_INTEGRITY_SHA256));
-            }
-        }
-    }
-    Ok(())
-}
-
 /// The HMAC of a message under a key, as if its header told this length.
 #[tactic(auto, unfolding(stun_types_wire::specs::Covered::with_length))]
 fn hmac_told(bytes: &[u8], len: u16, key: &IntegrityKey) -> IntegrityHmac
     requires { 20 ≤ length bytes.now }
-    ensures bytes { hmac_bytes result ≡ integrity_hmac key.now.algorithm key.now.bytes (with_length bytes.now len) }
+    ensures bytes { hmac_bytes result
+        ≡ integrity_hmac key.now.algorithm key.now.bytes (with_length bytes.now len) }
     ensures size { length (hmac_bytes result) ≡ length_of_hmac key.now.algorithm }
 {
     let (head, _) = bytes.split_at(2);
@@ -106,15 +72,17 @@ pub(crate) fn push_as<W: MessageWrite, A: AttributeWrite>(
     attribute: &dyn AttributeWrite,
     same: &A,
 ) -> Result<(), NoMemory>
-    requires size { length (W.written writer.old) ≤ greatest_size }
-    requires room { IfSome (W.limit writer.old) (λ most. length (W.written writer.old) + (4 + padded (length (A.value same.now))) ≤ most) }
-    requires kind { (⟦<dyn AttributeWrite as Attribute>⟧ attribute.now.0).kind attribute.now.1 ≡ A.kind same.now }
-    requires value { (⟦<dyn AttributeWrite as Attribute>⟧ attribute.now.0).value attribute.now.1 ≡ A.value same.now }
-    ensures ok { OnOk result (W.written writer.new ≡ W.written writer.old ++ attribute_text (attr_of (A.kind same.now) (A.value same.now))) }
-    ensures ok_kinds { OnOk result (W.kinds writer.new ≡ W.kinds writer.old ++ A.kind same.now ∷ []) }
-    ensures err { OnErr result ((W.written writer.new ≡ W.written writer.old) × (W.kinds writer.new ≡ W.kinds writer.old)) }
-    ensures behind { MatchResult result (λ _. W.behind writer.new ≡ drop (4 + padded (length (A.value same.now))) (W.behind writer.old)) (λ _. W.behind writer.new ≡ W.behind writer.old) }
-    ensures limit { W.limit writer.new ≡ W.limit writer.old }
+    requires size { length (W.draft writer.old).bytes ≤ greatest_size }
+    requires room { HasRoom (W.draft writer.old)
+        (attr_size (attr_of (A.kind same.now) (A.value same.now))) }
+    requires kind { (⟦<dyn AttributeWrite as Attribute>⟧ attribute.now.0).kind attribute.now.1
+        ≡ A.kind same.now }
+    requires value { (⟦<dyn AttributeWrite as Attribute>⟧ attribute.now.0).value attribute.now.1
+        ≡ A.value same.now }
+    ensures lent { IsSome (W.draft writer.old).limit → IsOk result }
+    ensures ok { OnOk result (W.draft writer.new
+        ≡ pushed_attribute (attr_of (A.kind same.now) (A.value same.now)) (W.draft writer.old)) }
+    ensures err { OnErr result (W.draft writer.new ≡ W.draft writer.old) }
 {
     writer.push_attribute_unchecked(attribute)
 }

@@ -29,7 +29,8 @@ pub record IsRemainder (text : List ℕ) (left : ℕ) : Type 0 where
   pub quotient : List Bool
   pub long : length quotient ≡ 8 * length text
   pub fits : left < 2 ^ 32
-  pub divides : bit_xor (text_polynomial text) 0xffffffff ≡ bit_xor (times_generator quotient) (left * 2 ^ (8 * length text))
+  pub divides : bit_xor (text_polynomial text) 0xffffffff
+      ≡ bit_xor (times_generator quotient) (left * 2 ^ (8 * length text))
 
 -- the register after one more bit: its highest coefficient leaves it, and where that was 1 the
 -- generator is taken from it, of which all coefficients but the highest are `generator / 2`

@@ -4,6 +4,7 @@ use Rattle.stun_types_digest.specs.Hmac.{xor_each, block_key, inner_pad, outer_p
 use Rattle.stun_types_digest.specs.declared.hmac.Hmac.{Hmac}
 
 -- the inner digest has taken the key with ipad and the text so far, the outer one the key with opad
-pub record HasText {D : Type 0} {BLOCK SIZE : ℕ} (has_taken : D → List ℕ → Type 0) (digest : List ℕ → List ℕ) (state : Hmac D BLOCK SIZE) (key text : List ℕ) : Type 0 where
+pub record HasText {D : Type 0} {BLOCK SIZE : ℕ} (has_taken : D → List ℕ → Type 0) (digest : List ℕ → List ℕ)
+    (state : Hmac D BLOCK SIZE) (key text : List ℕ) : Type 0 where
   pub inside : has_taken state.inner (xor_each inner_pad (block_key digest BLOCK key) ++ text)
   pub outside : has_taken state.outer (xor_each outer_pad (block_key digest BLOCK key))

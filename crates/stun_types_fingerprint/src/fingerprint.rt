@@ -1,6 +1,7 @@
 //! FINGERPRINT (RFC 8489, section 14.7).
 
-ghost use Rattle.std.specs.Prelude.{◌≡◌, ◌≤◌, ◌∷◌, None, Some, length, slice_index, bit_xor, bytes_eq, MatchResult};
+ghost use Rattle.std.specs.Prelude.{◌≡◌, ◌≤◌, ◌∷◌, None, length, slice_index, bit_xor, bytes_eq, MatchResult};
+ghost use Rattle.stun_types_write.specs.Reading.{IsNamed};
 ghost use Rattle.byteorder.specs.Endian.{big_bytes, big_number};
 ghost use Rattle.stun_types_wire.specs.Covered.{with_length};
 ghost use Rattle.stun_types_wire.specs.Fingerprints.{fingerprint_mask, fingerprint_value};
@@ -151,6 +152,7 @@ impl AttributeWrite for Fingerprint {
 /// `TooLarge` where it is longer.
 impl<'a, 'raw> TryFrom<&'raw RawAttribute<'a>> for Fingerprint {
     ghost use Rattle.std.specs.Prelude.{◌≡◌, MatchResult, Some, None, bit_xor};
+    ghost use Rattle.stun_types_write.specs.Reading.{IsNamed};
     ghost use Rattle.byteorder.specs.Endian.{big_number};
     ghost use Rattle.stun_types_write.specs.Reading.{value_refusal};
     ghost use Rattle.stun_types_wire.specs.Fingerprints.{fingerprint_mask};
@@ -158,7 +160,10 @@ impl<'a, 'raw> TryFrom<&'raw RawAttribute<'a>> for Fingerprint {
 
     type Error = StunParseError;
 
-    ghost try_from_gives = { λ raw result. MatchResult result (λ read. (value_refusal 0x8028 4 4 raw.now ≡ None) × (read ≡ bit_xor (big_number 4 raw.now.value) fingerprint_mask) × (turned_bytes read ≡ raw.now.value)) (λ error. value_refusal 0x8028 4 4 raw.now ≡ Some error) };
+    ghost try_from_gives = { λ raw result. MatchResult result
+        (λ read. (value_refusal 0x8028 4 4 raw.now ≡ None)
+        × (read ≡ bit_xor (big_number 4 raw.now.value) fingerprint_mask)
+        × (turned_bytes read ≡ raw.now.value)) (IsNamed (value_refusal 0x8028 4 4 raw.now)) };
 
     fn try_from(raw: &'raw RawAttribute<'a>) -> Result<Fingerprint, StunParseError> {
         let crc = crc_of(raw)?;
@@ -200,7 +205,9 @@ fn bytes_of_crc(crc: u32) -> [u8; 4]
 
 /// The CRC-32 in the value of a FINGERPRINT. Refused as `try_from` is.
 fn crc_of(raw: &RawAttribute<'_>) -> Result<u32, StunParseError>
-    ensures { MatchResult result (λ crc. (value_refusal 0x8028 4 4 raw.now ≡ None) × (raw.now.kind ≡ 0x8028) × (crc ≡ bit_xor (big_number 4 raw.now.value) fingerprint_mask) × (turned_bytes crc ≡ raw.now.value)) (λ error. value_refusal 0x8028 4 4 raw.now ≡ Some error) }
+    ensures { MatchResult result (λ crc. (value_refusal 0x8028 4 4 raw.now ≡ None)
+        × (raw.now.kind ≡ 0x8028) × (crc ≡ bit_xor (big_number 4 raw.now.value) fingerprint_mask)
+        × (turned_bytes crc ≡ raw.now.value)) (IsNamed (value_refusal 0x8028 4 4 raw.now)) }
 {
     let value = value_of(raw, Fingerprint::TYPE, 4, 4)?;
     Ok(turned_number(value))

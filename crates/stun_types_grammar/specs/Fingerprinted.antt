@@ -9,7 +9,8 @@ use Rattle.stun_types_wire.specs.Text.{message_text}
 
 -- an attribute of some bytes, at its offset, has the value of what it covers, if it is a FINGERPRINT
 abbrev pub IsRightFingerprint : List ℕ → ℕ × Attr → Type 0
-IsRightFingerprint bytes entry = entry.1.kind ≡ fingerprint_kind → entry.1.value ≡ fingerprint_value (covered_text bytes entry.0)
+IsRightFingerprint bytes entry = entry.1.kind ≡ fingerprint_kind → entry.1.value
+    ≡ fingerprint_value (covered_text bytes entry.0)
 
 -- each FINGERPRINT among attributes of some bytes is right
 abbrev pub AreRightFingerprints : List ℕ → List (ℕ × Attr) → Type 0

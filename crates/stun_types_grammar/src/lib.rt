@@ -23,22 +23,28 @@ pub fn shown_is_longest_front()
 /// exactly where some continuation is one and they are fewer than twenty, and not at all exactly
 /// where a header stands at their front (RFC 8489, section 5).
 pub fn header_refusals()
-    ensures not_stun { (bytes : List ℕ) → AreBytes bytes → (header_refusal bytes ≡ Some NotStun) ↔ (¬ MayBecomeHeader bytes) }
-    ensures truncated { (bytes : List ℕ) → AreBytes bytes → (header_refusal bytes ≡ Some (Truncated 20 (length bytes))) ↔ ((length bytes < 20) × MayBecomeHeader bytes) }
-    ensures accepted { (bytes : List ℕ) → AreBytes bytes → (header_refusal bytes ≡ None) ↔ BeginsWithHeader bytes }
+    ensures not_stun { (bytes : List ℕ) → AreBytes bytes → (header_refusal bytes ≡ Some NotStun)
+        ↔ (¬ MayBecomeHeader bytes) }
+    ensures truncated { (bytes : List ℕ) → AreBytes bytes
+        → (header_refusal bytes ≡ Some (Truncated 20 (length bytes)))
+        ↔ ((length bytes < 20) × MayBecomeHeader bytes) }
+    ensures accepted { (bytes : List ℕ) → AreBytes bytes → (header_refusal bytes ≡ None)
+        ↔ BeginsWithHeader bytes }
 {}
 
 /// Among attributes none is a wrong FINGERPRINT exactly where each FINGERPRINT has four bytes, which
 /// are the CRC-32 of the message before it, with the length that reaches through it, combined with
 /// `STUN` (RFC 8489, section 14.7).
 pub fn fingerprint_refusals()
-    ensures { (bytes : List ℕ) (entries : List (ℕ × Attr)) → (fingerprint_refusal bytes entries ≡ None) ↔ AreRightFingerprints bytes entries }
+    ensures { (bytes : List ℕ) (entries : List (ℕ × Attr))
+        → (fingerprint_refusal bytes entries ≡ None) ↔ AreRightFingerprints bytes entries }
 {}
 
 /// The text of a message whose FINGERPRINT is right, if it has one, is read as that message, whatever
 /// its padding is and whatever stands behind where the shape is left (RFC 8489, sections 5 and 14).
 pub fn text_is_read()
-    ensures { (kind number : ℕ) (all : List Attr) (bytes : List ℕ) → IsTextOf kind number all bytes → AreRightFingerprints bytes (numbered 20 all) → IsReadAs kind number all bytes }
+    ensures { (kind number : ℕ) (all : List Attr) (bytes : List ℕ) → IsTextOf kind number all bytes
+        → AreRightFingerprints bytes (numbered 20 all) → IsReadAs kind number all bytes }
 {}
 
 /// A message is the text of what is read of it: the header that it tells, each attribute that it
@@ -46,8 +52,10 @@ pub fn text_is_read()
 /// by which the shape is left. Its FINGERPRINT is right, if it shows one. With the law before, this
 /// says which bytes are a message.
 pub fn message_is_text()
-    ensures text { (bytes : List ℕ) → AreBytes bytes → refusal bytes ≡ None → IsTextOf (kind_at bytes) (number_at bytes) (shown bytes) bytes }
-    ensures fingerprint { (bytes : List ℕ) → refusal bytes ≡ None → AreRightFingerprints bytes (numbered 20 (shown bytes)) }
+    ensures text { (bytes : List ℕ) → AreBytes bytes → refusal bytes ≡ None
+        → IsTextOf (kind_at bytes) (number_at bytes) (shown bytes) bytes }
+    ensures fingerprint { (bytes : List ℕ) → refusal bytes ≡ None
+        → AreRightFingerprints bytes (numbered 20 (shown bytes)) }
 {}
 
 /// A message as a writer writes it, without a FINGERPRINT or with the right one at its end, is

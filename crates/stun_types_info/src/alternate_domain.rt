@@ -1,6 +1,7 @@
 //! ALTERNATE-DOMAIN (RFC 8489, section 14.16).
 
-ghost use Rattle.std.specs.Prelude.{◌≡◌, ◌≢◌, ◌≤◌, IfOk, IfErr, None, Some, length};
+ghost use Rattle.std.specs.Prelude.{◌≡◌, ◌≤◌, IfOk, None, length};
+ghost use Rattle.stun_types_base.specs.Refusals.{RefusesFor};
 ghost use Rattle.stun_types_attribute.specs.Texts.{text_refusal};
 ghost use Rattle.stun_types_info.specs.Texts.{longest_domain};
 
@@ -41,9 +42,10 @@ impl AlternateDomain {
     /// The ALTERNATE-DOMAIN of a text. Refused with `TooLarge` where the text has more than 255 bytes;
     /// where memory is refused, with `NoMemory`.
     pub fn new(alloc: Global, domain: &str) -> Result<AlternateDomain, StunWriteError>
-        ensures ok { IfOk result (λ made. (made ≡ domain.now) × (text_refusal longest_domain domain.now ≡ None)) }
-        ensures refused { IfErr result (λ error. error ≢ StunWriteError.NoMemory → text_refusal longest_domain domain.now ≡ Some error) }
-        ensures last { IfErr result (λ error. error ≡ StunWriteError.NoMemory → text_refusal longest_domain domain.now ≡ None) }
+        ensures ok { IfOk result (λ made. (made ≡ domain.now)
+            × (text_refusal longest_domain domain.now ≡ None)) }
+        ensures cause { RefusesFor StunWriteError.NoMemory
+            (text_refusal longest_domain domain.now) result }
     {
         if domain.len() > AlternateDomain::MAX_LEN {
             return Err(StunWriteError::TooLarge {

@@ -1,6 +1,7 @@
 //! ALTERNATE-SERVER (RFC 8489, section 14.15).
 
-ghost use Rattle.std.specs.Prelude.{◌≡◌};
+ghost use Rattle.std.specs.Prelude.{Some, ◌≡◌};
+ghost use Rattle.stun_types_write.specs.Reading.{IsNamed};
 ghost use Rattle.stun_types_address.specs.Addresses.{address_of, address_value};
 
 use std::alloc::Global;
@@ -42,7 +43,7 @@ impl AlternateServer {
 
     /// The address, with no flow information and no scope.
     pub fn server(&self) -> SocketAddr
-        ensures told { result ≡ address_of self.now }
+        ensures told { Some result ≡ address_of self.now }
         ensures value { address_value result ≡ self.now }
     {
         self.addr.addr()
@@ -85,11 +86,14 @@ impl AttributeWrite for AlternateServer {
 /// has not the 8 bytes of IPv4 or the 20 of IPv6.
 impl<'a, 'raw> TryFrom<&'raw RawAttribute<'a>> for AlternateServer {
     ghost use Rattle.std.specs.Prelude.{◌≡◌, MatchResult, Some, None};
+    ghost use Rattle.stun_types_write.specs.Reading.{IsNamed};
     ghost use Rattle.stun_types_address.specs.Addresses.{address_again, address_read_refusal};
 
     type Error = StunParseError;
 
-    ghost try_from_gives = { λ raw result. MatchResult result (λ read. (address_read_refusal 0x8023 raw.now ≡ None) × (read ≡ address_again raw.now.value)) (λ error. address_read_refusal 0x8023 raw.now ≡ Some error) };
+    ghost try_from_gives = { λ raw result. MatchResult result
+        (λ read. (address_read_refusal 0x8023 raw.now ≡ None)
+        × (read ≡ address_again raw.now.value)) (IsNamed (address_read_refusal 0x8023 raw.now)) };
 
     fn try_from(raw: &'raw RawAttribute<'a>) -> Result<AlternateServer, StunParseError> {
         let addr = MappedSocketAddr::from_raw_of_type(raw, AlternateServer::TYPE)?;

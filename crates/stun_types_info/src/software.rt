@@ -1,6 +1,7 @@
 //! SOFTWARE (RFC 8489, section 14.14).
 
-ghost use Rattle.std.specs.Prelude.{◌≡◌, ◌≢◌, ◌≤◌, IfOk, IfErr, None, Some, length};
+ghost use Rattle.std.specs.Prelude.{◌≡◌, ◌≤◌, IfOk, None, length};
+ghost use Rattle.stun_types_base.specs.Refusals.{RefusesFor};
 ghost use Rattle.stun_types_attribute.specs.Texts.{text_refusal};
 ghost use Rattle.stun_types_info.specs.Texts.{longest_software};
 
@@ -41,9 +42,10 @@ impl Software {
     /// The SOFTWARE of a text. Refused with `TooLarge` where the text has more than 763 bytes; where
     /// memory is refused, with `NoMemory`.
     pub fn new(alloc: Global, software: &str) -> Result<Software, StunWriteError>
-        ensures ok { IfOk result (λ made. (made ≡ software.now) × (text_refusal longest_software software.now ≡ None)) }
-        ensures refused { IfErr result (λ error. error ≢ StunWriteError.NoMemory → text_refusal longest_software software.now ≡ Some error) }
-        ensures last { IfErr result (λ error. error ≡ StunWriteError.NoMemory → text_refusal longest_software software.now ≡ None) }
+        ensures ok { IfOk result (λ made. (made ≡ software.now)
+            × (text_refusal longest_software software.now ≡ None)) }
+        ensures cause { RefusesFor StunWriteError.NoMemory
+            (text_refusal longest_software software.now) result }
     {
         if software.len() > Software::MAX_LEN {
             return Err(StunWriteError::TooLarge {

@@ -1,6 +1,8 @@
 //! UNKNOWN-ATTRIBUTES (RFC 8489, section 14.13).
 
-ghost use Rattle.std.specs.Prelude.{◌≡◌, ◌≢◌, ◌+◌, ◌*◌, ◌%◌, ◌≤◌, ◌++◌, ◌∷◌, [], IfOk, IfErr, OnOk, OnErr, MatchResult, None, Some, length, map};
+ghost use Rattle.std.specs.Prelude.{◌≡◌, ◌+◌, ◌*◌, ◌%◌, ◌≤◌, ◌++◌, ◌∷◌, [], IfOk, OnOk, OnErr, MatchResult, None, Some, length, map};
+ghost use Rattle.stun_types_base.specs.Refusals.{RefusesFor};
+ghost use Rattle.stun_types_write.specs.Reading.{IsNamed};
 ghost use Rattle.stun_types_write.specs.Adding.{has_kind};
 ghost use Rattle.stun_types_info.specs.Types.{longest_value, types_read_refusal, types_refusal, types_told, types_value, with_type};
 
@@ -30,7 +32,8 @@ impl Model for UnknownAttributes {
 
     ghost view = { λ a. types_told a.bytes.items };
 
-    ghost invariant = { λ a. (length a.bytes.items % 2 ≡ 0) × (length a.bytes.items ≤ longest_value) };
+    ghost invariant = { λ a. (length a.bytes.items % 2 ≡ 0)
+        × (length a.bytes.items ≤ longest_value) };
 }
 
 impl UnknownAttributes {
@@ -41,9 +44,10 @@ impl UnknownAttributes {
     /// with `TooLarge` where their value would have more than 65,535 bytes; where memory is refused,
     /// with `NoMemory`.
     pub fn new(alloc: Global, types: &[AttributeType]) -> Result<UnknownAttributes, StunWriteError>
-        ensures ok { IfOk result (λ made. (made ≡ map (λ t. t.0) types.now) × (types_refusal (length types.now) ≡ None)) }
-        ensures refused { IfErr result (λ error. error ≢ StunWriteError.NoMemory → types_refusal (length types.now) ≡ Some error) }
-        ensures last { IfErr result (λ error. error ≡ StunWriteError.NoMemory → types_refusal (length types.now) ≡ None) }
+        ensures ok { IfOk result (λ made. (made ≡ map (λ t. t.0) types.now)
+            × (types_refusal (length types.now) ≡ None)) }
+        ensures cause { RefusesFor StunWriteError.NoMemory
+            (types_refusal (length types.now)) result }
     {
         let len = 2 * types.len();
         if len > UnknownAttributes::MAX_LEN {
@@ -69,9 +73,8 @@ impl UnknownAttributes {
     #[tactic(auto, using(crate::proofs::TypeLists::told_length))]
     pub fn add_attribute(&mut self, atype: AttributeType) -> Result<(), StunWriteError>
         ensures added { OnOk result (self.new ≡ with_type atype.0 self.old) }
-        ensures fits { OnOk result (types_refusal (length (with_type atype.0 self.old)) ≡ None) }
-        ensures refused { IfErr result (λ error. error ≢ StunWriteError.NoMemory → types_refusal (length (with_type atype.0 self.old)) ≡ Some error) }
-        ensures last { IfErr result (λ error. error ≡ StunWriteError.NoMemory → types_refusal (length (with_type atype.0 self.old)) ≡ None) }
+        ensures cause { RefusesFor StunWriteError.NoMemory
+            (types_refusal (length (with_type atype.0 self.old))) result }
         ensures unchanged { OnErr result (self.new ≡ self.old) }
     {
         if self.has_attribute(atype) {
@@ -168,7 +171,10 @@ impl<'a> AttributeFromRaw<'a> for UnknownAttributes {
 /// The value of an UNKNOWN-ATTRIBUTES. Refused as the attribute is, but for memory.
 #[tactic(auto, unfolding(crate::specs::Types::types_read_refusal, crate::specs::Types::odd_refusal))]
 fn even_value_of<'raw>(raw: &'raw RawAttribute<'_>) -> Result<&'raw [u8], StunParseError>
-    ensures { MatchResult result (λ value. (types_read_refusal raw.now ≡ None) × (raw.now.kind ≡ 0x000A) × (value.now ≡ raw.now.value) × (length value.now % 2 ≡ 0) × (length value.now ≤ longest_value) × (types_value (types_told value.now) ≡ value.now)) (λ error. types_read_refusal raw.now ≡ Some error) }
+    ensures { MatchResult result (λ value. (types_read_refusal raw.now ≡ None)
+        × (raw.now.kind ≡ 0x000A) × (value.now ≡ raw.now.value) × (length value.now % 2 ≡ 0)
+        × (length value.now ≤ longest_value) × (types_value (types_told value.now) ≡ value.now))
+        (IsNamed (types_read_refusal raw.now)) }
 {
     let value = value_of(raw, UnknownAttributes::TYPE, 0, UnknownAttributes::MAX_LEN)?;
     if value.len() % 2 != 0 {
@@ -202,7 +208,8 @@ fn bytes_of(alloc: Global, types: &[AttributeType]) -> Result<Vec<u8>, NoMemory>
 #[tactic(auto, using(crate::proofs::TypeLists::told_more))]
 fn push_type(bytes: &mut Vec<u8>, atype: AttributeType) -> Result<(), NoMemory>
     requires { length bytes.old.items % 2 ≡ 0 }
-    ensures told { OnOk result (types_told bytes.new.items ≡ types_told bytes.old.items ++ atype.0 ∷ []) }
+    ensures told { OnOk result (types_told bytes.new.items ≡ types_told bytes.old.items ++ atype.0
+        ∷ []) }
     ensures length { OnOk result (length bytes.new.items ≡ length bytes.old.items + 2) }
     ensures unchanged { OnErr result (bytes.new.items ≡ bytes.old.items) }
 {

@@ -1,4 +1,5 @@
--- Message integrity: which text is covered, by which digest, and when a message validates (RFC 8489, sections 14.5 and 14.6).
+-- Message integrity: which text is covered, by which digest, and when a message validates (RFC
+-- 8489, sections 14.5 and 14.6).
 use Rattle.std.specs.Prelude.{◌≡◌, ℕ, ◌%◌, Bool, ◌==◌, ◌&&◌, nat_le, Option, Some, None, if◌then◌else◌, IsTrue, List, ◌∷◌, ◌++◌, length}
 use Rattle.std.specs.List.{AllByRecursion}
 use Rattle.sha1.specs.Sha1.{sha1}
@@ -28,7 +29,8 @@ pub record IsFront (front whole : List ℕ) : Type 0 where
   pub rest : List ℕ
   pub parts : whole ≡ front ++ rest
 
--- the lengths that the value of its attribute may have: that of the HMAC, or for SHA-256 a front of 16 bytes or more, in fours
+-- the lengths that the value of its attribute may have: that of the HMAC, or for SHA-256 a front of
+-- 16 bytes or more, in fours
 abbrev pub is_lawful_length : IntegrityAlgorithm → ℕ → Bool
 is_lawful_length Sha1 len = len == 20
 is_lawful_length Sha256 len = nat_le 16 len && (nat_le len 32 && len % 4 == 0)
@@ -39,7 +41,8 @@ algorithm_of kind = if kind == integrity_kind then Some Sha1 else if kind == sha
 
 -- ---- validation
 
--- bytes are a message that shows an attribute of the algorithm, this is the text that it covers, and its value is of a lawful length and the HMAC of that text, or a front of it
+-- bytes are a message that shows an attribute of the algorithm, this is the text that it covers,
+-- and its value is of a lawful length and the HMAC of that text, or a front of it
 pub record IsSigned (bytes key : List ℕ) (algorithm : IntegrityAlgorithm) (text : List ℕ) : Type 0 where
   pub message : IsMessage bytes
   pub before : List (ℕ × Attr)

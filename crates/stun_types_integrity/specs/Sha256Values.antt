@@ -1,4 +1,5 @@
--- Which bytes a MESSAGE-INTEGRITY-SHA256 has (RFC 8489, section 14.6): the front of an HMAC of 32, at least 16, in fours.
+-- Which bytes a MESSAGE-INTEGRITY-SHA256 has (RFC 8489, section 14.6): the front of an HMAC of 32,
+-- at least 16, in fours.
 use Rattle.std.specs.Prelude.{ℕ, ◌==◌, ◌%◌, nat_lt, List, length, Option, Some, None, if◌then◌else◌}
 use Rattle.stun_types_wire.specs.declared.error.StunParseError.{StunParseError}
 use Rattle.stun_types_wire.specs.declared.error.StunParseError.TheVariants.{InvalidAttributeData}

@@ -1,4 +1,5 @@
--- The integrity attribute that is added at the end of a message, and why it is not added (RFC 8489, sections 14.5 to 14.7).
+-- The integrity attribute that is added at the end of a message, and why it is not added (RFC 8489,
+-- sections 14.5 to 14.7).
 use Rattle.std.specs.Prelude.{ℕ, ◌+◌, ◌-◌, List, length, Option, Some, None, if◌then◌else◌}
 use Rattle.std.specs.Option.{option_or}
 use Rattle.stun_types_wire.specs.declared.algorithm.IntegrityAlgorithm.{IntegrityAlgorithm}
@@ -6,8 +7,10 @@ use Rattle.stun_types_wire.specs.declared.algorithm.IntegrityAlgorithm.TheVarian
 use Rattle.stun_types_wire.specs.declared.error.StunWriteError.{StunWriteError}
 use Rattle.stun_types_wire.specs.declared.error.StunWriteError.TheVariants.{AttributeExists, FingerprintExists, IntegrityFailed, MessageIntegrityExists}
 use Rattle.stun_types_wire.specs.Attributes.{Attr}
-use Rattle.stun_types_wire.specs.Shape.{fingerprint_kind, integrity_kind, sha256_kind}
-use Rattle.stun_types_write.specs.Adding.{has_kind, size_refusal}
+use Rattle.stun_types_wire.specs.Shape.{integrity_kind, sha256_kind}
+use Rattle.stun_types_write.specs.declared.ended.Ended.{Ended}
+use Rattle.stun_types_write.specs.Adding.{growth_refusal}
+use Rattle.stun_types_write.specs.Drafts.{Draft}
 use Rattle.stun_types_wire.specs.Covered.{with_length}
 use Rattle.stun_types_integrity.specs.Integrity.{attribute_kind, integrity_hmac}
 
@@ -22,18 +25,23 @@ text_to_sign algorithm bytes = with_length bytes (length bytes - 20 + (4 + hmac_
 
 -- the attribute itself
 unfoldable pub signature : IntegrityAlgorithm → List ℕ → List ℕ → Attr
-signature algorithm key bytes = record { kind = attribute_kind algorithm; value = integrity_hmac algorithm key (text_to_sign algorithm bytes) }
+signature algorithm key bytes = record {
+  kind = attribute_kind algorithm;
+  value = integrity_hmac algorithm key
+      (text_to_sign algorithm bytes);
+}
 
--- nothing comes after FINGERPRINT, an integrity attribute comes once, and MESSAGE-INTEGRITY doesn't come after MESSAGE-INTEGRITY-SHA256
-unfoldable pub order_refusal : List ℕ → IntegrityAlgorithm → Option StunWriteError
-order_refusal kinds Sha1 =
-    if has_kind fingerprint_kind kinds then Some FingerprintExists
-    else if has_kind integrity_kind kinds then Some (AttributeExists (record { 0 = integrity_kind }))
-    else if has_kind sha256_kind kinds then Some MessageIntegrityExists
+-- nothing comes after FINGERPRINT, an integrity attribute comes once, and MESSAGE-INTEGRITY doesn't
+-- come after MESSAGE-INTEGRITY-SHA256
+unfoldable pub order_refusal : Ended → IntegrityAlgorithm → Option StunWriteError
+order_refusal ended Sha1 =
+    if ended.fingerprint then Some FingerprintExists
+    else if ended.integrity then Some (AttributeExists (record { 0 = integrity_kind }))
+    else if ended.sha256 then Some MessageIntegrityExists
     else None
-order_refusal kinds Sha256 =
-    if has_kind fingerprint_kind kinds then Some FingerprintExists
-    else if has_kind sha256_kind kinds then Some (AttributeExists (record { 0 = sha256_kind }))
+order_refusal ended Sha256 =
+    if ended.fingerprint then Some FingerprintExists
+    else if ended.sha256 then Some (AttributeExists (record { 0 = sha256_kind }))
     else None
 
 -- a key that was made for another algorithm signs nothing
@@ -43,6 +51,9 @@ key_refusal Sha1 Sha256 = Some IntegrityFailed
 key_refusal Sha256 Sha1 = Some IntegrityFailed
 key_refusal Sha256 Sha256 = None
 
--- why a message of these types, this greatest size and this length is not signed by an algorithm, with a key of another or the same: the first cause in the order
-unfoldable pub signing_refusal : List ℕ → Option ℕ → ℕ → IntegrityAlgorithm → IntegrityAlgorithm → Option StunWriteError
-signing_refusal kinds limit len own algorithm = option_or (order_refusal kinds algorithm) (option_or (key_refusal own algorithm) (size_refusal limit (len + (4 + hmac_length algorithm))))
+-- why a message is not signed by an algorithm, with a key of another or the same: the first cause in
+-- the order
+unfoldable pub signing_refusal : Draft → IntegrityAlgorithm → IntegrityAlgorithm → Option StunWriteError
+signing_refusal draft own algorithm =
+    option_or (order_refusal draft.ended algorithm)
+    (option_or (key_refusal own algorithm) (growth_refusal draft (4 + hmac_length algorithm)))

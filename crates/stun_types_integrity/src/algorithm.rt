@@ -5,13 +5,7 @@ ghost use Rattle.stun_types_integrity.specs.Integrity.{algorithm_of as algorithm
 ghost use Rattle.stun_types_integrity.specs.Signing.{hmac_length as length_of_hmac};
 
 use stun_types_wire::algorithm::IntegrityAlgorithm;
-use stun_types_wire::attribute::AttributeType;
-
-/// The type of MESSAGE-INTEGRITY (RFC 8489, section 14.5).
-pub const MESSAGE_INTEGRITY: AttributeType = AttributeType(0x0008);
-
-/// The type of MESSAGE-INTEGRITY-SHA256 (RFC 8489, section 14.6).
-pub const MESSAGE_INTEGRITY_SHA256: AttributeType = AttributeType(0x001C);
+use stun_types_wire::attribute::{AttributeType, MESSAGE_INTEGRITY, MESSAGE_INTEGRITY_SHA256};
 
 /// The type of the attribute that holds the HMAC of an algorithm.
 pub fn attribute_type(algorithm: IntegrityAlgorithm) -> AttributeType

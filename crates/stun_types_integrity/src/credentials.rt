@@ -4,7 +4,7 @@ ghost use Rattle.std.specs.Prelude.{◌≡◌, IfOk};
 ghost use Rattle.std.specs.String.{string_bytes};
 ghost use Rattle.stun_types_integrity.specs.Credentials.{long_term_key, short_term_key};
 
-use crate::key::{IntegrityKey, md5_of_parts, sha256_of_parts};
+use crate::key::IntegrityKey;
 use std::alloc::Global;
 use std::marker::Model;
 use stun_types_base::memory::NoMemory;
@@ -24,13 +24,15 @@ impl Model for LongTermCredentials {
 
     ghost Value = { NameAndPassword };
 
-    ghost view = { λ c. record { username = string_bytes c.username; password = string_bytes c.password } };
+    ghost view = { λ c.
+        record { username = string_bytes c.username; password = string_bytes c.password } };
 }
 
 impl LongTermCredentials {
     /// The credentials of this name and password.
     pub fn new(username: String, password: String) -> Self
-        ensures { result ≡ record { username = string_bytes username; password = string_bytes password } }
+        ensures { result
+            ≡ record { username = string_bytes username; password = string_bytes password } }
     {
         LongTermCredentials { username, password }
     }
@@ -52,7 +54,12 @@ impl LongTermCredentials {
     /// The same credentials in a realm. Where memory is refused, `NoMemory`, and the realm is
     /// dropped.
     pub fn to_key(&self, alloc: Global, realm: String) -> Result<LongTermKeyCredentials, NoMemory>
-        ensures { IfOk result (λ key. key ≡ record { username = self.now.username; password = self.now.password; realm = string_bytes realm }) }
+        ensures { IfOk result (λ key. key
+            ≡ record {
+              username = self.now.username;
+              password = self.now.password;
+              realm = string_bytes realm;
+            }) }
     {
         let username = String::from_str(alloc, self.username())?;
         let password = String::from_str(alloc, self.password())?;
@@ -75,13 +82,23 @@ impl Model for LongTermKeyCredentials {
 
     ghost Value = { LongTermSecret };
 
-    ghost view = { λ c. record { username = string_bytes c.username; password = string_bytes c.password; realm = string_bytes c.realm } };
+    ghost view = { λ c.
+        record {
+          username = string_bytes c.username;
+          password = string_bytes c.password;
+          realm = string_bytes c.realm;
+        } };
 }
 
 impl LongTermKeyCredentials {
     /// The credentials of this name and password in this realm.
     pub fn new(username: String, password: String, realm: String) -> Self
-        ensures { result ≡ record { username = string_bytes username; password = string_bytes password; realm = string_bytes realm } }
+        ensures { result
+            ≡ record {
+              username = string_bytes username;
+              password = string_bytes password;
+              realm = string_bytes realm;
+            } }
     {
         LongTermKeyCredentials {
             username,
@@ -121,21 +138,13 @@ impl LongTermKeyCredentials {
     ) -> Result<IntegrityKey, NoMemory>
         ensures { IfOk result (λ key. key ≡ long_term_key self.now algorithm) }
     {
-        let username = self.username().as_bytes();
-        let realm = self.realm().as_bytes();
-        let password = self.password().as_bytes();
-        match algorithm {
-            IntegrityAlgorithm::Sha1 => {
-                IntegrityKey::new(alloc, &md5_of_parts(username, realm, password), algorithm)
-            }
-            IntegrityAlgorithm::Sha256 => {
-                IntegrityKey::new(
-                    alloc,
-                    &sha256_of_parts(username, realm, password),
-                    algorithm,
-                )
-            }
-        }
+        IntegrityKey::long_term(
+            alloc,
+            self.username(),
+            self.realm(),
+            self.password(),
+            algorithm,
+        )
     }
 }
 

@@ -1,10 +1,10 @@
 //! MESSAGE-INTEGRITY (RFC 8489, section 14.5).
 
 ghost use Rattle.std.specs.Prelude.{◌≡◌, ◌≢◌, ◌↔◌, ◌++◌, length, MatchResult, IsOk, IfErr};
+ghost use Rattle.stun_types_write.specs.Reading.{IsNamed};
 ghost use Rattle.stun_types_wire.specs.declared.algorithm.IntegrityAlgorithm.TheVariants.{Sha1};
 ghost use Rattle.stun_types_integrity.specs.Integrity.{integrity_hmac};
 
-use crate::algorithm::MESSAGE_INTEGRITY;
 use crate::key::IntegrityKey;
 use std::alloc::Global;
 use std::convert::TryFrom;
@@ -12,7 +12,7 @@ use std::marker::Model;
 use stun_types_base::memory::NoMemory;
 use stun_types_digest::hmac::HmacSha1;
 use stun_types_wire::algorithm::IntegrityAlgorithm;
-use stun_types_wire::attribute::{AttributeType, RawAttribute};
+use stun_types_wire::attribute::{AttributeType, MESSAGE_INTEGRITY, RawAttribute};
 use stun_types_wire::error::{StunParseError, StunWriteError, ValidateError};
 use stun_types_write::attribute::{
     Attribute, AttributeFromRaw, AttributeStaticType, AttributeWrite,
@@ -55,7 +55,9 @@ impl MessageIntegrity {
     /// The HMAC of a text. Refused with `IntegrityFailed` where the key was made for another
     /// algorithm.
     pub fn compute(text: &[u8], key: &IntegrityKey) -> Result<[u8; 20], StunWriteError>
-        ensures { MatchResult result (λ hmac. (key.now.algorithm ≡ Sha1) × (hmac ≡ integrity_hmac Sha1 key.now.bytes text.now)) (λ error. (error ≡ StunWriteError.IntegrityFailed) × (key.now.algorithm ≢ Sha1)) }
+        ensures { MatchResult result (λ hmac. (key.now.algorithm ≡ Sha1)
+            × (hmac ≡ integrity_hmac Sha1 key.now.bytes text.now))
+            (λ error. (error ≡ StunWriteError.IntegrityFailed) × (key.now.algorithm ≢ Sha1)) }
     {
         MessageIntegrity::compute_in_pieces(text, &[], &[], key)
     }
@@ -69,7 +71,9 @@ impl MessageIntegrity {
         tail: &[u8],
         key: &IntegrityKey,
     ) -> Result<[u8; 20], StunWriteError>
-        ensures { MatchResult result (λ hmac. (key.now.algorithm ≡ Sha1) × (hmac ≡ integrity_hmac Sha1 key.now.bytes (head.now ++ middle.now ++ tail.now))) (λ error. (error ≡ StunWriteError.IntegrityFailed) × (key.now.algorithm ≢ Sha1)) }
+        ensures { MatchResult result (λ hmac. (key.now.algorithm ≡ Sha1)
+            × (hmac ≡ integrity_hmac Sha1 key.now.bytes (head.now ++ middle.now ++ tail.now)))
+            (λ error. (error ≡ StunWriteError.IntegrityFailed) × (key.now.algorithm ≢ Sha1)) }
     {
         if key.algorithm() != IntegrityAlgorithm::Sha1 {
             return Err(StunWriteError::IntegrityFailed);
@@ -80,7 +84,8 @@ impl MessageIntegrity {
     /// Whether this is the HMAC of a text. Refused with `IntegrityFailed` where it isn't, and where
     /// the key was made for another algorithm.
     pub fn verify(text: &[u8], key: &IntegrityKey, expected: &[u8; 20]) -> Result<(), ValidateError>
-        ensures ok { IsOk result ↔ ((key.now.algorithm ≡ Sha1) × (expected.now ≡ integrity_hmac Sha1 key.now.bytes text.now)) }
+        ensures ok { IsOk result ↔ ((key.now.algorithm ≡ Sha1)
+            × (expected.now ≡ integrity_hmac Sha1 key.now.bytes text.now)) }
         ensures refused { IfErr result (λ error. error ≡ ValidateError.IntegrityFailed) }
     {
         MessageIntegrity::verify_in_pieces(text, &[], &[], key, expected)
@@ -94,7 +99,9 @@ impl MessageIntegrity {
         key: &IntegrityKey,
         expected: &[u8; 20],
     ) -> Result<(), ValidateError>
-        ensures ok { IsOk result ↔ ((key.now.algorithm ≡ Sha1) × (expected.now ≡ integrity_hmac Sha1 key.now.bytes (head.now ++ middle.now ++ tail.now))) }
+        ensures ok { IsOk result ↔ ((key.now.algorithm ≡ Sha1)
+            × (expected.now ≡ integrity_hmac Sha1 key.now.bytes
+            (head.now ++ middle.now ++ tail.now))) }
         ensures refused { IfErr result (λ error. error ≡ ValidateError.IntegrityFailed) }
     {
         match MessageIntegrity::compute_in_pieces(head, middle, tail, key) {
@@ -138,11 +145,14 @@ impl AttributeWrite for MessageIntegrity {
 /// where the value is shorter, `TooLarge` where it is longer.
 impl<'a, 'raw> TryFrom<&'raw RawAttribute<'a>> for MessageIntegrity {
     ghost use Rattle.std.specs.Prelude.{◌≡◌, MatchResult, Some, None};
+    ghost use Rattle.stun_types_write.specs.Reading.{IsNamed};
     ghost use Rattle.stun_types_write.specs.Reading.{value_refusal};
 
     type Error = StunParseError;
 
-    ghost try_from_gives = { λ raw result. MatchResult result (λ read. (value_refusal 0x0008 20 20 raw.now ≡ None) × (raw.now.kind ≡ 0x0008) × (read ≡ raw.now.value)) (λ error. value_refusal 0x0008 20 20 raw.now ≡ Some error) };
+    ghost try_from_gives = { λ raw result. MatchResult result
+        (λ read. (value_refusal 0x0008 20 20 raw.now ≡ None) × (raw.now.kind ≡ 0x0008)
+        × (read ≡ raw.now.value)) (IsNamed (value_refusal 0x0008 20 20 raw.now)) };
 
     fn try_from(raw: &'raw RawAttribute<'a>) -> Result<MessageIntegrity, StunParseError> {
         let value = value_of(raw, MessageIntegrity::TYPE, 20, 20)?;

@@ -1,11 +1,12 @@
 //! MESSAGE-INTEGRITY-SHA256 (RFC 8489, section 14.6).
 
 ghost use Rattle.std.specs.Prelude.{◌≡◌, ◌≢◌, ◌↔◌, ◌++◌, length, MatchResult, IsOk, IsTrue, IfErr, None, Some};
+ghost use Rattle.stun_types_write.specs.Reading.{IsNamed};
 ghost use Rattle.stun_types_wire.specs.declared.algorithm.IntegrityAlgorithm.TheVariants.{Sha256};
 ghost use Rattle.stun_types_integrity.specs.Integrity.{IsFront, integrity_hmac, is_lawful_length as is_lawful};
 ghost use Rattle.stun_types_integrity.specs.Sha256Values.{sha256_len_refusal, sha256_read_refusal};
 
-use crate::algorithm::{MESSAGE_INTEGRITY_SHA256, is_lawful_length};
+use crate::algorithm::is_lawful_length;
 use crate::key::IntegrityKey;
 use std::alloc::Global;
 use std::convert::TryFrom;
@@ -13,7 +14,7 @@ use std::marker::Model;
 use stun_types_base::memory::NoMemory;
 use stun_types_digest::hmac::HmacSha256;
 use stun_types_wire::algorithm::IntegrityAlgorithm;
-use stun_types_wire::attribute::{AttributeType, RawAttribute};
+use stun_types_wire::attribute::{AttributeType, MESSAGE_INTEGRITY_SHA256, RawAttribute};
 use stun_types_wire::error::{StunParseError, StunWriteError, ValidateError};
 use stun_types_write::attribute::{
     Attribute, AttributeFromRaw, AttributeStaticType, AttributeWrite,
@@ -46,7 +47,8 @@ impl MessageIntegritySha256 {
     /// fewer than 16 bytes, `TooLarge` where there are more than 32, `IntegrityFailed` where their
     /// count is no multiple of four.
     pub fn new(hmac: &[u8]) -> Result<MessageIntegritySha256, StunWriteError>
-        ensures { MatchResult result (λ made. (sha256_len_refusal (length hmac.now) ≡ None) × (made ≡ hmac.now)) (λ error. sha256_len_refusal (length hmac.now) ≡ Some error) }
+        ensures { MatchResult result (λ made. (sha256_len_refusal (length hmac.now) ≡ None)
+            × (made ≡ hmac.now)) (λ error. sha256_len_refusal (length hmac.now) ≡ Some error) }
     {
         check_len(hmac.len())?;
         Ok(of_lawful(hmac))
@@ -63,7 +65,9 @@ impl MessageIntegritySha256 {
     /// The HMAC of a text. Refused with `IntegrityFailed` where the key was made for another
     /// algorithm.
     pub fn compute(text: &[u8], key: &IntegrityKey) -> Result<[u8; 32], StunWriteError>
-        ensures { MatchResult result (λ hmac. (key.now.algorithm ≡ Sha256) × (hmac ≡ integrity_hmac Sha256 key.now.bytes text.now)) (λ error. (error ≡ StunWriteError.IntegrityFailed) × (key.now.algorithm ≢ Sha256)) }
+        ensures { MatchResult result (λ hmac. (key.now.algorithm ≡ Sha256)
+            × (hmac ≡ integrity_hmac Sha256 key.now.bytes text.now))
+            (λ error. (error ≡ StunWriteError.IntegrityFailed) × (key.now.algorithm ≢ Sha256)) }
     {
         MessageIntegritySha256::compute_in_pieces(text, &[], &[], key)
     }
@@ -77,7 +81,9 @@ impl MessageIntegritySha256 {
         tail: &[u8],
         key: &IntegrityKey,
     ) -> Result<[u8; 32], StunWriteError>
-        ensures { MatchResult result (λ hmac. (key.now.algorithm ≡ Sha256) × (hmac ≡ integrity_hmac Sha256 key.now.bytes (head.now ++ middle.now ++ tail.now))) (λ error. (error ≡ StunWriteError.IntegrityFailed) × (key.now.algorithm ≢ Sha256)) }
+        ensures { MatchResult result (λ hmac. (key.now.algorithm ≡ Sha256)
+            × (hmac ≡ integrity_hmac Sha256 key.now.bytes (head.now ++ middle.now ++ tail.now)))
+            (λ error. (error ≡ StunWriteError.IntegrityFailed) × (key.now.algorithm ≢ Sha256)) }
     {
         if key.algorithm() != IntegrityAlgorithm::Sha256 {
             return Err(StunWriteError::IntegrityFailed);
@@ -88,7 +94,9 @@ impl MessageIntegritySha256 {
     /// Whether this is the HMAC of a text, or a front of it of a length that `new` takes. Refused with
     /// `IntegrityFailed` where it isn't, and where the key was made for another algorithm.
     pub fn verify(text: &[u8], key: &IntegrityKey, expected: &[u8]) -> Result<(), ValidateError>
-        ensures ok { IsOk result ↔ ((key.now.algorithm ≡ Sha256) × IsTrue (is_lawful Sha256 (length expected.now)) × IsFront expected.now (integrity_hmac Sha256 key.now.bytes text.now)) }
+        ensures ok { IsOk result ↔ ((key.now.algorithm ≡ Sha256)
+            × IsTrue (is_lawful Sha256 (length expected.now))
+            × IsFront expected.now (integrity_hmac Sha256 key.now.bytes text.now)) }
         ensures refused { IfErr result (λ error. error ≡ ValidateError.IntegrityFailed) }
     {
         MessageIntegritySha256::verify_in_pieces(text, &[], &[], key, expected)
@@ -102,7 +110,10 @@ impl MessageIntegritySha256 {
         key: &IntegrityKey,
         expected: &[u8],
     ) -> Result<(), ValidateError>
-        ensures ok { IsOk result ↔ ((key.now.algorithm ≡ Sha256) × IsTrue (is_lawful Sha256 (length expected.now)) × IsFront expected.now (integrity_hmac Sha256 key.now.bytes (head.now ++ middle.now ++ tail.now))) }
+        ensures ok { IsOk result ↔ ((key.now.algorithm ≡ Sha256)
+            × IsTrue (is_lawful Sha256 (length expected.now))
+            × IsFront expected.now (integrity_hmac Sha256 key.now.bytes
+            (head.now ++ middle.now ++ tail.now))) }
         ensures refused { IfErr result (λ error. error ≡ ValidateError.IntegrityFailed) }
     {
         if key.algorithm() != IntegrityAlgorithm::Sha256
@@ -150,11 +161,14 @@ impl AttributeWrite for MessageIntegritySha256 {
 /// more than 32, `InvalidAttributeData` where they don't come in fours.
 impl<'a, 'raw> TryFrom<&'raw RawAttribute<'a>> for MessageIntegritySha256 {
     ghost use Rattle.std.specs.Prelude.{◌≡◌, MatchResult, Some, None};
+    ghost use Rattle.stun_types_write.specs.Reading.{IsNamed};
     ghost use Rattle.stun_types_integrity.specs.Sha256Values.{sha256_read_refusal};
 
     type Error = StunParseError;
 
-    ghost try_from_gives = { λ raw result. MatchResult result (λ read. (sha256_read_refusal raw.now ≡ None) × (raw.now.kind ≡ 0x001C) × (read ≡ raw.now.value)) (λ error. sha256_read_refusal raw.now ≡ Some error) };
+    ghost try_from_gives = { λ raw result. MatchResult result
+        (λ read. (sha256_read_refusal raw.now ≡ None) × (raw.now.kind ≡ 0x001C)
+        × (read ≡ raw.now.value)) (IsNamed (sha256_read_refusal raw.now)) };
 
     fn try_from(raw: &'raw RawAttribute<'a>) -> Result<MessageIntegritySha256, StunParseError> {
         let value = lawful_value_of(raw)?;
@@ -193,7 +207,8 @@ impl<'a> AttributeFromRaw<'a> for MessageIntegritySha256 {
 /// Whether an attribute has so many bytes. Refused as `new` is.
 #[tactic(auto, unfolding(crate::specs::Sha256Values::sha256_len_refusal))]
 fn check_len(len: usize) -> Result<(), StunWriteError>
-    ensures { MatchResult result (λ _. (sha256_len_refusal len ≡ None) × IsTrue (is_lawful Sha256 len)) (λ error. sha256_len_refusal len ≡ Some error) }
+    ensures { MatchResult result (λ _. (sha256_len_refusal len ≡ None)
+        × IsTrue (is_lawful Sha256 len)) (λ error. sha256_len_refusal len ≡ Some error) }
 {
     let (least, most) = (16, 32);
     if len < least {
@@ -228,7 +243,9 @@ fn of_lawful(bytes: &[u8]) -> MessageIntegritySha256
 /// The value of a MESSAGE-INTEGRITY-SHA256. Refused as the attribute is.
 #[tactic(auto, unfolding(crate::specs::Sha256Values::sha256_read_refusal, crate::specs::Sha256Values::fours_refusal))]
 fn lawful_value_of<'raw>(raw: &'raw RawAttribute<'_>) -> Result<&'raw [u8], StunParseError>
-    ensures { MatchResult result (λ value. (sha256_read_refusal raw.now ≡ None) × (raw.now.kind ≡ 0x001C) × (value.now ≡ raw.now.value) × IsTrue (is_lawful Sha256 (length value.now))) (λ error. sha256_read_refusal raw.now ≡ Some error) }
+    ensures { MatchResult result (λ value. (sha256_read_refusal raw.now ≡ None)
+        × (raw.now.kind ≡ 0x001C) × (value.now ≡ raw.now.value)
+        × IsTrue (is_lawful Sha256 (length value.now))) (IsNamed (sha256_read_refusal raw.now)) }
 {
     let value = value_of(raw, MessageIntegritySha256::TYPE, 16, 32)?;
     if value.len() % 4 != 0 {

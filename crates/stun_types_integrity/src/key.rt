@@ -3,6 +3,7 @@
 ghost use Rattle.std.specs.Prelude.{◌≡◌, ◌↔◌, ◌++◌, length, IfOk, IsTrue, codes};
 ghost use Rattle.md5.specs.Md5.{md5};
 ghost use Rattle.sha2.specs.Sha256.{sha256};
+ghost use Rattle.stun_types_integrity.specs.Credentials.{long_term_key};
 ghost use Rattle.stun_types_integrity.specs.Hmacs.{hmac_bytes};
 ghost use Rattle.stun_types_integrity.specs.Integrity.{IsFront, integrity_hmac};
 ghost use Rattle.stun_types_integrity.specs.Signing.{hmac_length};
@@ -48,6 +49,33 @@ impl IntegrityKey {
         })
     }
 
+    /// The key of a user in a realm, for an algorithm: a digest of name, realm and password with colons
+    /// between them, MD5 for `Sha1` and SHA-256 for `Sha256` (RFC 8489, sections 9.2.2 and 18.5.1).
+    /// The three texts are not copied. Where memory is refused, `NoMemory`.
+    pub fn long_term(
+        alloc: Global,
+        username: &str,
+        realm: &str,
+        password: &str,
+        algorithm: IntegrityAlgorithm,
+    ) -> Result<IntegrityKey, NoMemory>
+        ensures { IfOk result (λ key. key ≡ long_term_key (record {
+          username = username.now;
+          password = password.now;
+          realm = realm.now;
+        }) algorithm) }
+    {
+        let (name, realm, secret) = (username.as_bytes(), realm.as_bytes(), password.as_bytes());
+        match algorithm {
+            IntegrityAlgorithm::Sha1 => {
+                IntegrityKey::new(alloc, &md5_of_parts(name, realm, secret), algorithm)
+            }
+            IntegrityAlgorithm::Sha256 => {
+                IntegrityKey::new(alloc, &sha256_of_parts(name, realm, secret), algorithm)
+            }
+        }
+    }
+
     /// The bytes of the key.
     pub(crate) fn bytes(&self) -> &[u8]
         ensures { result.now ≡ self.now.bytes }
@@ -66,7 +94,8 @@ impl IntegrityKey {
     /// in three pieces, as a message does whose length field is to read otherwise: what stands before
     /// the field, the field, and what stands behind it.
     pub fn hmac(&self, head: &[u8], middle: &[u8], tail: &[u8]) -> IntegrityHmac
-        ensures bytes { hmac_bytes result ≡ integrity_hmac self.now.algorithm self.now.bytes (head.now ++ middle.now ++ tail.now) }
+        ensures bytes { hmac_bytes result ≡ integrity_hmac self.now.algorithm self.now.bytes
+            (head.now ++ middle.now ++ tail.now) }
         ensures size { length (hmac_bytes result) ≡ hmac_length self.now.algorithm }
     {
         match self.algorithm() {
@@ -82,7 +111,9 @@ impl IntegrityKey {
     /// Whether a value is the HMAC of a text under this key, or a front of it. The text comes in
     /// three pieces, as for `hmac`.
     pub fn signs(&self, head: &[u8], middle: &[u8], tail: &[u8], value: &[u8]) -> bool
-        ensures { IsTrue result ↔ IsFront value.now (integrity_hmac self.now.algorithm self.now.bytes (head.now ++ middle.now ++ tail.now)) }
+        ensures { IsTrue result ↔ IsFront value.now
+            (integrity_hmac self.now.algorithm self.now.bytes
+            (head.now ++ middle.now ++ tail.now)) }
     {
         is_front(value, self.hmac(head, middle, tail).as_slice())
     }
@@ -126,7 +157,7 @@ impl fmt::Debug for IntegrityKey {
 }
 
 /// The MD5 of a key's text, which comes in three parts with a colon between them.
-pub(crate) fn md5_of_parts(first: &[u8], second: &[u8], third: &[u8]) -> [u8; 16]
+fn md5_of_parts(first: &[u8], second: &[u8], third: &[u8]) -> [u8; 16]
     ensures { result ≡ md5 (first.now ++ codes ":" ++ second.now ++ codes ":" ++ third.now) }
 {
     let mut hasher = Md5::new();
@@ -139,7 +170,7 @@ pub(crate) fn md5_of_parts(first: &[u8], second: &[u8], third: &[u8]) -> [u8; 16
 }
 
 /// The SHA-256 of the same text.
-pub(crate) fn sha256_of_parts(first: &[u8], second: &[u8], third: &[u8]) -> [u8; 32]
+fn sha256_of_parts(first: &[u8], second: &[u8], third: &[u8]) -> [u8; 32]
     ensures { result ≡ sha256 (first.now ++ codes ":" ++ second.now ++ codes ":" ++ third.now) }
 {
     let mut hasher = Sha256::start();

@@ -46,7 +46,7 @@ lawful_length : (algorithm : IntegrityAlgorithm) → IsTrue (is_lawful_length al
 lawful_length Sha1 = refl
 lawful_length Sha256 = refl
 
-size_of : (algorithm : IntegrityAlgorithm) (n : ℕ) → n ≡ hmac_length algorithm → (4 + padded n ≡ 4 + hmac_length algorithm) × (n < 2 ^ 16)
+pub size_of : (algorithm : IntegrityAlgorithm) (n : ℕ) → n ≡ hmac_length algorithm → (4 + padded n ≡ 4 + hmac_length algorithm) × (n < 2 ^ 16)
 size_of Sha1 n is = (omega arith, omega arith)
 size_of Sha256 n is = (omega arith, omega arith)
 
@@ -58,7 +58,7 @@ signature_digest : (algorithm : IntegrityAlgorithm) (key bytes : List ℕ) → I
 unfolding signature
 signature_digest algorithm key bytes = record { rest = []; parts = sym (append-nil (integrity_hmac algorithm key (text_to_sign algorithm bytes))) }
 
-signature_kind : (algorithm : IntegrityAlgorithm) (key bytes : List ℕ) → (signature algorithm key bytes).kind ≡ attribute_kind algorithm
+pub signature_kind : (algorithm : IntegrityAlgorithm) (key bytes : List ℕ) → (signature algorithm key bytes).kind ≡ attribute_kind algorithm
 unfolding signature
 signature_kind algorithm key bytes = refl
 
@@ -66,7 +66,7 @@ kind_fits : (algorithm : IntegrityAlgorithm) → attribute_kind algorithm < 2 ^ 
 kind_fits Sha1 = omega arith
 kind_fits Sha256 = omega arith
 
-own_fits : (algorithm : IntegrityAlgorithm) (key bytes : List ℕ) → FitsAttribute (signature algorithm key bytes)
+pub own_fits : (algorithm : IntegrityAlgorithm) (key bytes : List ℕ) → FitsAttribute (signature algorithm key bytes)
 own_fits algorithm key bytes = record {
   kind = subst (λ k. k < 2 ^ 16) (sym (signature_kind algorithm key bytes)) (kind_fits algorithm);
   value = (size_of algorithm (length (signature algorithm key bytes).value) (signature_length algorithm key bytes)).1;

@@ -12,6 +12,10 @@ ghost use Rattle.stun_types_grammar.specs.Fingerprinted.{HasOwnFingerprint};
 ghost use Rattle.stun_types_grammar.specs.Headers.{AreBytes};
 ghost use Rattle.stun_types_integrity.specs.Integrity.{IsSigned, Validates, algorithm_of};
 ghost use Rattle.stun_types_integrity.specs.Signing.{signature, text_to_sign};
+ghost use Rattle.stun_types_grammar.specs.Reading.{IsReadAs};
+ghost use Rattle.stun_types_write.specs.Drafts.{Draft};
+ghost use Rattle.stun_types_build.specs.Calls.{Add, Integrity, IsLawful, IsWritten, attributes_of};
+ghost use Rattle.stun_types_laws.specs.Calls.{IsNoIntegrity};
 ghost use Rattle.stun_types_laws.specs.Same.{ShowSame};
 
 /// Two messages that validate under one key, by one algorithm, over one covered text, have one type
@@ -29,7 +33,8 @@ pub fn covered_text_fixes_message()
 /// under that key. Where no integrity attribute stands behind that one, it validates under that key
 /// (RFC 8489, sections 14.5 and 14.6).
 pub fn signed_validates()
-    ensures signed { (kind number : ℕ) (adds : List Attr) (key : List ℕ) (algorithm : Algorithm) (behind all : List Attr)
+    ensures signed { (kind number : ℕ) (adds : List Attr) (key : List ℕ) (algorithm : Algorithm)
+        (behind all : List Attr)
         → all ≡ adds ++ signature algorithm key (message_text kind number adds) ∷ behind
         → kind < 2 ^ 14
         → number < 2 ^ 96
@@ -38,8 +43,10 @@ pub fn signed_validates()
         → IsShape (kinds_of all)
         → length (body_text all) < 2 ^ 16
         → HasOwnFingerprint kind number all
-        → IsSigned (message_text kind number all) key algorithm (text_to_sign algorithm (message_text kind number adds)) }
-    ensures validates { (kind number : ℕ) (adds : List Attr) (key : List ℕ) (algorithm : Algorithm) (behind all : List Attr)
+        → IsSigned (message_text kind number all) key algorithm
+        (text_to_sign algorithm (message_text kind number adds)) }
+    ensures validates { (kind number : ℕ) (adds : List Attr) (key : List ℕ) (algorithm : Algorithm)
+        (behind all : List Attr)
         → all ≡ adds ++ signature algorithm key (message_text kind number adds) ∷ behind
         → kind < 2 ^ 14
         → number < 2 ^ 96
@@ -49,5 +56,41 @@ pub fn signed_validates()
         → length (body_text all) < 2 ^ 16
         → HasOwnFingerprint kind number all
         → AllByRecursion (λ a. algorithm_of a.kind ≡ None) behind
-        → Validates (message_text kind number all) key algorithm (text_to_sign algorithm (message_text kind number adds)) }
+        → Validates (message_text kind number all) key algorithm
+        (text_to_sign algorithm (message_text kind number adds)) }
+{}
+
+/// What a writer holds that was begun and took calls, each accepted (attributes, integrity attributes,
+/// FINGERPRINT): the text of the attributes that they added, in order. It is read as a message that
+/// shows just these, and validates under the key of the last integrity attribute (RFC 8489, sections
+/// 5 and 14).
+pub fn calls_compose()
+    ensures text { (mtype number : ℕ) (calls : List Add) (draft : Draft)
+        → IsWritten mtype number calls draft
+        → draft.bytes ≡ message_text mtype number (attributes_of mtype number calls) }
+    ensures read { (mtype number : ℕ) (calls : List Add) (draft : Draft)
+        → mtype < 2 ^ 14
+        → number < 2 ^ 96
+        → AllByRecursion IsLawful calls
+        → IsWritten mtype number calls draft
+        → IsReadAs mtype number (attributes_of mtype number calls) draft.bytes }
+    ensures validates { (mtype number : ℕ) (earlier behind : List Add) (algorithm : Algorithm)
+        (key : List ℕ) (draft : Draft)
+        → mtype < 2 ^ 14
+        → number < 2 ^ 96
+        → AllByRecursion IsLawful (earlier ++ Integrity algorithm key ∷ behind)
+        → IsWritten mtype number (earlier ++ Integrity algorithm key ∷ behind) draft
+        → AllByRecursion IsNoIntegrity behind
+        → Validates draft.bytes key algorithm
+        (text_to_sign algorithm (message_text mtype number
+        (attributes_of mtype number earlier))) }
+{}
+
+/// Two writers, of whatever kinds, hold the same bytes where both were begun as a message of one type
+/// and number and took the same calls.
+pub fn same_adds_same_bytes()
+    ensures { (mtype number : ℕ) (calls : List Add) (one other : Draft)
+        → IsWritten mtype number calls one
+        → IsWritten mtype number calls other
+        → one.bytes ≡ other.bytes }
 {}

@@ -6,3 +6,4 @@ pub mod Unknown
 pub mod Validating
 pub mod Refusing
 pub mod Listing
+pub mod Marks

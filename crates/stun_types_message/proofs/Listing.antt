@@ -1,5 +1,5 @@
 -- The unknown types that a message shows, one after another.
-use Rattle.std.specs.Prelude.{◌≡◌, ℕ, Bool, true, false, not, ◌&&◌, ◌||◌, eqb, ◌==◌, List, [], ◌∷◌, ◌++◌, length, map, filter, find, is_some}
+use Rattle.std.specs.Prelude.{Option, Some, ◌≡◌, ℕ, Bool, true, false, not, ◌&&◌, ◌||◌, eqb, ◌==◌, List, [], ◌∷◌, ◌++◌, length, map, filter, find, is_some}
 use Rattle.std.specs.List.{list_any}
 use Rattle.std.proofs.Common.{refl, sym, ap, ◌∙◌, arith, inl, inr, append_assoc}
 use Rattle.std.proofs.lemmas.Bool.{cases_Bool, eqb-true}
@@ -9,7 +9,7 @@ use Rattle.stun_types_wire.specs.declared.attribute.AttributeType.{AttributeType
 use Rattle.stun_types_wire.specs.Attributes.{Attr}
 use Rattle.stun_types_wire.specs.Shape.{kinds_of}
 use Rattle.stun_types_write.specs.Adding.{has_kind}
-use Rattle.stun_types_message.specs.Objections.{each_once, is_missing, is_unknown, unknown_kinds, with_unknown}
+use Rattle.stun_types_message.specs.Objections.{each_once, is_missing, is_unknown, objection, objection_refusal, objection_refusal_to, objection_to, unknown_kinds, unknown_refusal, unknown_response_attributes, with_unknown}
 
 -- ---- filters
 
@@ -149,3 +149,54 @@ none_unknown all supported (t ∷ listed) is none = absurd (omega (arith, none))
 -- whether a required type is missing, as it was looked for
 pub missing_is : (all : List Attr) (required : List AttributeType) (lacks answer : Bool) → lacks ≡ list_any (λ (t : AttributeType). not (is_some (find (λ a. a.kind == t.0) all))) required → lacks ≡ answer → is_missing all (map (λ (t : AttributeType). t.0) required) ≡ answer
 missing_is all required lacks answer is told = sym (missing_numbers all required) ∙ sym is ∙ told
+
+-- ---- whether an unknown type is shown
+
+no_unknown : (p : ℕ → Bool) (all : List Attr) → list_any (λ (a : Attr). p a.kind) all ≡ false → filter p (kinds_of all) ≡ []
+no_unknown p [] h = refl
+no_unknown p (a ∷ all) h =
+    elim (cases_Bool (p a.kind)) [
+      | inl is ↦ absurd (let q = rw is at h in cc)
+      | inr isnt ↦ rw isnt (no_unknown p all (rw isnt at h))
+    ]
+
+-- where none is shown, none is listed
+pub none_shown : (all : List Attr) (supported : List ℕ) → list_any (λ (a : Attr). is_unknown supported a.kind) all ≡ false → unknown_kinds all supported ≡ []
+unfolding unknown_kinds each_once
+none_shown all supported h = ap each_once (no_unknown (is_unknown supported) all h)
+
+-- some numbers
+record AreSome (kinds : List ℕ) : Type 0 where
+  first : ℕ
+  rest : List ℕ
+  is : kinds ≡ first ∷ rest
+
+some_unknown : (p : ℕ → Bool) (all : List Attr) → list_any (λ (a : Attr). p a.kind) all ≡ true → AreSome (filter p (kinds_of all))
+some_unknown p [] h = absurd (cc h)
+some_unknown p (a ∷ all) h =
+    elim (cases_Bool (p a.kind)) [
+      | inl is ↦ record { first = a.kind; rest = filter p (kinds_of all); is = rw is refl }
+      | inr isnt ↦ rw isnt (some_unknown p all (rw isnt at h))
+    ]
+
+some_once : (kinds : List ℕ) → AreSome kinds → AreSome (each_once kinds)
+unfolding each_once
+some_once kinds h = record { first = h.first; rest = filter (λ m. not (h.first == m)) (each_once h.rest); is = ap each_once h.is }
+
+some_objection : (kinds : List ℕ) (missing : Bool) → AreSome kinds → objection_to kinds missing ≡ Some (unknown_response_attributes kinds)
+some_objection kinds missing h = rw (h.is) refl
+
+some_refusal : (limit : Option ℕ) (kinds : List ℕ) (missing : Bool) → AreSome kinds → objection_refusal_to limit kinds missing ≡ unknown_refusal limit (length kinds)
+some_refusal limit kinds missing h = rw (h.is) refl
+
+some_shown : (all : List Attr) (supported : List ℕ) → list_any (λ (a : Attr). is_unknown supported a.kind) all ≡ true → AreSome (unknown_kinds all supported)
+unfolding unknown_kinds
+some_shown all supported h = some_once _ (some_unknown (is_unknown supported) all h)
+
+-- where one is shown, the response lists them
+pub unknown_objection : (all : List Attr) (supported required : List ℕ) → list_any (λ (a : Attr). is_unknown supported a.kind) all ≡ true → objection all supported required ≡ Some (unknown_response_attributes (unknown_kinds all supported))
+unknown_objection all supported required h = some_objection _ (is_missing all required) (some_shown all supported h)
+
+pub unknown_refused : (limit : Option ℕ) (all : List Attr) (supported required : List ℕ) (count : ℕ) → list_any (λ (a : Attr). is_unknown supported a.kind) all ≡ true → count ≡ length (unknown_kinds all supported)
+    → unknown_refusal limit count ≡ objection_refusal limit all supported required
+unknown_refused limit all supported required count h counted = ap (λ (n : ℕ). unknown_refusal limit n) counted ∙ sym (some_refusal limit _ (is_missing all required) (some_shown all supported h))

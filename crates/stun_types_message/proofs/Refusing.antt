@@ -1,12 +1,13 @@
 -- Error responses to requests that are refused: what they show, their size, and why they are not written.
-use Rattle.std.specs.Prelude.{◌≡◌, ℕ, ◌+◌, ◌*◌, List, [], ◌∷◌, drop, length, Option, Some, None}
+use Rattle.std.specs.Prelude.{◌≡◌, ℕ, ◌+◌, ◌*◌, List, [], ◌∷◌, length, Option, Some, None}
 use Rattle.std.proofs.Common.{refl, sym, ap, ◌∙◌, arith}
-use Rattle.std.proofs.lemmas.List.{drop-drop, length-append}
+use Rattle.std.proofs.lemmas.List.{length-append}
 use Rattle.byteorder.specs.Endian.{big_bytes}
 use Rattle.stun_types_wire.specs.declared.error.StunWriteError.{StunWriteError}
 use Rattle.stun_types_wire.specs.Attributes.{Attr, attr_size, padded}
 use Rattle.stun_types_wire.specs.Text.{header_text, attribute_text, body_text, message_text}
 use Rattle.stun_types_write.specs.Adding.{add_refusal, attr_of, room_refusal, size_refusal}
+use Rattle.stun_types_write.specs.Drafts.{Draft, none_ended}
 use Rattle.stun_types_build.proofs.Adds.{length-attribute_text}
 use Rattle.stun_types_attribute.specs.Errors.{CodeAndOther, CodeAndReason, error_value, reason_for, reason_of}
 use Rattle.stun_types_info.specs.Types.{types_refusal, types_value}
@@ -53,12 +54,6 @@ unknown-length bytes kind number count kinds counted text =
     let size = unknown-size kinds count counted in
     ap length text ∙ omega (arith, all, first, second, no_body, size)
 
--- ---- the lent bytes behind a message
-
--- after one add and another
-pub behind_both : (behind before after : List ℕ) (m n whole : ℕ) → before ≡ drop m behind → after ≡ drop n before → m + n ≡ whole → after ≡ drop whole behind
-behind_both behind before after m n whole first second sum = second ∙ ap (drop n) first ∙ drop-drop n m behind ∙ ap (λ k. drop k behind) sum
-
 -- ---- the error code
 
 -- the reason that goes with a code
@@ -70,21 +65,16 @@ default_error b made code own none is told =
 
 -- ---- refusals
 
--- the first add is refused by its size alone
-pub first_add : (kinds : List ℕ) (limit : Option ℕ) (len size : ℕ) → kinds ≡ [] → add_refusal kinds limit len size ≡ size_refusal limit (len + size)
+-- an add where none of those that end a message was added is refused by its size alone
+open_add : (draft : Draft) (size : ℕ) → draft.ended ≡ none_ended → add_refusal draft size ≡ size_refusal draft.limit (length draft.bytes + size)
 unfolding add_refusal
-first_add kinds limit len size none = rw none refl
-
--- and so is that behind ERROR-CODE
-pub second_add : (kinds : List ℕ) (limit : Option ℕ) (len size : ℕ) → kinds ≡ 0x0009 ∷ [] → add_refusal kinds limit len size ≡ size_refusal limit (len + size)
-unfolding add_refusal
-second_add kinds limit len size one = rw one refl
+open_add draft size none = rw none refl
 
 -- why the first attribute of a message is refused, or that it is not
-pub first_answer : (kinds : List ℕ) (limit own : Option ℕ) (len : ℕ) (a b : Attr) (answer : Option StunWriteError) → kinds ≡ [] → limit ≡ own → len ≡ 20 → a ≡ b → add_refusal kinds limit len (attr_size a) ≡ answer → size_refusal own (20 + attr_size b) ≡ answer
-first_answer kinds limit own len a b answer none same counted is h =
-    let moved : size_refusal limit (len + attr_size a) ≡ size_refusal own (20 + attr_size b) = λ i. size_refusal (same i) (counted i + attr_size (is i)) in
-    sym moved ∙ sym (first_add kinds limit len (attr_size a) none) ∙ h
+pub first_answer : (draft : Draft) (own : Option ℕ) (a b : Attr) (answer : Option StunWriteError) → draft.ended ≡ none_ended → draft.limit ≡ own → length draft.bytes ≡ 20 → a ≡ b → add_refusal draft (attr_size a) ≡ answer → size_refusal own (20 + attr_size b) ≡ answer
+first_answer draft own a b answer none same counted is h =
+    let moved : size_refusal draft.limit (length draft.bytes + attr_size a) ≡ size_refusal own (20 + attr_size b) = λ i. size_refusal (same i) (counted i + attr_size (is i)) in
+    sym moved ∙ sym (open_add draft (attr_size a) none) ∙ h
 
 -- too many types
 pub too_many : (limit : Option ℕ) (count : ℕ) (error : StunWriteError) → types_refusal count ≡ Some error → unknown_refusal limit count ≡ Some error
@@ -97,14 +87,14 @@ unfolding unknown_refusal
 no_room limit count error few h = rw (few, h) refl
 
 -- UNKNOWN-ATTRIBUTES is refused, or nothing is
-pub second_answer : (kinds list : List ℕ) (limit own : Option ℕ) (len count : ℕ) (answer : Option StunWriteError) → kinds ≡ 0x0009 ∷ [] → limit ≡ own → len ≡ 48 → length list ≡ count → types_refusal count ≡ None → room_refusal own 48 ≡ None
-    → add_refusal kinds limit len (attr_size (unknown_attribute list)) ≡ answer → unknown_refusal own count ≡ answer
+pub second_answer : (draft : Draft) (list : List ℕ) (own : Option ℕ) (count : ℕ) (answer : Option StunWriteError) → draft.ended ≡ none_ended → draft.limit ≡ own → length draft.bytes ≡ 48 → length list ≡ count → types_refusal count ≡ None → room_refusal own 48 ≡ None
+    → add_refusal draft (attr_size (unknown_attribute list)) ≡ answer → unknown_refusal own count ≡ answer
 unfolding unknown_refusal
-second_answer kinds list limit own len count answer one same counted many few room h =
+second_answer draft list own count answer one same counted many few room h =
     let size = unknown-size list count many in
-    let end : len + attr_size (unknown_attribute list) ≡ 52 + padded (2 * count) = omega (arith, counted, size) in
-    let moved : size_refusal limit (len + attr_size (unknown_attribute list)) ≡ size_refusal own (52 + padded (2 * count)) = λ i. size_refusal (same i) (end i) in
-    rw (few, room) (sym moved ∙ sym (second_add kinds limit len (attr_size (unknown_attribute list)) one) ∙ h)
+    let end : length draft.bytes + attr_size (unknown_attribute list) ≡ 52 + padded (2 * count) = omega (arith, counted, size) in
+    let moved : size_refusal draft.limit (length draft.bytes + attr_size (unknown_attribute list)) ≡ size_refusal own (52 + padded (2 * count)) = λ i. size_refusal (same i) (end i) in
+    rw (few, room) (sym moved ∙ sym (open_add draft (attr_size (unknown_attribute list)) one) ∙ h)
 
 -- the same, looked at before it is written
 pub no_room_first : (limit : Option ℕ) (len count : ℕ) (error : StunWriteError) → len ≡ 0 → types_refusal count ≡ None → size_refusal limit (len + 48) ≡ Some error → unknown_refusal limit count ≡ Some error

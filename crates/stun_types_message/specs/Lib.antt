@@ -1,4 +1,5 @@
 pub mod Fronts
+pub mod Marks
 pub mod Objections
 pub mod Parsed
 pub mod Reading

@@ -1,4 +1,5 @@
--- What is wrong with the attributes that a request shows, and the error response to it (RFC 8489, sections 6.3.1, 14.8 and 14.13).
+-- What is wrong with the attributes that a request shows, and the error response to it (RFC 8489,
+-- sections 6.3.1, 14.8 and 14.13).
 use Rattle.std.specs.Prelude.{◌≡◌, ℕ, ◌+◌, ◌*◌, ◌==◌, ◌&&◌, eqb, nat_lt, Bool, false, not, List, [], ◌∷◌, ◌++◌, ⊤, length, filter, Option, Some, None, if◌then◌else◌}
 use Rattle.std.specs.List.{AllByRecursion, IsDistinct, list_any}
 use Rattle.std.specs.Option.{option_or}
@@ -8,6 +9,8 @@ use Rattle.stun_types_wire.specs.Attributes.{Attr, kind_at, padded}
 use Rattle.stun_types_wire.specs.Shape.{kinds_of}
 use Rattle.stun_types_wire.specs.Types.{method_of, type_of}
 use Rattle.stun_types_write.specs.Adding.{has_kind, room_refusal, size_refusal}
+use Rattle.stun_types_write.specs.Drafts.{Draft}
+use Rattle.stun_types_build.specs.Calls.{IsComposed}
 use Rattle.stun_types_attribute.specs.Errors.{error_value, reason_for}
 use Rattle.stun_types_info.specs.Types.{types_refusal, types_value, with_type}
 
@@ -38,7 +41,8 @@ unfoldable pub IsInOrder : List ℕ → List ℕ → Type 0
 IsInOrder kinds [] = ⊤
 IsInOrder kinds (kind ∷ list) = AllByRecursion (IsShownBefore kinds kind) list × IsInOrder kinds list
 
--- a list of the unknown types among those that are shown: none twice, these and no others, in the order in which they are first shown
+-- a list of the unknown types among those that are shown: none twice, these and no others, in the
+-- order in which they are first shown
 pub record IsUnknownList (kinds supported list : List ℕ) : Type 0 where
   pub distinct : IsDistinct eqb list
   pub listed : (kind : ℕ) → has_kind kind list ≡ (is_unknown supported kind && has_kind kind kinds)
@@ -74,7 +78,8 @@ bad_request_attributes = error_attribute 400 ∷ []
 abbrev pub unknown_response_attributes : List ℕ → List Attr
 unknown_response_attributes kinds = error_attribute 420 ∷ unknown_attribute kinds ∷ []
 
--- what the response shows to a request that shows these attributes: unknown types come before missing ones, and where there are neither, nothing is wrong
+-- what the response shows to a request that shows these attributes: unknown types come before
+-- missing ones, and where there are neither, nothing is wrong
 abbrev pub objection_to : List ℕ → Bool → Option (List Attr)
 objection_to [] missing = if missing then Some bad_request_attributes else None
 objection_to (kind ∷ kinds) missing = Some (unknown_response_attributes (kind ∷ kinds))
@@ -82,15 +87,24 @@ objection_to (kind ∷ kinds) missing = Some (unknown_response_attributes (kind 
 abbrev pub objection : List Attr → List ℕ → List ℕ → Option (List Attr)
 objection all supported required = objection_to (unknown_kinds all supported) (is_missing all required)
 
+-- what is answered where this objection is made, if one is: a response in the draft, or nothing
+abbrev pub IsObjected : Option (List Attr) → ℕ → ℕ → Draft → Option Draft → Type 0
+IsObjected None mtype number old None = ⊤
+IsObjected None mtype number old (Some new) = ⊥
+IsObjected (Some attributes) mtype number old None = ⊥
+IsObjected (Some attributes) mtype number old (Some new) = IsComposed mtype number attributes old new
+
 -- ---- why a response is not written
 
 -- an error response of 400 has 40 bytes
 abbrev pub bad_request_refusal : Option ℕ → Option StunWriteError
 bad_request_refusal limit = room_refusal limit 40
 
--- an error response of 420: so many types are too many for a value, there is no room for header and ERROR-CODE, which take 48 bytes, or UNKNOWN-ATTRIBUTES is too long or has no room
+-- an error response of 420: so many types are too many for a value, there is no room for header and
+-- ERROR-CODE, which take 48 bytes, or UNKNOWN-ATTRIBUTES is too long or has no room
 unfoldable pub unknown_refusal : Option ℕ → ℕ → Option StunWriteError
-unknown_refusal limit count = option_or (types_refusal count) (option_or (room_refusal limit 48) (size_refusal limit (52 + padded (2 * count))))
+unknown_refusal limit count = option_or (types_refusal count)
+    (option_or (room_refusal limit 48) (size_refusal limit (52 + padded (2 * count))))
 
 -- the response to a request that shows these attributes
 abbrev pub objection_refusal_to : Option ℕ → List ℕ → Bool → Option StunWriteError
@@ -98,4 +112,5 @@ objection_refusal_to limit [] missing = if missing then bad_request_refusal limi
 objection_refusal_to limit (kind ∷ kinds) missing = unknown_refusal limit (length (kind ∷ kinds))
 
 abbrev pub objection_refusal : Option ℕ → List Attr → List ℕ → List ℕ → Option StunWriteError
-objection_refusal limit all supported required = objection_refusal_to limit (unknown_kinds all supported) (is_missing all required)
+objection_refusal limit all supported required = objection_refusal_to limit (unknown_kinds all supported)
+    (is_missing all required)

@@ -13,4 +13,5 @@ stage_rank Fingerprint = 3
 
 -- a type leads to the stage of its rank, where it may follow, and else to none
 abbrev pub LeadsTo : Stage → ℕ → Option Stage → Type 0
-LeadsTo before kind next = MatchOption next (may_follow (stage_rank before) (rank kind) ≡ false) (λ stage. (may_follow (stage_rank before) (rank kind) ≡ true) × (stage_rank stage ≡ rank kind))
+LeadsTo before kind next = MatchOption next (may_follow (stage_rank before) (rank kind) ≡ false)
+    (λ stage. (may_follow (stage_rank before) (rank kind) ≡ true) × (stage_rank stage ≡ rank kind))

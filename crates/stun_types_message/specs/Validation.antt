@@ -41,14 +41,20 @@ pub record IsRight (bytes key : List ℕ) (algorithm : IntegrityAlgorithm) (entr
   pub lawful : IsLawful algorithm entry
   pub digest : HasDigest bytes key algorithm entry.0 entry.1.value
 
--- why a message does not validate by an algorithm's attribute: none is shown, its length is unlawful, or its digest is wrong
+-- why a message does not validate by an algorithm's attribute: none is shown, its length is
+-- unlawful, or its digest is wrong
 abbrev pub IsRefused : List ℕ → List ℕ → IntegrityAlgorithm → ValidateError → Type 0
-IsRefused bytes key algorithm (Parse (MissingAttribute kind)) = (kind.0 ≡ attribute_kind algorithm) × (first_of_kind (attribute_kind algorithm) bytes ≡ None)
-IsRefused bytes key algorithm (Parse InvalidAttributeData) = IsSomeAnd (first_of_kind (attribute_kind algorithm) bytes) (λ entry. ¬ IsLawful algorithm entry)
-IsRefused bytes key algorithm IntegrityFailed = IsSomeAnd (first_of_kind (attribute_kind algorithm) bytes) (λ entry. IsLawful algorithm entry × (¬ HasDigest bytes key algorithm entry.0 entry.1.value))
+IsRefused bytes key algorithm (Parse (MissingAttribute kind)) = (kind.0 ≡ attribute_kind algorithm)
+    × (first_of_kind (attribute_kind algorithm) bytes ≡ None)
+IsRefused bytes key algorithm (Parse InvalidAttributeData) = IsSomeAnd
+    (first_of_kind (attribute_kind algorithm) bytes) (λ entry. ¬ IsLawful algorithm entry)
+IsRefused bytes key algorithm IntegrityFailed = IsSomeAnd (first_of_kind (attribute_kind algorithm) bytes)
+    (λ entry. IsLawful algorithm entry × (¬ HasDigest bytes key algorithm entry.0 entry.1.value))
 IsRefused bytes key algorithm _ = ⊥
 
--- why a message does not validate under credentials: it shows no integrity attribute, or that of the last one's algorithm is refused
+-- why a message does not validate under credentials: it shows no integrity attribute, or that of
+-- the last one's algorithm is refused
 abbrev pub IsNotValid : List ℕ → MessageIntegrityCredentials → ValidateError → Type 0
 IsNotValid bytes credentials error =
-    MatchOption (last_algorithm (shown bytes)) (error ≡ Parse (MissingAttribute (record { 0 = integrity_kind }))) (λ algorithm. IsRefused bytes (key_of credentials algorithm).bytes algorithm error)
+    MatchOption (last_algorithm (shown bytes)) (error ≡ Parse (MissingAttribute (record { 0 = integrity_kind })))
+    (λ algorithm. IsRefused bytes (key_of credentials algorithm).bytes algorithm error)

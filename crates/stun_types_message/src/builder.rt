@@ -1,12 +1,10 @@
 //! Messages that are begun, in any writer.
 
-ghost use Rattle.std.specs.Prelude.{◌≡◌, ◌<◌, ◌≤◌, ◌^◌, [], drop, length, IfOk, IfSome};
+ghost use Rattle.std.specs.Prelude.{◌≡◌, ◌<◌, ◌^◌, IfOk, IsOk, IsSome};
 ghost use Rattle.stun_types_wire.specs.Attributes.{kind_at};
 ghost use Rattle.stun_types_wire.specs.Types.{class_of, method_of, type_of};
 ghost use Rattle.stun_types_wire.specs.Grammar.{number_at};
-ghost use Rattle.stun_types_wire.specs.Text.{message_text};
-ghost use Rattle.stun_types_write.specs.Adding.{IsBegun};
-ghost use Rattle.stun_types_wire.specs.declared.class.MessageClass.{MessageClass as Class};
+ghost use Rattle.stun_types_write.specs.Outcomes.{CanBegin, IsBegunAs};
 ghost use Rattle.stun_types_wire.specs.Generated.{drawn_number, number_words};
 ghost use Rattle.stun_types_base.specs.Words.{stream_after};
 ghost use Rattle.stun_types_wire.specs.declared.class.MessageClass.TheVariants.{Request, Indication, Success, Error};
@@ -21,22 +19,17 @@ use stun_types_write::writer::MessageWrite;
 
 impl<'a> Message<'a> {
     /// Begins a message of this type and number in an empty writer with room for a header, and gives
-    /// the writer back. Where memory is refused, `NoMemory`, and the writer is dropped.
-    #[tactic(auto, unfolding(stun_types_wire::specs::Text::message_text, stun_types_wire::specs::Text::body_text))]
+    /// the writer back. Where memory is refused, `NoMemory`, and the writer is dropped; a writer with a
+    /// greatest size takes none.
     pub fn builder<W: MessageWrite + Drop>(
         mtype: MessageType,
         transaction_id: TransactionId,
         writer: W,
     ) -> Result<W, NoMemory>
-        requires empty { W.written writer ≡ [] }
-        requires no_kinds { W.kinds writer ≡ [] }
-        requires room { IfSome (W.limit writer) (λ most. 20 ≤ most) }
-        ensures text { IfOk result (λ begun. W.written begun ≡ message_text mtype transaction_id []) }
-        ensures begun { IfOk result (λ begun. IsBegun (W.written begun)) }
-        ensures size { IfOk result (λ begun. length (W.written begun) ≡ 20) }
-        ensures kinds { IfOk result (λ begun. W.kinds begun ≡ []) }
-        ensures behind { IfOk result (λ begun. W.behind begun ≡ drop 20 (W.behind writer)) }
-        ensures limit { IfOk result (λ begun. W.limit begun ≡ W.limit writer) }
+        requires empty { CanBegin (W.draft writer) }
+        ensures begun { IfOk result (λ begun. IsBegunAs mtype transaction_id
+            (W.draft writer) (W.draft begun)) }
+        ensures lent { IsSome (W.draft writer).limit → IsOk result }
     {
         let mut writer = writer;
         let header = MessageHeader::new(mtype, 0, transaction_id);
@@ -52,15 +45,11 @@ impl<'a> Message<'a> {
         writer: W,
     ) -> Result<W, NoMemory>
         requires short { method.0 < 2 ^ 12 }
-        requires empty { W.written writer ≡ [] }
-        requires no_kinds { W.kinds writer ≡ [] }
-        requires room { IfSome (W.limit writer) (λ most. 20 ≤ most) }
-        ensures text { IfOk result (λ begun. W.written begun ≡ message_text (type_of Request method.0) (drawn_number (R.stream rng.old)) []) }
-        ensures begun { IfOk result (λ begun. IsBegun (W.written begun)) }
-        ensures size { IfOk result (λ begun. length (W.written begun) ≡ 20) }
-        ensures kinds { IfOk result (λ begun. W.kinds begun ≡ []) }
-        ensures behind { IfOk result (λ begun. W.behind begun ≡ drop 20 (W.behind writer)) }
-        ensures limit { IfOk result (λ begun. W.limit begun ≡ W.limit writer) }
+        requires empty { CanBegin (W.draft writer) }
+        ensures begun { IfOk result (λ begun. IsBegunAs (type_of Request method.0)
+            (drawn_number (R.stream rng.old))
+            (W.draft writer) (W.draft begun)) }
+        ensures lent { IsSome (W.draft writer).limit → IsOk result }
         ensures stream { R.stream rng.new ≡ stream_after number_words (R.stream rng.old) }
     {
         begin_generated(MessageClass::Request, method, rng, writer)
@@ -73,15 +62,11 @@ impl<'a> Message<'a> {
         writer: W,
     ) -> Result<W, NoMemory>
         requires short { method.0 < 2 ^ 12 }
-        requires empty { W.written writer ≡ [] }
-        requires no_kinds { W.kinds writer ≡ [] }
-        requires room { IfSome (W.limit writer) (λ most. 20 ≤ most) }
-        ensures text { IfOk result (λ begun. W.written begun ≡ message_text (type_of Indication method.0) (drawn_number (R.stream rng.old)) []) }
-        ensures begun { IfOk result (λ begun. IsBegun (W.written begun)) }
-        ensures size { IfOk result (λ begun. length (W.written begun) ≡ 20) }
-        ensures kinds { IfOk result (λ begun. W.kinds begun ≡ []) }
-        ensures behind { IfOk result (λ begun. W.behind begun ≡ drop 20 (W.behind writer)) }
-        ensures limit { IfOk result (λ begun. W.limit begun ≡ W.limit writer) }
+        requires empty { CanBegin (W.draft writer) }
+        ensures begun { IfOk result (λ begun. IsBegunAs (type_of Indication method.0)
+            (drawn_number (R.stream rng.old))
+            (W.draft writer) (W.draft begun)) }
+        ensures lent { IsSome (W.draft writer).limit → IsOk result }
         ensures stream { R.stream rng.new ≡ stream_after number_words (R.stream rng.old) }
     {
         begin_generated(MessageClass::Indication, method, rng, writer)
@@ -94,15 +79,11 @@ impl<'a> Message<'a> {
         writer: W,
     ) -> Result<W, NoMemory>
         requires request { class_of (kind_at request.now) ≡ Request }
-        requires empty { W.written writer ≡ [] }
-        requires no_kinds { W.kinds writer ≡ [] }
-        requires room { IfSome (W.limit writer) (λ most. 20 ≤ most) }
-        ensures text { IfOk result (λ begun. W.written begun ≡ message_text (type_of Success (method_of (kind_at request.now))) (number_at request.now) []) }
-        ensures begun { IfOk result (λ begun. IsBegun (W.written begun)) }
-        ensures size { IfOk result (λ begun. length (W.written begun) ≡ 20) }
-        ensures kinds { IfOk result (λ begun. W.kinds begun ≡ []) }
-        ensures behind { IfOk result (λ begun. W.behind begun ≡ drop 20 (W.behind writer)) }
-        ensures limit { IfOk result (λ begun. W.limit begun ≡ W.limit writer) }
+        requires empty { CanBegin (W.draft writer) }
+        ensures begun { IfOk result (λ begun. IsBegunAs
+            (type_of Success (method_of (kind_at request.now))) (number_at request.now)
+            (W.draft writer) (W.draft begun)) }
+        ensures lent { IsSome (W.draft writer).limit → IsOk result }
     {
         begin_response(MessageClass::Success, request, writer)
     }
@@ -114,15 +95,11 @@ impl<'a> Message<'a> {
         writer: W,
     ) -> Result<W, NoMemory>
         requires request { class_of (kind_at request.now) ≡ Request }
-        requires empty { W.written writer ≡ [] }
-        requires no_kinds { W.kinds writer ≡ [] }
-        requires room { IfSome (W.limit writer) (λ most. 20 ≤ most) }
-        ensures text { IfOk result (λ begun. W.written begun ≡ message_text (type_of Error (method_of (kind_at request.now))) (number_at request.now) []) }
-        ensures begun { IfOk result (λ begun. IsBegun (W.written begun)) }
-        ensures size { IfOk result (λ begun. length (W.written begun) ≡ 20) }
-        ensures kinds { IfOk result (λ begun. W.kinds begun ≡ []) }
-        ensures behind { IfOk result (λ begun. W.behind begun ≡ drop 20 (W.behind writer)) }
-        ensures limit { IfOk result (λ begun. W.limit begun ≡ W.limit writer) }
+        requires empty { CanBegin (W.draft writer) }
+        ensures begun { IfOk result (λ begun. IsBegunAs
+            (type_of Error (method_of (kind_at request.now))) (number_at request.now)
+            (W.draft writer) (W.draft begun)) }
+        ensures lent { IsSome (W.draft writer).limit → IsOk result }
     {
         begin_response(MessageClass::Error, request, writer)
     }
@@ -136,15 +113,11 @@ fn begin_generated<W: MessageWrite + Drop, R: Rng>(
     writer: W,
 ) -> Result<W, NoMemory>
     requires short { method.0 < 2 ^ 12 }
-    requires empty { W.written writer ≡ [] }
-    requires no_kinds { W.kinds writer ≡ [] }
-    requires room { IfSome (W.limit writer) (λ most. 20 ≤ most) }
-    ensures text { IfOk result (λ begun. W.written begun ≡ message_text (type_of class method.0) (drawn_number (R.stream rng.old)) []) }
-    ensures begun { IfOk result (λ begun. IsBegun (W.written begun)) }
-    ensures size { IfOk result (λ begun. length (W.written begun) ≡ 20) }
-    ensures kinds { IfOk result (λ begun. W.kinds begun ≡ []) }
-    ensures behind { IfOk result (λ begun. W.behind begun ≡ drop 20 (W.behind writer)) }
-    ensures limit { IfOk result (λ begun. W.limit begun ≡ W.limit writer) }
+    requires empty { CanBegin (W.draft writer) }
+    ensures begun { IfOk result (λ begun. IsBegunAs (type_of class method.0)
+        (drawn_number (R.stream rng.old))
+        (W.draft writer) (W.draft begun)) }
+    ensures lent { IsSome (W.draft writer).limit → IsOk result }
     ensures stream { R.stream rng.new ≡ stream_after number_words (R.stream rng.old) }
 {
     let transaction_id = TransactionId::generate(rng);
@@ -158,15 +131,11 @@ fn begin_response<W: MessageWrite + Drop>(
     request: &Message,
     writer: W,
 ) -> Result<W, NoMemory>
-    requires empty { W.written writer ≡ [] }
-    requires no_kinds { W.kinds writer ≡ [] }
-    requires room { IfSome (W.limit writer) (λ most. 20 ≤ most) }
-    ensures text { IfOk result (λ begun. W.written begun ≡ message_text (type_of class (method_of (kind_at request.now))) (number_at request.now) []) }
-    ensures begun { IfOk result (λ begun. IsBegun (W.written begun)) }
-    ensures size { IfOk result (λ begun. length (W.written begun) ≡ 20) }
-    ensures kinds { IfOk result (λ begun. W.kinds begun ≡ []) }
-    ensures behind { IfOk result (λ begun. W.behind begun ≡ drop 20 (W.behind writer)) }
-    ensures limit { IfOk result (λ begun. W.limit begun ≡ W.limit writer) }
+    requires empty { CanBegin (W.draft writer) }
+    ensures begun { IfOk result (λ begun. IsBegunAs
+        (type_of class (method_of (kind_at request.now))) (number_at request.now)
+        (W.draft writer) (W.draft begun)) }
+    ensures lent { IsSome (W.draft writer).limit → IsOk result }
 {
     let mtype = MessageType::from_class_method(class, request.method());
     Message::builder(mtype, request.transaction_id(), writer)

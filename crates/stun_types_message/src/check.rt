@@ -1,20 +1,22 @@
 //! Requests checked for the attributes that they show (RFC 8489, section 6.3.1).
 
-ghost use Rattle.std.specs.Prelude.{◌≡◌, ◌≢◌, ◌≤◌, ◌==◌, ℕ, List, [], map, not, is_some, find, length, drop, IfOk, IfErr, OnOk, IfSome, None, Some};
+ghost use Rattle.std.specs.Prelude.{◌≡◌, ◌==◌, ◌+◌, ◌<◌, ◌≤◌, ◌^◌, ◌++◌, ◌∷◌, false, ℕ, List, [], map, not, is_some, find, length, IfOk};
 ghost use Rattle.std.specs.List.{list_any};
 ghost use Rattle.std.specs.Option.{option_map};
+ghost use Rattle.stun_types_base.specs.Refusals.{RefusesFor};
 ghost use Rattle.stun_types_wire.specs.Attributes.{Attr, kind_at};
 ghost use Rattle.stun_types_wire.specs.Shape.{kinds_of};
 ghost use Rattle.stun_types_wire.specs.Types.{class_of};
 ghost use Rattle.stun_types_wire.specs.Grammar.{number_at, shown};
-ghost use Rattle.stun_types_wire.specs.Text.{message_text};
 ghost use Rattle.stun_types_wire.specs.declared.class.MessageClass.TheVariants.{Request};
-ghost use Rattle.stun_types_write.specs.Adding.{IsBegun, has_kind};
-ghost use Rattle.stun_types_message.specs.Objections.{IsUnknownList, error_type, is_missing, is_unknown, objection, objection_refusal, unknown_kinds, with_unknown};
+ghost use Rattle.stun_types_write.specs.Outcomes.{CanBegin};
+ghost use Rattle.stun_types_message.specs.Objections.{IsObjected, IsUnknownList, error_type, is_unknown, objection, objection_refusal, unknown_kinds, with_unknown};
+ghost use Rattle.stun_types_message.specs.Marks.{IsListing};
 
+use crate::front::Front;
 use crate::message::Message;
+use crate::refuse::room_for_types;
 use std::alloc::Global;
-use stun_types_base::memory::NoMemory;
 use stun_types_wire::attribute::AttributeType;
 use stun_types_wire::error::StunWriteError;
 use stun_types_write::among::has_type;
@@ -26,8 +28,8 @@ impl<'a> Message<'a> {
     /// lists each of them once, in the order in which they are first shown; else, where a required
     /// type is not shown, the error response of `bad_request`. The writer is empty and has room for a
     /// header; it is given back with the response, and dropped where nothing is wrong (None). Refused
-    /// as `unknown_attributes` and `bad_request` are; where memory is refused for the list, with
-    /// `NoMemory`. A refusal drops the writer.
+    /// as `unknown_attributes` and `bad_request` are, want of memory last, for the list too. A refusal drops
+    /// the writer.
     pub fn check_attribute_types<W: MessageWrite + Drop>(
         alloc: Global,
         msg: &Message,
@@ -36,22 +38,23 @@ impl<'a> Message<'a> {
         writer: W,
     ) -> Result<Option<W>, StunWriteError>
         requires request { class_of (kind_at msg.now) ≡ Request }
-        requires empty { W.written writer ≡ [] }
-        requires no_kinds { W.kinds writer ≡ [] }
-        requires room { IfSome (W.limit writer) (λ most. 20 ≤ most) }
+        requires empty { CanBegin (W.draft writer) }
         // None where nothing is wrong, and otherwise a response that shows what is.
-        ensures text { IfOk result (λ answered. option_map (λ reply. W.written reply) answered ≡ option_map (message_text (error_type msg.now) (number_at msg.now)) (objection (shown msg.now) (map (λ t. t.0) supported.now) (map (λ t. t.0) required.now))) }
-        ensures kinds { IfOk result (λ answered. option_map (λ reply. W.kinds reply) answered ≡ option_map kinds_of (objection (shown msg.now) (map (λ t. t.0) supported.now) (map (λ t. t.0) required.now))) }
-        ensures begun { IfOk result (λ answered. IfSome answered (λ reply. IsBegun (W.written reply))) }
-        // Lent bytes behind the response stay.
-        ensures behind { IfOk result (λ answered. IfSome answered (λ reply. W.behind reply ≡ drop (length (W.written reply)) (W.behind writer))) }
-        ensures limit { IfOk result (λ answered. IfSome answered (λ reply. W.limit reply ≡ W.limit writer)) }
-        ensures accepted { OnOk result (objection_refusal (W.limit writer) (shown msg.now) (map (λ t. t.0) supported.now) (map (λ t. t.0) required.now) ≡ None) }
-        ensures refused { IfErr result (λ error. error ≢ StunWriteError.NoMemory → objection_refusal (W.limit writer) (shown msg.now) (map (λ t. t.0) supported.now) (map (λ t. t.0) required.now) ≡ Some error) }
+        ensures ok { IfOk result (λ answered. IsObjected
+            (objection (shown msg.now) (map (λ t. t.0) supported.now) (map (λ t. t.0) required.now))
+            (error_type msg.now) (number_at msg.now) (W.draft writer)
+            (option_map (λ w. W.draft w) answered)) }
+        ensures cause { RefusesFor StunWriteError.NoMemory
+            (objection_refusal (W.draft writer).limit (shown msg.now)
+            (map (λ t. t.0) supported.now) (map (λ t. t.0) required.now)) result }
     {
-        let unknown = unknown_types(alloc, msg, supported)?;
-        if !unknown.is_empty() {
-            let reply = Message::unknown_attributes(alloc, msg, unknown.as_slice(), writer)?;
+        if shows_unknown(msg, supported) {
+            let unknown = unknown_types(alloc, msg, supported);
+            room_for_types(&writer, unknown.count)?;
+            if unknown.lacks_memory {
+                return Err(StunWriteError::NoMemory);
+            }
+            let reply = Message::unknown_attributes(alloc, msg, unknown.types.as_slice(), writer)?;
             return Ok(Some(reply));
         }
         if lacks_type(msg, required) {
@@ -65,40 +68,99 @@ impl<'a> Message<'a> {
 /// The law of what is listed: the types of attributes that have to be understood and are not supported,
 /// none of them twice, these and no others, in the order in which they are first shown.
 pub fn unknown_types_are_listed()
-    ensures { (all : List Attr) (supported : List ℕ) → IsUnknownList (kinds_of all) supported (unknown_kinds all supported) }
+    ensures { (all : List Attr) (supported : List ℕ)
+        → IsUnknownList (kinds_of all) supported (unknown_kinds all supported) }
 {}
 
-/// The types that a message shows, that have to be understood and are not supported, each once, in the
-/// order in which they are first shown.
-#[tactic(auto, using(crate::proofs::Listing::next_listed, crate::proofs::Listing::all_listed))]
-fn unknown_types(
-    alloc: Global,
-    msg: &Message,
-    supported: &[AttributeType],
-) -> Result<Vec<AttributeType>, NoMemory>
-    ensures { IfOk result (λ unknown. map (λ t. t.0) unknown.items ≡ unknown_kinds (shown msg.now) (map (λ t. t.0) supported.now)) }
-{
-    let mut unknown = Vec::new(alloc);
-    for (_, attribute) in msg.iter_attributes() {
-        list_unknown(&mut unknown, attribute.get_type(), supported)?;
-    }
-    Ok(unknown)
+/// How many types have to be understood: those below 0x8000.
+const REQUIRED_TYPES: usize = 0x8000;
+
+/// The unknown types of a message, each once. Where memory is refused they are counted on.
+#[derive(Drop)]
+struct Unknown {
+    count: usize,
+    types: Vec<AttributeType>,
+    lacks_memory: bool,
 }
 
-/// Adds a type at the end, if it has to be understood, is not supported and is not there. Where memory
-/// is refused, `NoMemory`.
-#[tactic(auto, using(stun_types_write::proofs::Types::any_numbers, crate::proofs::Listing::numbers_more))]
+/// Whether a message shows a type that has to be understood and is not supported.
+#[tactic(auto, using(stun_types_grammar::proofs::Left::map_numbered))]
+fn shows_unknown(msg: &Message, supported: &[AttributeType]) -> bool
+    ensures { result ≡ list_any (λ a. is_unknown (map (λ t. t.0) supported.now) a.kind)
+        (shown msg.now) }
+{
+    for (_, attribute) in msg.iter_attributes() {
+        if is_unknown_type(attribute.get_type(), supported) {
+            return true;
+        }
+    }
+    false
+}
+
+/// The types that a message shows, that have to be understood and are not supported, each once, in the
+/// order in which they are first shown. It goes over the message once.
+fn unknown_types(alloc: Global, msg: &Message, supported: &[AttributeType]) -> Unknown
+    ensures count { result.count
+        ≡ length (unknown_kinds (shown msg.now) (map (λ t. t.0) supported.now)) }
+    ensures few { result.count < 2 ^ 62 }
+    ensures types { result.lacks_memory ≡ false → map (λ t. t.0) result.types.items
+        ≡ unknown_kinds (shown msg.now) (map (λ t. t.0) supported.now) }
+{
+    let mut listed = [false; REQUIRED_TYPES];
+    let mut unknown = Unknown {
+        count: 0,
+        types: Vec::new(alloc),
+        lacks_memory: false,
+    };
+    let mut left = msg.shown_text();
+    while !left.is_empty() {
+        let front = Front::at(left);
+        list_unknown(&mut listed, &mut unknown, front.atype, supported);
+        let (_, behind) = left.split_at(front.size);
+        left = behind;
+    }
+    unknown
+}
+
+/// Lists a type, if it has to be understood, is not supported and is not listed.
 fn list_unknown(
-    listed: &mut Vec<AttributeType>,
+    listed: &mut [bool],
+    unknown: &mut Unknown,
     atype: AttributeType,
     supported: &[AttributeType],
-) -> Result<(), NoMemory>
-    ensures { OnOk result (map (λ t. t.0) listed.new.items ≡ with_unknown (map (λ t. t.0) supported.now) (map (λ t. t.0) listed.old.items) atype.0) }
+)
+    requires all { length listed.old ≡ 0x8000 }
+    requires few { unknown.old.count < 2 ^ 63 }
+    ensures all { length listed.new ≡ 0x8000 }
+    ensures listed { (seen : List ℕ) → IsListing seen listed.old unknown.old
+        → IsListing (with_unknown (map (λ t. t.0) supported.now) seen atype.0)
+        listed.new unknown.new }
+    ensures more { unknown.new.count ≤ unknown.old.count + 1 }
 {
-    if is_unknown_type(atype, supported) && !has_type(listed.as_slice(), atype) {
-        listed.push(atype)?;
+    if !is_unknown_type(atype, supported) {
+        return;
     }
-    Ok(())
+    let place = usize::from(atype.0);
+    if !listed[place] {
+        listed[place] = true;
+        unknown.add(atype);
+    }
+}
+
+impl Unknown {
+    /// Adds a type at the end. Where memory is refused it is counted.
+    fn add(&mut self, atype: AttributeType)
+        requires { self.old.count < 2 ^ 63 }
+        ensures count { self.new.count ≡ self.old.count + 1 }
+        ensures types { self.new.lacks_memory ≡ false
+            → (self.old.lacks_memory ≡ false)
+            × (self.new.types.items ≡ self.old.types.items ++ atype ∷ []) }
+    {
+        self.count += 1;
+        if self.types.push(atype).is_err() {
+            self.lacks_memory = true;
+        }
+    }
 }
 
 /// Whether a type has to be understood and is not supported.
@@ -111,7 +173,8 @@ fn is_unknown_type(atype: AttributeType, supported: &[AttributeType]) -> bool
 
 /// Whether a required type is not shown.
 fn lacks_type(msg: &Message, required: &[AttributeType]) -> bool
-    ensures { result ≡ list_any (λ t. not (is_some (find (λ a. a.kind == t.0) (shown msg.now)))) required.now }
+    ensures { result ≡ list_any (λ t. not (is_some
+        (find (λ a. a.kind == t.0) (shown msg.now)))) required.now }
 {
     required.iter().any(|t| !msg.has_attribute(*t))
 }

@@ -23,7 +23,8 @@ pub(crate) fn is_wrong(bytes: &[u8], rest: &[u8], front: Front) -> bool
     requires within { 20 + length rest.now ≤ length bytes.now }
     requires short { length bytes.now ≤ 65_555 }
     requires stands { drop (length bytes.now - length rest.now) bytes.now ≡ rest.now }
-    ensures { result ≡ is_wrong_fingerprint bytes.now (length bytes.now - length rest.now, attr_at rest.now) }
+    ensures { result ≡ is_wrong_fingerprint bytes.now
+        (length bytes.now - length rest.now, attr_at rest.now) }
 {
     front.atype == Fingerprint::TYPE && !has_value(bytes, rest, front.length)
 }
@@ -37,7 +38,8 @@ fn has_value(bytes: &[u8], rest: &[u8], len: usize) -> bool
     requires within { 20 + length rest.now ≤ length bytes.now }
     requires short { length bytes.now ≤ 65_555 }
     requires stands { drop (length bytes.now - length rest.now) bytes.now ≡ rest.now }
-    ensures { result ≡ bytes_eq (attr_at rest.now).value (fingerprint_value (covered_text bytes.now (length bytes.now - length rest.now))) }
+    ensures { result ≡ bytes_eq (attr_at rest.now).value
+        (fingerprint_value (covered_text bytes.now (length bytes.now - length rest.now))) }
 {
     if len != SIZE - 4 {
         return false;

@@ -28,7 +28,8 @@ impl<'a> Model for MessageAttributesIter<'a> {
 
     ghost use Rattle.stun_types_message.specs.Stages.{stage_rank};
 
-    ghost view = { λ it. numbered it.offset (shown_after (stage_rank it.stage) (drop it.offset it.bytes.now)) };
+    ghost view = { λ it. numbered it.offset (shown_after (stage_rank it.stage)
+        (drop it.offset it.bytes.now)) };
 }
 
 impl<'a> MessageAttributesIter<'a> {

@@ -4,6 +4,7 @@ ghost use Rattle.std.specs.Prelude.{◌≡◌, ◌==◌, ◌+◌, ◌<◌, ◌�
 ghost use Rattle.stun_types_wire.specs.Attributes.{attr_size, kind_at, numbered};
 ghost use Rattle.stun_types_wire.specs.Types.{class_of, method_of, is_response_class};
 ghost use Rattle.stun_types_wire.specs.Grammar.{body_refusal, refusal, shown, number_at};
+ghost use Rattle.stun_types_message.specs.Shows.{IsShownText};
 
 use crate::fingerprint;
 use crate::front::Front;
@@ -52,7 +53,8 @@ impl<'a> Message<'a> {
     /// follows it are not shown and not looked at.
     #[tactic(auto, unfolding(stun_types_wire::specs::Grammar::refusal, stun_types_wire::specs::Grammar::length_refusal))]
     pub fn from_bytes(bytes: &'a [u8]) -> Result<Message<'a>, StunParseError>
-        ensures { MatchResult result (λ m. (m ≡ bytes.now) × (refusal bytes.now ≡ None)) (λ error. refusal bytes.now ≡ Some error) }
+        ensures { MatchResult result (λ m. (m ≡ bytes.now) × (refusal bytes.now ≡ None))
+            (λ error. refusal bytes.now ≡ Some error) }
     {
         let header = MessageHeader::from_bytes(bytes)?;
         let end = MessageHeader::LENGTH + header.data_length() as usize;
@@ -83,6 +85,13 @@ impl<'a> Message<'a> {
         ensures message { refusal result.now ≡ None }
     {
         self.bytes
+    }
+
+    /// The bytes of the attributes that the message shows.
+    pub(crate) fn shown_text(&self) -> &'a [u8]
+        ensures { IsShownText self.now result.now }
+    {
+        self.shown
     }
 
     /// What the header would tell as the length if the message ended at this offset.
@@ -186,7 +195,9 @@ impl<'a> TryFrom<&'a [u8]> for Message<'a> {
 
     type Error = StunParseError;
 
-    ghost try_from_gives = { λ bytes result. MatchResult result (λ m. (m ≡ bytes.now) × (refusal bytes.now ≡ None)) (λ error. refusal bytes.now ≡ Some error) };
+    ghost try_from_gives = { λ bytes result. MatchResult result
+        (λ m. (m ≡ bytes.now) × (refusal bytes.now ≡ None))
+        (λ error. refusal bytes.now ≡ Some error) };
 
     fn try_from(value: &'a [u8]) -> Result<Message<'a>, StunParseError> {
         Message::from_bytes(value)
@@ -198,8 +209,10 @@ impl<'a> TryFrom<&'a [u8]> for Message<'a> {
 fn scan(bytes: &[u8]) -> Result<usize, StunParseError>
     requires header { 20 ≤ length bytes.now }
     requires short { length bytes.now ≤ 65_555 }
-    ensures answer { MatchResult result (λ _. body_refusal bytes.now ≡ None) (λ error. body_refusal bytes.now ≡ Some error) }
-    ensures end { IfOk result (λ end. (end ≡ 20 + sum_by attr_size (shown bytes.now)) × (end ≤ length bytes.now)) }
+    ensures answer { MatchResult result (λ _. body_refusal bytes.now ≡ None)
+        (λ error. body_refusal bytes.now ≡ Some error) }
+    ensures end { IfOk result (λ end. (end ≡ 20 + sum_by attr_size (shown bytes.now))
+        × (end ≤ length bytes.now)) }
 {
     let (_, mut rest) = bytes.split_at(MessageHeader::LENGTH);
     let mut stage = Stage::Ordinary;

@@ -1,12 +1,14 @@
 //! Error responses to requests that are refused by their form (RFC 8489, section 6.3.1).
 
-ghost use Rattle.std.specs.Prelude.{◌≡◌, ◌≢◌, ◌≤◌, ◌∷◌, ◌+◌, ◌*◌, [], drop, length, map, IfOk, IfErr, OnOk, IfSome, MatchResult, None, Some};
-ghost use Rattle.stun_types_wire.specs.Attributes.{attr_size, kind_at, padded};
+ghost use Rattle.std.specs.Prelude.{◌≡◌, ◌≢◌, ◌∷◌, ◌+◌, ◌<◌, ◌^◌, [], length, map, IfOk, IfErr, MatchResult, None, Some};
+ghost use Rattle.stun_types_wire.specs.Attributes.{attr_size, kind_at};
 ghost use Rattle.stun_types_wire.specs.Types.{class_of};
-ghost use Rattle.stun_types_wire.specs.Grammar.{number_at, shown};
-ghost use Rattle.stun_types_wire.specs.Text.{message_text};
+ghost use Rattle.stun_types_wire.specs.Grammar.{number_at};
 ghost use Rattle.stun_types_wire.specs.declared.class.MessageClass.TheVariants.{Request};
-ghost use Rattle.stun_types_write.specs.Adding.{IsBegun, size_refusal};
+ghost use Rattle.stun_types_base.specs.Refusals.{RefusesFor};
+ghost use Rattle.stun_types_write.specs.Adding.{size_refusal};
+ghost use Rattle.stun_types_write.specs.Outcomes.{CanBegin};
+ghost use Rattle.stun_types_build.specs.Calls.{IsComposed};
 ghost use Rattle.stun_types_attribute.specs.Errors.{error_refusal, reason_for};
 ghost use Rattle.stun_types_message.specs.Objections.{bad_request_attributes, bad_request_refusal, error_attribute, error_type, unknown_refusal, unknown_response_attributes};
 
@@ -41,18 +43,13 @@ impl<'a> Message<'a> {
         writer: W,
     ) -> Result<W, StunWriteError>
         requires request { class_of (kind_at request.now) ≡ Request }
-        requires empty { W.written writer ≡ [] }
-        requires no_kinds { W.kinds writer ≡ [] }
-        requires room { IfSome (W.limit writer) (λ most. 20 ≤ most) }
-        ensures text { IfOk result (λ reply. W.written reply ≡ message_text (error_type request.now) (number_at request.now) bad_request_attributes) }
-        ensures begun { IfOk result (λ reply. IsBegun (W.written reply)) }
-        ensures size { IfOk result (λ reply. length (W.written reply) ≡ 40) }
-        ensures kinds { IfOk result (λ reply. W.kinds reply ≡ 0x0009 ∷ []) }
-        ensures behind { IfOk result (λ reply. W.behind reply ≡ drop 40 (W.behind writer)) }
-        ensures limit { IfOk result (λ reply. W.limit reply ≡ W.limit writer) }
-        ensures accepted { OnOk result (bad_request_refusal (W.limit writer) ≡ None) }
-        ensures refused { IfErr result (λ error. error ≢ StunWriteError.NoMemory → bad_request_refusal (W.limit writer) ≡ Some error) }
-        ensures last { IfErr result (λ error. error ≡ StunWriteError.NoMemory → bad_request_refusal (W.limit writer) ≡ None) }
+        requires empty { CanBegin (W.draft writer) }
+        ensures ok { IfOk result (λ reply. IsComposed (error_type request.now)
+            (number_at request.now)
+            bad_request_attributes
+            (W.draft writer) (W.draft reply)) }
+        ensures cause { RefusesFor StunWriteError.NoMemory
+            (bad_request_refusal (W.draft writer).limit) result }
     {
         write_error(alloc, ErrorCode::BAD_REQUEST, request, writer)
     }
@@ -72,20 +69,15 @@ impl<'a> Message<'a> {
         writer: W,
     ) -> Result<W, StunWriteError>
         requires request { class_of (kind_at request.now) ≡ Request }
-        requires empty { W.written writer ≡ [] }
-        requires no_kinds { W.kinds writer ≡ [] }
-        requires room { IfSome (W.limit writer) (λ most. 20 ≤ most) }
-        ensures text { IfOk result (λ reply. W.written reply ≡ message_text (error_type request.now) (number_at request.now) (unknown_response_attributes (map (λ t. t.0) types.now))) }
-        ensures begun { IfOk result (λ reply. IsBegun (W.written reply)) }
-        ensures size { IfOk result (λ reply. length (W.written reply) ≡ 52 + padded (2 * length types.now)) }
-        ensures kinds { IfOk result (λ reply. W.kinds reply ≡ 0x0009 ∷ 0x000A ∷ []) }
-        ensures behind { IfOk result (λ reply. W.behind reply ≡ drop (52 + padded (2 * length types.now)) (W.behind writer)) }
-        ensures limit { IfOk result (λ reply. W.limit reply ≡ W.limit writer) }
-        ensures accepted { OnOk result (unknown_refusal (W.limit writer) (length types.now) ≡ None) }
-        ensures refused { IfErr result (λ error. error ≢ StunWriteError.NoMemory → unknown_refusal (W.limit writer) (length types.now) ≡ Some error) }
-        ensures last { IfErr result (λ error. error ≡ StunWriteError.NoMemory → unknown_refusal (W.limit writer) (length types.now) ≡ None) }
+        requires empty { CanBegin (W.draft writer) }
+        ensures ok { IfOk result (λ reply. IsComposed (error_type request.now)
+            (number_at request.now)
+            (unknown_response_attributes (map (λ t. t.0) types.now))
+            (W.draft writer) (W.draft reply)) }
+        ensures cause { RefusesFor StunWriteError.NoMemory
+            (unknown_refusal (W.draft writer).limit (length types.now)) result }
     {
-        room_for_types(&writer, types)?;
+        room_for_types(&writer, types.len())?;
         let unknown = UnknownAttributes::new(alloc, types)?;
         let mut reply = write_error(alloc, ErrorCode::UNKNOWN_ATTRIBUTE, request, writer)?;
         add_as(&mut reply, &unknown, &unknown)?;
@@ -93,17 +85,20 @@ impl<'a> Message<'a> {
     }
 }
 
-/// Looks at all that refuses the error response that lists these types, but memory.
+/// Looks at all that refuses the error response that lists so many types, but memory.
 #[tactic(auto, using(crate::proofs::Refusing::too_many, crate::proofs::Refusing::types_answer))]
-fn room_for_types<W: MessageWrite>(
+pub(crate) fn room_for_types<W: MessageWrite>(
     writer: &W,
-    types: &[AttributeType],
+    count: usize,
 ) -> Result<(), StunWriteError>
-    requires empty { W.written writer.now ≡ [] }
-    ensures answer { MatchResult result (λ _. unknown_refusal (W.limit writer.now) (length types.now) ≡ None) (λ error. unknown_refusal (W.limit writer.now) (length types.now) ≡ Some error) }
+    requires small { count < 2 ^ 62 }
+    requires empty { (W.draft writer.now).bytes ≡ [] }
+    ensures answer { MatchResult result
+        (λ _. unknown_refusal (W.draft writer.now).limit count ≡ None)
+        (λ error. unknown_refusal (W.draft writer.now).limit count ≡ Some error) }
     ensures named { IfErr result (λ error. error ≢ StunWriteError.NoMemory) }
 {
-    let len = 2 * types.len();
+    let len = 2 * count;
     if len > UnknownAttributes::MAX_LEN {
         return Err(StunWriteError::TooLarge {
             expected: UnknownAttributes::MAX_LEN,
@@ -126,18 +121,12 @@ fn write_error<W: MessageWrite + Drop>(
 ) -> Result<W, StunWriteError>
     requires lawful { error_refusal code (reason_for code) ≡ None }
     requires request { class_of (kind_at request.now) ≡ Request }
-    requires empty { W.written writer ≡ [] }
-    requires no_kinds { W.kinds writer ≡ [] }
-    requires room { IfSome (W.limit writer) (λ most. 20 ≤ most) }
-    ensures text { IfOk result (λ reply. W.written reply ≡ message_text (error_type request.now) (number_at request.now) (error_attribute code ∷ [])) }
-    ensures begun { IfOk result (λ reply. IsBegun (W.written reply)) }
-    ensures size { IfOk result (λ reply. length (W.written reply) ≡ 20 + attr_size (error_attribute code)) }
-    ensures kinds { IfOk result (λ reply. W.kinds reply ≡ 0x0009 ∷ []) }
-    ensures behind { IfOk result (λ reply. W.behind reply ≡ drop (20 + attr_size (error_attribute code)) (W.behind writer)) }
-    ensures limit { IfOk result (λ reply. W.limit reply ≡ W.limit writer) }
-    ensures accepted { OnOk result (size_refusal (W.limit writer) (20 + attr_size (error_attribute code)) ≡ None) }
-    ensures refused { IfErr result (λ error. error ≢ StunWriteError.NoMemory → size_refusal (W.limit writer) (20 + attr_size (error_attribute code)) ≡ Some error) }
-    ensures last { IfErr result (λ error. error ≡ StunWriteError.NoMemory → size_refusal (W.limit writer) (20 + attr_size (error_attribute code)) ≡ None) }
+    requires empty { CanBegin (W.draft writer) }
+    ensures ok { IfOk result (λ reply. IsComposed (error_type request.now) (number_at request.now)
+        (error_attribute code ∷ [])
+        (W.draft writer) (W.draft reply)) }
+    ensures cause { RefusesFor StunWriteError.NoMemory
+        (size_refusal (W.draft writer).limit (20 + attr_size (error_attribute code))) result }
 {
     let reason = ErrorCode::default_reason_for_code(code);
     end_of_add(

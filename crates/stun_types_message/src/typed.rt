@@ -1,6 +1,7 @@
 //! The attributes that a message shows, as values of their own types.
 
-ghost use Rattle.std.specs.Prelude.{◌≡◌, ◌≢◌, ◌==◌, IfOk, IfErr, Some, find};
+ghost use Rattle.std.specs.Prelude.{◌≡◌, ◌==◌, IfOk, find};
+ghost use Rattle.stun_types_base.specs.Refusals.{RefusesFor};
 ghost use Rattle.stun_types_wire.specs.Grammar.{shown};
 ghost use Rattle.stun_types_message.specs.Reading.{IsReadOf, nth_of_kind, read_of_refusal};
 
@@ -17,8 +18,10 @@ impl<'a> Message<'a> {
         &self,
         alloc: Global,
     ) -> Result<A, StunParseError>
-        ensures ok { IfOk result (λ read. IsReadOf A.kind A.value A.read_refusal A.read_value (find (λ a. a.kind == A.TYPE.0) (shown self.now)) read) }
-        ensures refused { IfErr result (λ error. error ≢ StunParseError.NoMemory → read_of_refusal A.TYPE A.read_refusal (find (λ a. a.kind == A.TYPE.0) (shown self.now)) ≡ Some error) }
+        ensures ok { IfOk result (IsReadOf A.kind A.value A.read_refusal A.read_value
+            (find (λ a. a.kind == A.TYPE.0) (shown self.now))) }
+        ensures cause { RefusesFor StunParseError.NoMemory (read_of_refusal A.TYPE A.read_refusal
+            (find (λ a. a.kind == A.TYPE.0) (shown self.now))) result }
     {
         match self.raw_attribute(A::TYPE) {
             None => Err(StunParseError::MissingAttribute(A::TYPE)),
@@ -33,8 +36,10 @@ impl<'a> Message<'a> {
         alloc: Global,
         n: usize,
     ) -> Result<A, StunParseError>
-        ensures ok { IfOk result (λ read. IsReadOf A.kind A.value A.read_refusal A.read_value (nth_of_kind A.TYPE.0 n (shown self.now)) read) }
-        ensures refused { IfErr result (λ error. error ≢ StunParseError.NoMemory → read_of_refusal A.TYPE A.read_refusal (nth_of_kind A.TYPE.0 n (shown self.now)) ≡ Some error) }
+        ensures ok { IfOk result (IsReadOf A.kind A.value A.read_refusal A.read_value
+            (nth_of_kind A.TYPE.0 n (shown self.now))) }
+        ensures cause { RefusesFor StunParseError.NoMemory (read_of_refusal A.TYPE A.read_refusal
+            (nth_of_kind A.TYPE.0 n (shown self.now))) result }
     {
         match self.nth_of_type(A::TYPE, n) {
             None => Err(StunParseError::MissingAttribute(A::TYPE)),

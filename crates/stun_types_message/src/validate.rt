@@ -1,8 +1,7 @@
 //! Whether a message is what a holder of a key has sent.
 
-ghost use Rattle.std.specs.Prelude.{◌≡◌, ◌≢◌, ◌↔◌, ◌-◌, ◌≤◌, ℕ, List, Ok, Some, None, IsTrue, IsSomeAnd, IfOk, IfErr, IfSome, OnOk, MatchOption, MatchResult, length};
+ghost use Rattle.std.specs.Prelude.{◌≡◌, ◌≢◌, ◌↔◌, ◌-◌, ℕ, List, Ok, Err, Some, None, IsSome, IsTrue, IsSomeAnd, IfOk, IfErr, IfSome, OnOk, MatchResult};
 ghost use Rattle.stun_types_wire.specs.declared.algorithm.IntegrityAlgorithm.{IntegrityAlgorithm as Algorithm};
-ghost use Rattle.stun_types_wire.specs.Attributes.{Attr};
 ghost use Rattle.stun_types_wire.specs.Grammar.{IsMessage, shown};
 ghost use Rattle.stun_types_integrity.specs.Integrity.{IsSigned, Validates, attribute_kind};
 ghost use Rattle.stun_types_integrity.specs.Keys.{key_of};
@@ -11,13 +10,13 @@ ghost use Rattle.stun_types_message.specs.Validation.{HasDigest, IsNotValid, IsR
 use crate::iter::MessageAttributesIter;
 use crate::message::Message;
 use std::alloc::Global;
-use stun_types_integrity::algorithm::{
-    MESSAGE_INTEGRITY, algorithm_of, attribute_type, is_lawful_length,
-};
+use stun_types_integrity::algorithm::{algorithm_of, attribute_type, is_lawful_length};
 use stun_types_integrity::credentials::MessageIntegrityCredentials;
 use stun_types_integrity::key::IntegrityKey;
 use stun_types_wire::algorithm::IntegrityAlgorithm;
-use stun_types_wire::attribute::{AttributeType, RawAttribute, pad_attribute_len};
+use stun_types_wire::attribute::{
+    AttributeType, MESSAGE_INTEGRITY, RawAttribute, pad_attribute_len,
+};
 use stun_types_wire::error::{StunParseError, ValidateError};
 
 impl<'a> Message<'a> {
@@ -45,9 +44,17 @@ impl<'a> Message<'a> {
         alloc: Global,
         credentials: &MessageIntegrityCredentials,
     ) -> Result<IntegrityAlgorithm, ValidateError>
-        ensures valid { IfOk result (λ algorithm. (text : List ℕ) × Validates self.now (key_of credentials.now algorithm).bytes algorithm text) }
-        ensures accepted { (algorithm : Algorithm) (text : List ℕ) → Validates self.now (key_of credentials.now algorithm).bytes algorithm text → MatchResult result (λ answered. answered ≡ algorithm) (λ error. error ≡ ValidateError.NoMemory) }
-        ensures refused { IfErr result (λ error. error ≢ ValidateError.NoMemory → IsNotValid self.now credentials.now error) }
+        ensures valid { IfOk result (λ algorithm. (text : List ℕ)
+            × Validates self.now (key_of credentials.now algorithm).bytes algorithm text) }
+        ensures accepted { (algorithm : Algorithm) (text : List ℕ)
+            → Validates self.now (key_of credentials.now algorithm).bytes algorithm text
+            → MatchResult result (λ answered. answered ≡ algorithm)
+            (λ error. error ≡ ValidateError.NoMemory) }
+        ensures refused { IfErr result (λ error. error ≢ ValidateError.NoMemory
+            → IsNotValid self.now credentials.now error) }
+        // Memory is asked for only where an integrity attribute is shown.
+        ensures memory { result ≡ Err ValidateError.NoMemory
+            → IsSome (last_algorithm (shown self.now)) }
     {
         let Some(algorithm) = self.last_integrity() else {
             return Err(ValidateError::Parse(StunParseError::MissingAttribute(MESSAGE_INTEGRITY)));
@@ -65,9 +72,12 @@ impl<'a> Message<'a> {
         &self,
         key: &IntegrityKey,
     ) -> Result<IntegrityAlgorithm, ValidateError>
-        ensures valid { IfOk result (λ algorithm. (algorithm ≡ key.now.algorithm) × ((text : List ℕ) × IsSigned self.now key.now.bytes algorithm text)) }
-        ensures accepted { (text : List ℕ) → IsSigned self.now key.now.bytes key.now.algorithm text → result ≡ Ok key.now.algorithm }
-        ensures refused { IfErr result (λ error. IsRefused self.now key.now.bytes key.now.algorithm error) }
+        ensures valid { IfOk result (λ algorithm. (algorithm ≡ key.now.algorithm)
+            × ((text : List ℕ) × IsSigned self.now key.now.bytes algorithm text)) }
+        ensures accepted { (text : List ℕ) → IsSigned self.now key.now.bytes key.now.algorithm text
+            → result ≡ Ok key.now.algorithm }
+        ensures refused { IfErr result (λ error.
+            IsRefused self.now key.now.bytes key.now.algorithm error) }
     {
         self.judge_by(key)
     }
@@ -76,8 +86,11 @@ impl<'a> Message<'a> {
     fn judge_by(&self, key: &IntegrityKey) -> Result<IntegrityAlgorithm, ValidateError>
         ensures message { IsMessage self.now }
         ensures algorithm { IfOk result (λ algorithm. algorithm ≡ key.now.algorithm) }
-        ensures passed { OnOk result (IsSomeAnd (first_of_kind (attribute_kind key.now.algorithm) self.now) (IsRight self.now key.now.bytes key.now.algorithm)) }
-        ensures refused { IfErr result (λ error. IsRefused self.now key.now.bytes key.now.algorithm error) }
+        ensures passed { OnOk result (IsSomeAnd (first_of_kind
+            (attribute_kind key.now.algorithm) self.now)
+            (IsRight self.now key.now.bytes key.now.algorithm)) }
+        ensures refused { IfErr result (λ error.
+            IsRefused self.now key.now.bytes key.now.algorithm error) }
     {
         let algorithm = key.algorithm();
         let atype = attribute_type(algorithm);
@@ -114,7 +127,8 @@ impl<'a> Message<'a> {
     #[tactic(auto, using(crate::proofs::Validating::covered_pieces))]
     fn has_digest(&self, offset: usize, value: &[u8], key: &IntegrityKey) -> bool
         requires { StandsAt self.now offset value.now }
-        ensures { IsTrue result ↔ HasDigest self.now key.now.bytes key.now.algorithm offset value.now }
+        ensures { IsTrue result
+            ↔ HasDigest self.now key.now.bytes key.now.algorithm offset value.now }
     {
         let (front, _) = self.as_ref().split_at(offset);
         let end = offset + 4 + pad_attribute_len(value.len());

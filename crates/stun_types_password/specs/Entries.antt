@@ -52,7 +52,8 @@ most_algorithms = 8
 
 -- a value that is not made of entries, each of a known algorithm
 unfoldable pub entries_refusal : List ℕ → Option StunParseError
-entries_refusal value = if length value % 4 == 0 && list_all is_known (numbers_told value) then None else Some InvalidAttributeData
+entries_refusal value = if length value % 4 == 0 && list_all is_known (numbers_told value) then None
+    else Some InvalidAttributeData
 
 -- why a type and a value are no PASSWORD-ALGORITHMS
 unfoldable pub algorithms_read_refusal : Attr → Option StunParseError
@@ -63,6 +64,8 @@ abbrev pub none_told_refusal : List PasswordAlgorithmValue → Option StunParseE
 none_told_refusal [] = Some (Truncated 4 0)
 none_told_refusal (algorithm ∷ algorithms) = None
 
--- why no PASSWORD-ALGORITHMS is made of so many algorithms: the bytes of its value are told, as far as a `usize` holds them
+-- why no PASSWORD-ALGORITHMS is made of so many algorithms: the bytes of its value are told, as far
+-- as a `usize` holds them
 abbrev pub count_refusal : ℕ → Option StunWriteError
-count_refusal count = if nat_lt most_algorithms count then Some (TooLarge (4 * most_algorithms) (min (4 * count) greatest_len)) else None
+count_refusal count = if nat_lt most_algorithms count then Some
+    (TooLarge (4 * most_algorithms) (min (4 * count) greatest_len)) else None

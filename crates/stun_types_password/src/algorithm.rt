@@ -1,6 +1,7 @@
 //! Password algorithms (RFC 8489, section 18.5).
 
 ghost use Rattle.std.specs.Prelude.{◌≡◌, ◌≤◌, length, MatchResult, None, Some};
+ghost use Rattle.stun_types_write.specs.Reading.{IsNamed};
 ghost use Rattle.stun_types_password.specs.Algorithms.{integrity_of, number_of, number_refusal};
 ghost use Rattle.stun_types_password.specs.Entries.{algorithm_value, number_told};
 
@@ -43,7 +44,8 @@ impl PasswordAlgorithmValue {
     /// The algorithm of a number. Refused with `InvalidAttributeData` where it is that of none.
     #[tactic(auto, unfolding(crate::specs::Algorithms::is_known, crate::specs::Algorithms::number_refusal))]
     fn of_number(number: u16) -> Result<PasswordAlgorithmValue, StunParseError>
-        ensures { MatchResult result (λ algorithm. (number_of algorithm ≡ number) × (number_refusal number ≡ None)) (λ error. number_refusal number ≡ Some error) }
+        ensures { MatchResult result (λ algorithm. (number_of algorithm ≡ number)
+            × (number_refusal number ≡ None)) (IsNamed (number_refusal number)) }
     {
         match number {
             1 => Ok(PasswordAlgorithmValue::MD5),
@@ -65,7 +67,9 @@ impl PasswordAlgorithmValue {
     #[tactic(auto, unfolding(crate::specs::Entries::number_told))]
     pub(crate) fn from_bytes(bytes: &[u8]) -> Result<PasswordAlgorithmValue, StunParseError>
         requires { 4 ≤ length bytes.now }
-        ensures { MatchResult result (λ algorithm. (number_of algorithm ≡ number_told bytes.now) × (number_refusal (number_told bytes.now) ≡ None)) (λ error. number_refusal (number_told bytes.now) ≡ Some error) }
+        ensures { MatchResult result (λ algorithm. (number_of algorithm ≡ number_told bytes.now)
+            × (number_refusal (number_told bytes.now) ≡ None))
+            (IsNamed (number_refusal (number_told bytes.now))) }
     {
         PasswordAlgorithmValue::of_number(BigEndian::read_u16(bytes))
     }

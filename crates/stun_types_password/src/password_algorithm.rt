@@ -1,6 +1,7 @@
 //! PASSWORD-ALGORITHM (RFC 8489, section 14.12).
 
-ghost use Rattle.std.specs.Prelude.{◌≡◌, None, Some, MatchResult};
+ghost use Rattle.std.specs.Prelude.{◌≡◌, None, MatchResult};
+ghost use Rattle.stun_types_write.specs.Reading.{IsNamed};
 ghost use Rattle.stun_types_password.specs.Algorithms.{number_of};
 ghost use Rattle.stun_types_password.specs.Entries.{algorithm_read_refusal, number_told};
 
@@ -87,12 +88,16 @@ impl AttributeWrite for PasswordAlgorithm {
 /// the number is that of no algorithm.
 impl<'a, 'raw> TryFrom<&'raw RawAttribute<'a>> for PasswordAlgorithm {
     ghost use Rattle.std.specs.Prelude.{◌≡◌, MatchResult, Some, None};
+    ghost use Rattle.stun_types_write.specs.Reading.{IsNamed};
     ghost use Rattle.stun_types_password.specs.Algorithms.{number_of};
     ghost use Rattle.stun_types_password.specs.Entries.{algorithm_read_refusal, number_told};
 
     type Error = StunParseError;
 
-    ghost try_from_gives = { λ raw result. MatchResult result (λ read. (algorithm_read_refusal raw.now ≡ None) × (number_of read ≡ number_told raw.now.value)) (λ error. algorithm_read_refusal raw.now ≡ Some error) };
+    ghost try_from_gives = { λ raw result. MatchResult result
+        (λ read. (algorithm_read_refusal raw.now ≡ None)
+        × (number_of read ≡ number_told raw.now.value))
+        (IsNamed (algorithm_read_refusal raw.now)) };
 
     fn try_from(raw: &'raw RawAttribute<'a>) -> Result<PasswordAlgorithm, StunParseError> {
         let algorithm = algorithm_of(raw)?;
@@ -127,7 +132,9 @@ impl<'a> AttributeFromRaw<'a> for PasswordAlgorithm {
 /// The algorithm in the value of a PASSWORD-ALGORITHM. Refused as `try_from` is.
 #[tactic(auto, unfolding(crate::specs::Entries::algorithm_read_refusal))]
 fn algorithm_of(raw: &RawAttribute<'_>) -> Result<PasswordAlgorithmValue, StunParseError>
-    ensures { MatchResult result (λ algorithm. (algorithm_read_refusal raw.now ≡ None) × (raw.now.kind ≡ 0x001D) × (number_of algorithm ≡ number_told raw.now.value)) (λ error. algorithm_read_refusal raw.now ≡ Some error) }
+    ensures { MatchResult result (λ algorithm. (algorithm_read_refusal raw.now ≡ None)
+        × (raw.now.kind ≡ 0x001D) × (number_of algorithm ≡ number_told raw.now.value))
+        (IsNamed (algorithm_read_refusal raw.now)) }
 {
     let value = value_of(raw, PasswordAlgorithm::TYPE, 4, 4)?;
     PasswordAlgorithmValue::from_bytes(value)

@@ -1,6 +1,8 @@
 //! PASSWORD-ALGORITHMS (RFC 8489, section 14.11).
 
-ghost use Rattle.std.specs.Prelude.{◌≡◌, ◌≢◌, ◌+◌, ◌*◌, ◌%◌, ◌≤◌, ◌++◌, IfOk, IfErr, MatchResult, None, Some, drop, length, map, take, true};
+ghost use Rattle.std.specs.Prelude.{◌≡◌, ◌+◌, ◌*◌, ◌%◌, ◌≤◌, ◌++◌, IfOk, IfErr, MatchResult, None, Some, drop, length, map, take, true};
+ghost use Rattle.stun_types_base.specs.Refusals.{RefusesFor};
+ghost use Rattle.stun_types_write.specs.Reading.{IsNamed};
 ghost use Rattle.std.specs.List.{list_all};
 ghost use Rattle.stun_types_password.specs.Algorithms.{is_known, number_of};
 ghost use Rattle.stun_types_password.specs.Entries.{algorithms_read_refusal, algorithms_value, count_refusal, most_algorithms, numbers_told};
@@ -51,9 +53,10 @@ impl PasswordAlgorithms {
         alloc: Global,
         algorithms: &[PasswordAlgorithmValue],
     ) -> Result<PasswordAlgorithms, StunWriteError>
-        ensures ok { IfOk result (λ made. (made ≡ algorithms.now) × (count_refusal (length algorithms.now) ≡ None)) }
-        ensures refused { IfErr result (λ error. error ≢ StunWriteError.NoMemory → count_refusal (length algorithms.now) ≡ Some error) }
-        ensures last { IfErr result (λ error. error ≡ StunWriteError.NoMemory → count_refusal (length algorithms.now) ≡ None) }
+        ensures ok { IfOk result (λ made. (made ≡ algorithms.now)
+            × (count_refusal (length algorithms.now) ≡ None)) }
+        ensures cause { RefusesFor StunWriteError.NoMemory
+            (count_refusal (length algorithms.now)) result }
     {
         if algorithms.len() > PasswordAlgorithms::MAX_COUNT {
             return Err(StunWriteError::TooLarge {
@@ -99,7 +102,8 @@ impl PasswordAlgorithms {
 #[tactic(auto, using(crate::proofs::Lists::more_written), unfolding(crate::specs::Entries::entries))]
 fn write_entries(algorithms: &[PasswordAlgorithmValue], dest: &mut [u8])
     requires { 4 * length algorithms.now ≤ length dest.old }
-    ensures { dest.new ≡ algorithms_value algorithms.now ++ drop (4 * length algorithms.now) dest.old }
+    ensures { dest.new ≡ algorithms_value algorithms.now
+        ++ drop (4 * length algorithms.now) dest.old }
 {
     if let Some((first, rest)) = algorithms.split_first() {
         let (entry, behind) = dest.split_at_mut(4);
@@ -184,7 +188,11 @@ impl<'a> AttributeFromRaw<'a> for PasswordAlgorithms {
 /// The value of a PASSWORD-ALGORITHMS. Refused as the attribute is, but for memory.
 #[tactic(auto, using(crate::proofs::Lists::told_count), unfolding(crate::specs::Entries::algorithms_read_refusal, crate::specs::Entries::entries_refusal))]
 fn entries_of<'raw>(raw: &'raw RawAttribute<'_>) -> Result<&'raw [u8], StunParseError>
-    ensures { MatchResult result (λ value. (algorithms_read_refusal raw.now ≡ None) × (raw.now.kind ≡ 0x8002) × (value.now ≡ raw.now.value) × (length (numbers_told value.now) ≤ most_algorithms) × (list_all is_known (numbers_told value.now) ≡ true)) (λ error. algorithms_read_refusal raw.now ≡ Some error) }
+    ensures { MatchResult result (λ value. (algorithms_read_refusal raw.now ≡ None)
+        × (raw.now.kind ≡ 0x8002) × (value.now ≡ raw.now.value)
+        × (length (numbers_told value.now) ≤ most_algorithms)
+        × (list_all is_known (numbers_told value.now) ≡ true))
+        (IsNamed (algorithms_read_refusal raw.now)) }
 {
     let value = value_of(
         raw,
@@ -217,7 +225,8 @@ fn tell_known(value: &[u8]) -> bool
 #[tactic(auto, using(crate::proofs::Lists::all_told, crate::proofs::Lists::first_unknown, crate::proofs::Lists::first_known, crate::proofs::Lists::more_told))]
 fn algorithms_of(alloc: Global, value: &[u8]) -> Result<Vec<PasswordAlgorithmValue>, StunParseError>
     requires { list_all is_known (numbers_told value.now) ≡ true }
-    ensures told { IfOk result (λ algorithms. map number_of algorithms.items ≡ numbers_told value.now) }
+    ensures told { IfOk result (λ algorithms. map number_of algorithms.items
+        ≡ numbers_told value.now) }
     ensures refused { IfErr result (λ error. error ≡ StunParseError.NoMemory) }
 {
     let mut algorithms = Vec::with_capacity(alloc, value.len() / 4)?;

@@ -1,6 +1,7 @@
 //! USERHASH (RFC 8489, section 14.4).
 
-ghost use Rattle.std.specs.Prelude.{◌≡◌, length, None, Some, MatchResult};
+ghost use Rattle.std.specs.Prelude.{◌≡◌, length, None, MatchResult};
+ghost use Rattle.stun_types_write.specs.Reading.{IsNamed};
 ghost use Rattle.stun_types_write.specs.Reading.{value_refusal};
 ghost use Rattle.stun_types_password.specs.Userhashes.{userhash_length, userhash_of};
 
@@ -98,12 +99,16 @@ impl AttributeWrite for Userhash {
 /// type, `Truncated` where the value is shorter, `TooLarge` where it is longer.
 impl<'a, 'raw> TryFrom<&'raw RawAttribute<'a>> for Userhash {
     ghost use Rattle.std.specs.Prelude.{◌≡◌, MatchResult, Some, None};
+    ghost use Rattle.stun_types_write.specs.Reading.{IsNamed};
     ghost use Rattle.stun_types_write.specs.Reading.{value_refusal};
     ghost use Rattle.stun_types_password.specs.Userhashes.{userhash_length};
 
     type Error = StunParseError;
 
-    ghost try_from_gives = { λ raw result. MatchResult result (λ read. (value_refusal 0x001E userhash_length userhash_length raw.now ≡ None) × (raw.now.kind ≡ 0x001E) × (read ≡ raw.now.value)) (λ error. value_refusal 0x001E userhash_length userhash_length raw.now ≡ Some error) };
+    ghost try_from_gives = { λ raw result. MatchResult result
+        (λ read. (value_refusal 0x001E userhash_length userhash_length raw.now ≡ None)
+        × (raw.now.kind ≡ 0x001E) × (read ≡ raw.now.value))
+        (IsNamed (value_refusal 0x001E userhash_length userhash_length raw.now)) };
 
     fn try_from(raw: &'raw RawAttribute<'a>) -> Result<Userhash, StunParseError> {
         let value = value_of(raw, Userhash::TYPE, 32, 32)?;

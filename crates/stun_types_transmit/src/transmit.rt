@@ -58,7 +58,8 @@ impl<'a> Transmit<Data<'a>> {
     /// The same with owned bytes: those that are borrowed are copied, and those that are owned stay
     /// in their box, which asks for no memory. Where memory is refused, `NoMemory`.
     pub fn into_owned<'b>(self, alloc: Global) -> Result<Transmit<Data<'b>>, NoMemory>
-        ensures bytes { IfOk result (λ owned. data_bytes owned.bytes ≡ data_bytes self.entry.bytes) }
+        ensures bytes { IfOk result (λ owned. data_bytes owned.bytes
+            ≡ data_bytes self.entry.bytes) }
         ensures owned { IfOk result (λ owned. is_owned owned.bytes ≡ true) }
         ensures stays { is_owned self.entry.bytes ≡ true → result ≡ Ok self.entry }
         ensures transport { IfOk result (λ owned. owned.transport ≡ self.entry.transport) }

@@ -54,7 +54,8 @@ is_whole bytes = nat_le 4 (length bytes) && nat_le (size_at bytes) (length bytes
 -- the whole attributes at the front, at most n of them
 unfoldable pub first_attributes : ℕ → List ℕ → List Attr
 first_attributes zero bytes = []
-first_attributes (suc n) bytes = if is_whole bytes then attr_at bytes ∷ first_attributes n (drop (size_at bytes) bytes) else []
+first_attributes (suc n) bytes = if is_whole bytes then attr_at bytes
+    ∷ first_attributes n (drop (size_at bytes) bytes) else []
 
 -- the whole attributes at the front, as many as there are
 unfoldable pub attributes : List ℕ → List Attr

@@ -1,4 +1,5 @@
--- What the attribute covers that stands at some offset: the message before it, as if it ended with that attribute (RFC 8489, sections 14.5 to 14.7).
+-- What the attribute covers that stands at some offset: the message before it, as if it ended with
+-- that attribute (RFC 8489, sections 14.5 to 14.7).
 use Rattle.std.specs.Prelude.{ℕ, ◌+◌, ◌-◌, List, ◌++◌, take, drop}
 use Rattle.byteorder.specs.Endian.{big_bytes}
 use Rattle.stun_types_wire.specs.Attributes.{size_at}

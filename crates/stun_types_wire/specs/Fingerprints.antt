@@ -17,7 +17,11 @@ fingerprint_value text = big_bytes 4 (bit_xor (crc32 text) fingerprint_mask)
 
 -- the FINGERPRINT of a message with these bytes, to stand at its end
 unfoldable pub fingerprint_of : List ℕ → Attr
-fingerprint_of bytes = record { kind = fingerprint_kind; value = fingerprint_value (with_length bytes (length bytes - 20 + 8)) }
+fingerprint_of bytes = record {
+  kind = fingerprint_kind;
+  value = fingerprint_value
+      (with_length bytes (length bytes - 20 + 8));
+}
 
 -- among some attributes is a FINGERPRINT
 abbrev pub shows_fingerprint : List Attr → Bool
@@ -25,4 +29,5 @@ shows_fingerprint all = list_any (λ a. a.kind == fingerprint_kind) all
 
 -- an attribute of some bytes, at its offset, is a FINGERPRINT, and not that of what it covers
 abbrev pub is_wrong_fingerprint : List ℕ → ℕ × Attr → Bool
-is_wrong_fingerprint bytes entry = entry.1.kind == fingerprint_kind && not (bytes_eq entry.1.value (fingerprint_value (covered_text bytes entry.0)))
+is_wrong_fingerprint bytes entry = entry.1.kind == fingerprint_kind && not
+    (bytes_eq entry.1.value (fingerprint_value (covered_text bytes entry.0)))

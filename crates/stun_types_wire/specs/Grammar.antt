@@ -55,9 +55,11 @@ length_refusal bytes =
 
 -- among attributes of a message, each with its offset, one is a FINGERPRINT and a wrong one
 unfoldable pub fingerprint_refusal : List ℕ → List (ℕ × Attr) → Option StunParseError
-fingerprint_refusal bytes entries = if list_any (is_wrong_fingerprint bytes) entries then Some FingerprintMismatch else None
+fingerprint_refusal bytes entries = if list_any (is_wrong_fingerprint bytes) entries then Some FingerprintMismatch
+    else None
 
--- what may stand behind the shown attributes, the last of them of this rank: nothing, or four bytes and more that begin with a type that doesn't continue the shape
+-- what may stand behind the shown attributes, the last of them of this rank: nothing, or four bytes
+-- and more that begin with a type that doesn't continue the shape
 unfoldable pub rest_refusal : ℕ → List ℕ → Option StunParseError
 rest_refusal before rest =
     if length rest == 0 then None
@@ -67,7 +69,8 @@ rest_refusal before rest =
 
 -- why the bytes behind a header are no attributes of a message
 unfoldable pub body_refusal : List ℕ → Option StunParseError
-body_refusal bytes = or_else (fingerprint_refusal bytes (numbered 20 (shown_after 0 (drop 20 bytes)))) (rest_refusal (shown_rank 0 (drop 20 bytes)) (behind_shown 0 (drop 20 bytes)))
+body_refusal bytes = or_else (fingerprint_refusal bytes (numbered 20 (shown_after 0 (drop 20 bytes))))
+    (rest_refusal (shown_rank 0 (drop 20 bytes)) (behind_shown 0 (drop 20 bytes)))
 
 -- the first refusal, in the order in which they come
 unfoldable pub refusal : List ℕ → Option StunParseError

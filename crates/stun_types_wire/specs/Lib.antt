@@ -10,6 +10,7 @@ pub mod NamesView
 pub mod Number
 pub mod RawBytes
 pub mod Shape
+pub mod Strength
 pub mod Text
 pub mod Transport
 pub mod TypeBytes

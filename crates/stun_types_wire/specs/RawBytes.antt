@@ -25,7 +25,8 @@ greatest_len = 0xffff_ffff_ffff_ffff
 -- a length below the least that is allowed
 abbrev pub below_refusal : Bound ℕ → ℕ → Option StunParseError
 below_refusal (Included least) len = if nat_lt len least then Some (Truncated least len) else None
-below_refusal (Excluded below) len = if nat_le len below then Some (Truncated (min (below + 1) greatest_len) len) else None
+below_refusal (Excluded below) len = if nat_le len below then Some (Truncated (min (below + 1) greatest_len) len)
+    else None
 below_refusal Unbounded len = None
 
 -- a length above the greatest that is allowed

@@ -1,4 +1,5 @@
--- Which attributes a message shows: ordinary ones, then MESSAGE-INTEGRITY, MESSAGE-INTEGRITY-SHA256 and FINGERPRINT, each at most once (RFC 8489, sections 14.5 to 14.7).
+-- Which attributes a message shows: ordinary ones, then MESSAGE-INTEGRITY, MESSAGE-INTEGRITY-SHA256
+-- and FINGERPRINT, each at most once (RFC 8489, sections 14.5 to 14.7).
 use Rattle.std.specs.Prelude.{◌≡◌, ◌⊎◌, ℕ, ◌≤◌, Bool, ◌||◌, ◌&&◌, ◌==◌, nat_lt, List, [], ◌∷◌, ◌++◌, map, length, drop, sum_by, if◌then◌else◌}
 use Rattle.std.specs.List.{AllByRecursion}
 use Rattle.stun_types_wire.specs.Attributes.{Attr, attr_size, attributes}
@@ -15,7 +16,8 @@ fingerprint_kind = 0x8028
 
 -- the place of a type among those that end a message, in their order: 0 for any other type
 abbrev pub rank : ℕ → ℕ
-rank kind = if kind == integrity_kind then 1 else if kind == sha256_kind then 2 else if kind == fingerprint_kind then 3 else 0
+rank kind = if kind == integrity_kind then 1 else if kind == sha256_kind then 2 else if kind == fingerprint_kind
+    then 3 else 0
 
 -- a type of one rank may follow one of the rank before it
 abbrev pub may_follow : ℕ → ℕ → Bool

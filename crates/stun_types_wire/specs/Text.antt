@@ -53,12 +53,14 @@ pub record FitsPart (part : Part) : Type 0 where
   pub attribute : FitsAttribute part.attribute
   pub padding : length part.padding ≡ padding_len (length part.attribute.value)
 
--- what stands behind the shown attributes: nothing, or four bytes and more that begin with a type by which the shape is left
+-- what stands behind the shown attributes: nothing, or four bytes and more that begin with a type
+-- by which the shape is left
 pub record LeavesShape (kinds rest : List ℕ) : Type 0 where
   pub four : 4 ≤ length rest
   pub leaves : ¬ IsShape (kinds ++ kind_at rest ∷ [])
 
--- bytes that are the text of a message with this type, number and these attributes, whatever stands in padding and behind what is shown
+-- bytes that are the text of a message with this type, number and these attributes, whatever stands
+-- in padding and behind what is shown
 pub record IsTextOf (kind number : ℕ) (all : List Attr) (bytes : List ℕ) : Type 0 where
   pub parts : List Part
   pub behind : List ℕ

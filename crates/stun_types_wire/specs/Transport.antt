@@ -11,4 +11,5 @@ name_of_transport Tcp = codes "TCP"
 
 -- a text is read as the transport that it names, and refused where it names none
 abbrev pub ReadsTransport : List ℕ → Result TransportType ParseTransportTypeError → Type 0
-ReadsTransport text result = MatchResult result (λ transport. text ≡ name_of_transport transport) (λ _. (text ≢ codes "UDP") × (text ≢ codes "TCP"))
+ReadsTransport text result = MatchResult result (λ transport. text ≡ name_of_transport transport)
+    (λ _. (text ≢ codes "UDP") × (text ≢ codes "TCP"))

@@ -17,9 +17,12 @@ high_class_bit Indication = 0
 high_class_bit Success = 1
 high_class_bit Error = 1
 
--- the type of a class and a method of twelve bits: bits 0 to 3 of the method stay, bits 4 to 6 stand one place higher, bits 7 to 11 two
+-- the type of a class and a method of twelve bits: bits 0 to 3 of the method stay, bits 4 to 6
+-- stand one place higher, bits 7 to 11 two
 abbrev pub type_of : MessageClass → ℕ → ℕ
-type_of class method = method % 16 + 0x10 * low_class_bit class + method / 16 % 8 * 0x20 + 0x100 * high_class_bit class + method / 128 * 0x200
+type_of class method =
+    method % 16 + 0x10 * low_class_bit class + method / 16 % 8 * 0x20 + 0x100 * high_class_bit class
+    + method / 128 * 0x200
 
 -- the class in a type
 abbrev pub class_of : ℕ → MessageClass

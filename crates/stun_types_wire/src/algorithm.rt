@@ -1,5 +1,8 @@
 //! Algorithms of message integrity.
 
+ghost use Rattle.std.specs.Prelude.{◌≡◌};
+ghost use Rattle.stun_types_wire.specs.Strength.{is_stronger};
+
 /// An algorithm by which messages are signed. They are ordered by strength, the weaker first.
 #[derive(Clone, Copy, Debug, PartialEq, Eq, PartialOrd, Ord)]
 pub enum IntegrityAlgorithm {
@@ -7,4 +10,13 @@ pub enum IntegrityAlgorithm {
     Sha1,
     /// HMAC over SHA-256, in MESSAGE-INTEGRITY-SHA256 (RFC 8489, section 14.6).
     Sha256,
+}
+
+impl IntegrityAlgorithm {
+    /// Whether this algorithm is stronger than another: `Sha256` than `Sha1`, and no other than any.
+    pub fn is_stronger_than(self, other: IntegrityAlgorithm) -> bool
+        ensures { result ≡ is_stronger self other }
+    {
+        self > other
+    }
 }

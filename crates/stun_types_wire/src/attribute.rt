@@ -1,11 +1,10 @@
 //! Attributes as they stand on the wire: a type, and a value of bytes (RFC 8489, section 14).
 
-ghost use Rattle.std.specs.Prelude.{◌≡◌, ◌+◌, ◌<◌, ◌≤◌, ◌^◌, ◌++◌, length, IfOk, MatchResult, None, Some, nat_lt, take, drop};
+ghost use Rattle.std.specs.Prelude.{◌≡◌, ◌+◌, ◌<◌, ◌^◌, ◌++◌, length, IfOk, MatchResult, None, Some, nat_lt};
 ghost use Rattle.std.specs.Box.{boxed_slice_items};
 ghost use Rattle.byteorder.specs.Endian.{big_bytes};
-ghost use Rattle.stun_types_wire.specs.Attributes.{IsPadded, padded, attr_at, kind_at, length_at};
+ghost use Rattle.stun_types_wire.specs.Attributes.{IsPadded, padded, attr_at};
 ghost use Rattle.stun_types_wire.specs.RawBytes.{attribute_refusal, attribute_header_refusal, type_and_len_refusal, below_refusal, above_refusal};
-ghost use Rattle.stun_types_wire.specs.Grammar.{or_else};
 ghost use Rattle.stun_types_wire.specs.Text.{attribute_text};
 
 use crate::data::Data;
@@ -21,6 +20,15 @@ use stun_types_base::memory::NoMemory;
 /// The type of an attribute. The field is public so that constants of types are literals.
 #[derive(Clone, Copy, Debug, PartialEq, Eq)]
 pub struct AttributeType(pub u16);
+
+/// The type of MESSAGE-INTEGRITY (RFC 8489, section 14.5).
+pub const MESSAGE_INTEGRITY: AttributeType = AttributeType(0x0008);
+
+/// The type of MESSAGE-INTEGRITY-SHA256 (RFC 8489, section 14.6).
+pub const MESSAGE_INTEGRITY_SHA256: AttributeType = AttributeType(0x001C);
+
+/// The type of FINGERPRINT (RFC 8489, section 14.7).
+pub const FINGERPRINT: AttributeType = AttributeType(0x8028);
 
 impl AttributeType {
     /// The type of a number.
@@ -111,7 +119,10 @@ impl<'a> TryFrom<&'a [u8]> for AttributeHeader {
 
     type Error = StunParseError;
 
-    ghost try_from_gives = { λ bytes result. MatchResult result (λ header. (attribute_header_refusal bytes.now ≡ None) × (header ≡ attr_header_at bytes.now)) (λ error. attribute_header_refusal bytes.now ≡ Some error) };
+    ghost try_from_gives = { λ bytes result. MatchResult result
+        (λ header. (attribute_header_refusal bytes.now ≡ None)
+        × (header ≡ attr_header_at bytes.now)) (λ error. attribute_header_refusal bytes.now
+        ≡ Some error) };
 
     fn try_from(value: &'a [u8]) -> Result<AttributeHeader, StunParseError> {
         if value.len() < 4 {
@@ -133,7 +144,8 @@ impl From<AttributeHeader> for [u8; 4] {
     ghost use Rattle.std.specs.Prelude.{◌≡◌, ◌++◌};
     ghost use Rattle.byteorder.specs.Endian.{big_bytes};
 
-    ghost from_gives = { λ header bytes. bytes ≡ big_bytes 2 header.kind ++ big_bytes 2 header.len };
+    ghost from_gives = { λ header bytes. bytes ≡ big_bytes 2 header.kind
+        ++ big_bytes 2 header.len };
 
     fn from(value: AttributeHeader) -> [u8; 4] {
         let [k0, k1] = value.atype.0.to_be_bytes();
@@ -193,7 +205,8 @@ impl<'a> RawAttribute<'a> {
     /// those of the value.
     #[tactic(auto, unfolding(crate::specs::RawBytes::attribute_refusal))]
     pub fn from_bytes(bytes: &'a [u8]) -> Result<RawAttribute<'a>, StunParseError>
-        ensures { MatchResult result (λ raw. (attribute_refusal bytes.now ≡ None) × (raw ≡ attr_at bytes.now)) (λ error. attribute_refusal bytes.now ≡ Some error) }
+        ensures { MatchResult result (λ raw. (attribute_refusal bytes.now ≡ None)
+            × (raw ≡ attr_at bytes.now)) (λ error. attribute_refusal bytes.now ≡ Some error) }
     {
         let header = AttributeHeader::try_from(bytes)?;
         let length = header.length() as usize;
@@ -259,7 +272,8 @@ impl<'a> RawAttribute<'a> {
         least: Bound<usize>,
         most: Bound<usize>,
     ) -> Result<(), StunParseError>
-        ensures { MatchResult result (λ _. type_and_len_refusal atype.0 least most self.now ≡ None) (λ error. type_and_len_refusal atype.0 least most self.now ≡ Some error) }
+        ensures { MatchResult result (λ _. type_and_len_refusal atype.0 least most self.now ≡ None)
+            (λ error. type_and_len_refusal atype.0 least most self.now ≡ Some error) }
     {
         if self.atype != atype {
             return Err(StunParseError::WrongAttributeImplementation);
@@ -281,7 +295,8 @@ impl<'a> RawAttribute<'a> {
 
 /// Whether a length is not below a bound.
 fn check_least(len: usize, least: Bound<usize>) -> Result<(), StunParseError>
-    ensures { MatchResult result (λ _. below_refusal least len ≡ None) (λ error. below_refusal least len ≡ Some error) }
+    ensures { MatchResult result (λ _. below_refusal least len ≡ None)
+        (λ error. below_refusal least len ≡ Some error) }
 {
     match least {
         Bound::Included(least) if len < least => Err(StunParseError::Truncated {
@@ -298,7 +313,8 @@ fn check_least(len: usize, least: Bound<usize>) -> Result<(), StunParseError>
 
 /// Whether a length is not above a bound.
 fn check_most(len: usize, most: Bound<usize>) -> Result<(), StunParseError>
-    ensures { MatchResult result (λ _. above_refusal most len ≡ None) (λ error. above_refusal most len ≡ Some error) }
+    ensures { MatchResult result (λ _. above_refusal most len ≡ None)
+        (λ error. above_refusal most len ≡ Some error) }
 {
     match most {
         Bound::Included(most) if most < len => Err(StunParseError::TooLarge {

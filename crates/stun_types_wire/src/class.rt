@@ -178,7 +178,8 @@ impl MessageType {
     /// The type in the first two bytes. Refused, in this order: `NotStun` where one of the two top
     /// bits is set, `Truncated` where there are fewer than two bytes.
     pub fn from_bytes(bytes: &[u8]) -> Result<MessageType, StunParseError>
-        ensures { MatchResult result (λ kind. (type_refusal bytes.now ≡ None) × (kind ≡ big_number 2 bytes.now)) (λ error. type_refusal bytes.now ≡ Some error) }
+        ensures { MatchResult result (λ kind. (type_refusal bytes.now ≡ None)
+            × (kind ≡ big_number 2 bytes.now)) (λ error. type_refusal bytes.now ≡ Some error) }
     {
         if let [first, ..] = bytes {
             if *first >= 0x40 {
@@ -205,7 +206,9 @@ impl<'a> TryFrom<&'a [u8]> for MessageType {
 
     type Error = StunParseError;
 
-    ghost try_from_gives = { λ bytes result. MatchResult result (λ kind. (type_refusal bytes.now ≡ None) × (kind ≡ big_number 2 bytes.now)) (λ error. type_refusal bytes.now ≡ Some error) };
+    ghost try_from_gives = { λ bytes result. MatchResult result
+        (λ kind. (type_refusal bytes.now ≡ None) × (kind ≡ big_number 2 bytes.now))
+        (λ error. type_refusal bytes.now ≡ Some error) };
 
     fn try_from(value: &'a [u8]) -> Result<MessageType, StunParseError> {
         MessageType::from_bytes(value)

@@ -187,7 +187,8 @@ impl<'a> From<BoxedSlice<u8>> for Data<'a> {
     ghost use Rattle.std.specs.Box.{boxed_slice_items};
     ghost use Rattle.stun_types_wire.specs.Data.{data_bytes, is_owned};
 
-    ghost from_gives = { λ bytes made. (data_bytes made ≡ boxed_slice_items bytes) × (is_owned made ≡ true) };
+    ghost from_gives = { λ bytes made. (data_bytes made ≡ boxed_slice_items bytes)
+        × (is_owned made ≡ true) };
 
     fn from(value: BoxedSlice<u8>) -> Data<'a> {
         Data::Owned(DataOwned(value))

@@ -1,7 +1,6 @@
 //! The header of a message (RFC 8489, section 5).
 
-ghost use Rattle.std.specs.Prelude.{◌≡◌, ◌<◌, ◌≤◌, ◌^◌, length, None, Some, MatchResult};
-ghost use Rattle.stun_types_wire.specs.Attributes.{kind_at, length_at};
+ghost use Rattle.std.specs.Prelude.{◌≡◌, ◌<◌, ◌^◌, length, None, Some, MatchResult};
 ghost use Rattle.stun_types_wire.specs.Grammar.{header_at, header_refusal, may_begin, number_at};
 ghost use Rattle.stun_types_wire.specs.Text.{header_text};
 
@@ -25,9 +24,11 @@ impl Model for MessageHeader {
 
     ghost Value = { Header };
 
-    ghost view = { λ header. record { kind = header.mtype; len = header.length; number = header.transaction_id } };
+    ghost view = { λ header.
+        record { kind = header.mtype; len = header.length; number = header.transaction_id } };
 
-    ghost inverse = { λ told. record { mtype = told.kind; length = told.len; transaction_id = told.number } };
+    ghost inverse = { λ told.
+        record { mtype = told.kind; length = told.len; transaction_id = told.number } };
 }
 
 impl MessageHeader {
@@ -52,7 +53,8 @@ impl MessageHeader {
     /// fewer than twenty.
     #[tactic(auto, unfolding(crate::specs::Grammar::header_refusal, crate::specs::Grammar::number_at))]
     pub fn from_bytes(bytes: &[u8]) -> Result<MessageHeader, StunParseError>
-        ensures { MatchResult result (λ header. (header_refusal bytes.now ≡ None) × (header ≡ header_at bytes.now)) (λ error. header_refusal bytes.now ≡ Some error) }
+        ensures { MatchResult result (λ header. (header_refusal bytes.now ≡ None)
+            × (header ≡ header_at bytes.now)) (λ error. header_refusal bytes.now ≡ Some error) }
     {
         if !begins(bytes) {
             return Err(StunParseError::NotStun);

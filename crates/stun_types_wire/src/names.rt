@@ -2,7 +2,6 @@
 
 ghost use Rattle.std.specs.Prelude.{◌≡◌, OnOk, OnErr};
 ghost use Rattle.std.specs.FinMap as map;
-ghost use Rattle.std.specs.Option.{option_copied};
 ghost use Rattle.stun_types_wire.specs.Names.{method_name, attribute_name, known_method, known_attribute};
 
 use crate::attribute::AttributeType;
@@ -46,7 +45,9 @@ impl Names {
     /// Names a method, in place of the name that it has. Where memory is refused, nothing changes.
     pub fn add_method(&mut self, method: Method, name: &'static str) -> Result<(), NoMemory>
         ensures ok { OnOk result
-            (self.new ≡ record self.old { methods = map.insert self.old.methods method.0 name.now }) }
+            (self.new ≡ record self.old {
+              methods = map.insert self.old.methods method.0 name.now;
+            }) }
         ensures err { OnErr result (self.new ≡ self.old) }
     {
         self.methods.insert(method.0, name)?;
@@ -61,7 +62,9 @@ impl Names {
         name: &'static str,
     ) -> Result<(), NoMemory>
         ensures ok { OnOk result
-            (self.new ≡ record self.old { attributes = map.insert self.old.attributes atype.0 name.now }) }
+            (self.new ≡ record self.old {
+              attributes = map.insert self.old.attributes atype.0 name.now;
+            }) }
         ensures err { OnErr result (self.new ≡ self.old) }
     {
         self.attributes.insert(atype.0, name)?;

@@ -1,3 +1,4 @@
 pub mod Lent
 pub mod Types
 pub mod Values
+pub mod Walked

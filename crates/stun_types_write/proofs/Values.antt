@@ -1,9 +1,10 @@
 -- What a refusal that is absent tells of an attribute, and which texts are not refused.
-use Rattle.std.proofs.Common.{◌≡◌, ℕ, ◌≤◌, true, false, List, length, Some, None, refl, arith}
+use Rattle.std.proofs.Common.{◌≡◌, ◌≢◌, ℕ, ◌≤◌, true, false, List, length, Some, None, refl, arith}
 use Rattle.std.proofs.lemmas.Grind.{common_steps}
 use Rattle.std.specs.Str.{IsUtf8, is_utf8}
 use Rattle.std.proofs.lemmas.Str.{IsUtf8-from_is_utf8, is_utf8-from_IsUtf8}
-use Rattle.stun_types_wire.specs.declared.error.StunParseError.TheVariants.{InvalidAttributeData}
+use Rattle.stun_types_wire.specs.declared.error.StunParseError.{StunParseError}
+use Rattle.stun_types_wire.specs.declared.error.StunParseError.TheVariants.{InvalidAttributeData, NoMemory}
 use Rattle.stun_types_wire.specs.Attributes.{Attr}
 use Rattle.stun_types_wire.specs.RawBytes.{type_and_len_refusal}
 use Rattle.stun_types_write.specs.Adding.{attr_of}
@@ -23,6 +24,11 @@ least_told kind least most a h = grind (arith, common_steps, h)
 pub most_told : (kind least most : ℕ) (a : Attr) → value_refusal kind least most a ≡ None → length a.value ≤ most
 unfolding type_and_len_refusal
 most_told kind least most a h = grind (arith, common_steps, h)
+
+-- a refusal by type or length tells no want of memory
+pub never_memory : (kind least most : ℕ) (a : Attr) (error : StunParseError) → value_refusal kind least most a ≡ Some error → error ≢ NoMemory
+unfolding type_and_len_refusal
+never_memory kind least most a error h is = absurd (let p = rw is at h in grind (arith, common_steps, p))
 
 -- such an attribute is not refused
 pub value_is_accepted : (kind least most : ℕ) (value : List ℕ) → least ≤ length value → length value ≤ most → value_refusal kind least most (attr_of kind value) ≡ None

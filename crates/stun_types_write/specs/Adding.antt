@@ -5,9 +5,9 @@ use Rattle.stun_types_wire.specs.declared.error.StunWriteError.{StunWriteError}
 use Rattle.stun_types_wire.specs.declared.error.StunWriteError.TheVariants.{FingerprintExists, MessageIntegrityExists, TooLarge, TooSmall}
 use Rattle.stun_types_wire.specs.Attributes.{Attr, attr_size}
 use Rattle.stun_types_wire.specs.Covered.{with_length}
-use Rattle.stun_types_wire.specs.Shape.{integrity_kind, sha256_kind, fingerprint_kind}
 use Rattle.stun_types_wire.specs.Grammar.{header_refusal}
 use Rattle.stun_types_wire.specs.Text.{attribute_text}
+use Rattle.stun_types_write.specs.Drafts.{Draft}
 
 -- the attribute of a type and a value
 abbrev pub attr_of : ℕ → List ℕ → Attr
@@ -21,11 +21,11 @@ after_add bytes a = with_length bytes (length bytes - 20 + attr_size a) ++ attri
 abbrev pub greatest_size : ℕ
 greatest_size = 20 + 65_535
 
--- a type among those that were added
+-- a type among some
 abbrev pub has_kind : ℕ → List ℕ → Bool
 has_kind kind kinds = list_any (λ k. k == kind) kinds
 
--- the first of the types that were added which is among those asked for
+-- a type among those asked for
 abbrev pub is_among : List ℕ → ℕ → Bool
 is_among asked kind = list_any (λ k. k == kind) asked
 
@@ -38,18 +38,21 @@ room_refusal (Some most) end = if nat_lt most end then Some (TooSmall end most) 
 abbrev pub size_refusal : Option ℕ → ℕ → Option StunWriteError
 size_refusal limit end = if nat_lt greatest_size end then Some (TooLarge 65_535 (end - 20)) else room_refusal limit end
 
--- why an attribute of this size is not added to a message of these types, this greatest size and this length: the first cause in the order
-unfoldable pub add_refusal : List ℕ → Option ℕ → ℕ → ℕ → Option StunWriteError
-add_refusal kinds limit len size =
-    if has_kind fingerprint_kind kinds then Some FingerprintExists
-    else if has_kind integrity_kind kinds || has_kind sha256_kind kinds then Some MessageIntegrityExists
-    else size_refusal limit (len + size)
+-- why so many bytes more don't fit
+abbrev pub growth_refusal : Draft → ℕ → Option StunWriteError
+growth_refusal draft size = size_refusal draft.limit (length draft.bytes + size)
 
--- why a FINGERPRINT is not added to a message of these types, this greatest size and this length: the first cause in the order
-unfoldable pub fingerprint_add_refusal : List ℕ → Option ℕ → ℕ → Option StunWriteError
-fingerprint_add_refusal kinds limit len =
-    if has_kind fingerprint_kind kinds then Some FingerprintExists
-    else size_refusal limit (len + 8)
+-- why an attribute of this size is not added: the first cause in the order
+unfoldable pub add_refusal : Draft → ℕ → Option StunWriteError
+add_refusal draft size =
+    if draft.ended.fingerprint then Some FingerprintExists
+    else if draft.ended.integrity || draft.ended.sha256 then Some MessageIntegrityExists
+    else growth_refusal draft size
+
+-- why a FINGERPRINT is not added: the first cause in the order
+unfoldable pub fingerprint_add_refusal : Draft → Option StunWriteError
+fingerprint_add_refusal draft =
+    if draft.ended.fingerprint then Some FingerprintExists else growth_refusal draft 8
 
 -- a message that was begun, and can be added to: its header is there, and its length fits
 pub record IsBegun (bytes : List ℕ) : Type 0 where

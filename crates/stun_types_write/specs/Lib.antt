@@ -1,3 +1,7 @@
 pub mod Adding
+pub mod Alls
+pub mod Drafts
+pub mod Lent
+pub mod Outcomes
 pub mod Reading
-pub mod Written
+pub mod Walk

@@ -1,9 +1,9 @@
 -- Which types and values are read as an attribute of one type.
-use Rattle.std.specs.Prelude.{ℕ, List, Option, Some, None, if◌then◌else◌}
+use Rattle.std.specs.Prelude.{◌≡◌, ◌≢◌, ℕ, List, Option, Some, None, if◌then◌else◌}
 use Rattle.std.specs.Str.{is_utf8}
 use Rattle.std.specs.declared.ops.Bound.TheVariants.{Included}
 use Rattle.stun_types_wire.specs.declared.error.StunParseError.{StunParseError}
-use Rattle.stun_types_wire.specs.declared.error.StunParseError.TheVariants.{InvalidAttributeData}
+use Rattle.stun_types_wire.specs.declared.error.StunParseError.TheVariants.{InvalidAttributeData, NoMemory}
 use Rattle.stun_types_wire.specs.Attributes.{Attr}
 use Rattle.stun_types_wire.specs.RawBytes.{type_and_len_refusal}
 use Rattle.stun_types_wire.specs.Grammar.{or_else}
@@ -11,6 +11,11 @@ use Rattle.stun_types_wire.specs.Grammar.{or_else}
 -- why a type and a value are not of this type, or not of a length from the least to the greatest
 abbrev pub value_refusal : ℕ → ℕ → ℕ → Attr → Option StunParseError
 value_refusal kind least most a = type_and_len_refusal kind (Included least) (Included most) a
+
+-- an error is the cause, and tells no want of memory
+pub record IsNamed (refusal : Option StunParseError) (error : StunParseError) : Type 0 where
+  pub cause : refusal ≡ Some error
+  pub named : error ≢ NoMemory
 
 -- bytes that are no text in UTF-8
 unfoldable pub utf8_refusal : List ℕ → Option StunParseError

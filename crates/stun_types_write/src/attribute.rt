@@ -1,6 +1,6 @@
 //! What can be added to a message: a type and a value, however they are held.
 
-ghost use Rattle.std.specs.Prelude.{◌≡◌, ◌≢◌, ◌+◌, ◌<◌, ◌≤◌, ◌^◌, ◌++◌, length, drop, ℕ, List, Option, None, Some, IfOk, OnOk, OnErr, MatchResult, IfErr};
+ghost use Rattle.std.specs.Prelude.{◌≡◌, ◌≢◌, ◌+◌, ◌<◌, ◌≤◌, ◌^◌, ◌++◌, length, drop, ℕ, List, Option, None, Some, IfOk, OnOk, IfErr};
 ghost use Rattle.byteorder.specs.Endian.{big_bytes};
 ghost use Rattle.stun_types_wire.specs.declared.attribute.AttributeType.{AttributeType};
 ghost use Rattle.stun_types_wire.specs.declared.error.StunWriteError.TheVariants.{TooSmall};
@@ -8,6 +8,7 @@ ghost use Rattle.stun_types_wire.specs.declared.error.StunParseError.{StunParseE
 ghost use Rattle.stun_types_wire.specs.Attributes.{Attr, padded};
 ghost use Rattle.stun_types_wire.specs.Text.{attribute_text};
 ghost use Rattle.stun_types_write.specs.Adding.{attr_of};
+ghost use Rattle.stun_types_base.specs.Refusals.{RefusesFor};
 
 use crate::text::{write_attribute, write_attribute_header};
 use std::alloc::Global;
@@ -55,7 +56,8 @@ pub trait AttributeWrite: Attribute {
     /// Writes header, value and padding to the front of bytes that are enough.
     fn write_into_unchecked(&self, dest: &mut [u8])
         requires { 4 + padded (length (Self.value self.now)) ≤ length dest.old }
-        ensures { dest.new ≡ attribute_text (attr_of (Self.kind self.now) (Self.value self.now)) ++ drop (4 + padded (length (Self.value self.now))) dest.old };
+        ensures { dest.new ≡ attribute_text (attr_of (Self.kind self.now) (Self.value self.now))
+            ++ drop (4 + padded (length (Self.value self.now))) dest.old };
 
     /// The attribute as type and bytes. Where memory is refused, `NoMemory`.
     fn to_raw(&self, alloc: Global) -> Result<RawAttribute<'_>, NoMemory>
@@ -65,7 +67,8 @@ pub trait AttributeWrite: Attribute {
     fn write_header_unchecked(&self, dest: &mut [u8]) -> usize
         requires { 4 ≤ length dest.old }
         ensures count { result ≡ 4 }
-        ensures bytes { dest.new ≡ big_bytes 2 (Self.kind self.now) ++ big_bytes 2 (length (Self.value self.now)) ++ drop 4 dest.old }
+        ensures bytes { dest.new ≡ big_bytes 2 (Self.kind self.now)
+            ++ big_bytes 2 (length (Self.value self.now)) ++ drop 4 dest.old }
     {
         write_attribute_header(self.get_type(), self.length(), dest);
         4
@@ -75,8 +78,10 @@ pub trait AttributeWrite: Attribute {
     /// written, where there are fewer than four bytes.
     fn write_header(&self, dest: &mut [u8]) -> Result<usize, StunWriteError>
         ensures count { IfOk result (λ n. (n ≡ 4) × (4 ≤ length dest.old)) }
-        ensures bytes { OnOk result (dest.new ≡ big_bytes 2 (Self.kind self.now) ++ big_bytes 2 (length (Self.value self.now)) ++ drop 4 dest.old) }
-        ensures refused { IfErr result (λ error. (error ≡ TooSmall 4 (length dest.old)) × (length dest.old < 4) × (dest.new ≡ dest.old)) }
+        ensures bytes { OnOk result (dest.new ≡ big_bytes 2 (Self.kind self.now)
+            ++ big_bytes 2 (length (Self.value self.now)) ++ drop 4 dest.old) }
+        ensures refused { IfErr result (λ error. (error ≡ TooSmall 4 (length dest.old))
+            × (length dest.old < 4) × (dest.new ≡ dest.old)) }
     {
         if dest.len() < 4 {
             return Err(StunWriteError::TooSmall {
@@ -90,9 +95,15 @@ pub trait AttributeWrite: Attribute {
     /// Writes header, value and padding to the front, and answers how many bytes these are. Refused
     /// with `TooSmall`, nothing being written, where there are fewer.
     fn write_into(&self, dest: &mut [u8]) -> Result<usize, StunWriteError>
-        ensures count { IfOk result (λ n. (n ≡ 4 + padded (length (Self.value self.now))) × (n ≤ length dest.old)) }
-        ensures bytes { OnOk result (dest.new ≡ attribute_text (attr_of (Self.kind self.now) (Self.value self.now)) ++ drop (4 + padded (length (Self.value self.now))) dest.old) }
-        ensures refused { IfErr result (λ error. (error ≡ TooSmall (4 + padded (length (Self.value self.now))) (length dest.old)) × (length dest.old < 4 + padded (length (Self.value self.now))) × (dest.new ≡ dest.old)) }
+        ensures count { IfOk result (λ n. (n ≡ 4 + padded (length (Self.value self.now)))
+            × (n ≤ length dest.old)) }
+        ensures bytes { OnOk result (dest.new
+            ≡ attribute_text (attr_of (Self.kind self.now) (Self.value self.now))
+            ++ drop (4 + padded (length (Self.value self.now))) dest.old) }
+        ensures refused { IfErr result (λ error.
+            (error ≡ TooSmall (4 + padded (length (Self.value self.now))) (length dest.old))
+            × (length dest.old < 4 + padded (length (Self.value self.now)))
+            × (dest.new ≡ dest.old)) }
     {
         let size = self.padded_len();
         if dest.len() < size {
@@ -123,18 +134,21 @@ pub trait AttributeFromRaw<'a>: Attribute {
     /// long, `InvalidAttributeData` where it is no value of this type; where memory is refused,
     /// `NoMemory`.
     fn from_raw_ref(alloc: Global, raw: &RawAttribute<'_>) -> Result<Self, StunParseError>
-        ensures ok { IfOk result (λ read. (read_refusal raw.now ≡ None) × (Self.kind read ≡ raw.now.kind) × (Self.value read ≡ read_value raw.now.value)) }
-        ensures refused { IfErr result (λ error. error ≢ StunParseError.NoMemory → read_refusal raw.now ≡ Some error) };
+        ensures ok { IfOk result (λ read. (Self.kind read ≡ raw.now.kind)
+            × (Self.value read ≡ read_value raw.now.value)) }
+        ensures cause { RefusesFor StunParseError.NoMemory (read_refusal raw.now) result };
 
     /// The same, of an attribute that is given away.
     fn from_raw(alloc: Global, raw: RawAttribute<'a>) -> Result<Self, StunParseError>
-        ensures ok { IfOk result (λ read. (read_refusal raw.entry ≡ None) × (Self.kind read ≡ raw.entry.kind) × (Self.value read ≡ read_value raw.entry.value)) }
-        ensures refused { IfErr result (λ error. error ≢ StunParseError.NoMemory → read_refusal raw.entry ≡ Some error) };
+        ensures ok { IfOk result (λ read. (Self.kind read ≡ raw.entry.kind)
+            × (Self.value read ≡ read_value raw.entry.value)) }
+        ensures cause { RefusesFor StunParseError.NoMemory (read_refusal raw.entry) result };
 
     /// Says whether what an attribute writes is read, and that what is read of it is that attribute. It
     /// does nothing.
     fn is_read_back(&self, read: &Self)
-        ensures accepted { read_refusal (attr_of (Self.kind self.now) (Self.value self.now)) ≡ written_refusal self.now }
+        ensures accepted { read_refusal (attr_of (Self.kind self.now) (Self.value self.now))
+            ≡ written_refusal self.now }
         ensures kept { read_value (Self.value self.now) ≡ Self.value self.now }
         ensures same { Self.value read.now ≡ Self.value self.now → read.now ≡ self.now };
 }
@@ -145,8 +159,10 @@ pub fn written_and_read<'a, A: AttributeWrite + AttributeFromRaw<'a>>(
     alloc: Global,
     attribute: &A,
 ) -> Result<A, StunParseError>
-    ensures ok { IfOk result (λ read. (read ≡ attribute.now) × (A.written_refusal attribute.now ≡ None)) }
-    ensures refused { IfErr result (λ error. error ≢ StunParseError.NoMemory → A.written_refusal attribute.now ≡ Some error) }
+    ensures ok { IfOk result (λ read. (read ≡ attribute.now)
+        × (A.written_refusal attribute.now ≡ None)) }
+    ensures refused { IfErr result (λ error. error ≢ StunParseError.NoMemory
+        → A.written_refusal attribute.now ≡ Some error) }
 {
     attribute.is_read_back(attribute);
     let raw = attribute.to_raw(alloc)?;

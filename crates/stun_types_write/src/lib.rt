@@ -3,8 +3,10 @@
 
 pub mod among;
 pub mod attribute;
+pub mod ended;
 pub mod reading;
 pub mod slice;
 pub mod text;
 pub mod vec;
+mod walk;
 pub mod writer;

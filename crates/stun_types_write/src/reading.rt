@@ -1,8 +1,8 @@
 //! What typed attributes share in reading a type and a value.
 
-ghost use Rattle.std.specs.Prelude.{◌≡◌, ◌≤◌, ℕ, length, MatchResult, None, Some};
+ghost use Rattle.std.specs.Prelude.{◌≡◌, ◌≤◌, ℕ, length, MatchResult, None};
 ghost use Rattle.stun_types_write.specs.Adding.{attr_of};
-ghost use Rattle.stun_types_write.specs.Reading.{value_refusal, text_read_refusal, utf8_refusal};
+ghost use Rattle.stun_types_write.specs.Reading.{IsNamed, value_refusal, text_read_refusal, utf8_refusal};
 
 use std::ops::Bound;
 use stun_types_wire::attribute::{AttributeType, RawAttribute};
@@ -11,14 +11,17 @@ use stun_types_wire::error::StunParseError;
 /// The value of an attribute of this type, with a length from the least to the greatest. Refused, in
 /// this order: `WrongAttributeImplementation` where it has another type, `Truncated` with the least
 /// length where it is shorter, `TooLarge` with the greatest where it is longer.
-#[tactic(auto, using(crate::proofs::Values::kind_told, crate::proofs::Values::least_told, crate::proofs::Values::most_told))]
+#[tactic(auto, using(crate::proofs::Values::kind_told, crate::proofs::Values::least_told, crate::proofs::Values::most_told, crate::proofs::Values::never_memory))]
 pub fn value_of<'raw>(
     raw: &'raw RawAttribute<'_>,
     atype: AttributeType,
     least: usize,
     most: usize,
 ) -> Result<&'raw [u8], StunParseError>
-    ensures { MatchResult result (λ value. (value_refusal atype.0 least most raw.now ≡ None) × (raw.now.kind ≡ atype.0) × (value.now ≡ raw.now.value) × (least ≤ length value.now) × (length value.now ≤ most)) (λ error. value_refusal atype.0 least most raw.now ≡ Some error) }
+    ensures { MatchResult result (λ value. (value_refusal atype.0 least most raw.now ≡ None)
+        × (raw.now.kind ≡ atype.0) × (value.now ≡ raw.now.value)
+        × (least ≤ length value.now) × (length value.now ≤ most))
+        (IsNamed (value_refusal atype.0 least most raw.now)) }
 {
     raw.check_type_and_len(atype, Bound::Included(least), Bound::Included(most))?;
     Ok(raw.value())
@@ -33,7 +36,9 @@ pub fn text_of<'raw>(
     atype: AttributeType,
     most: usize,
 ) -> Result<&'raw str, StunParseError>
-    ensures { MatchResult result (λ text. (text_read_refusal atype.0 most raw.now ≡ None) × (raw.now.kind ≡ atype.0) × (text.now ≡ raw.now.value) × (length text.now ≤ most)) (λ error. text_read_refusal atype.0 most raw.now ≡ Some error) }
+    ensures { MatchResult result (λ text. (text_read_refusal atype.0 most raw.now ≡ None)
+        × (raw.now.kind ≡ atype.0) × (text.now ≡ raw.now.value) × (length text.now ≤ most))
+        (IsNamed (text_read_refusal atype.0 most raw.now)) }
 {
     let value = value_of(raw, atype, 0, most)?;
     let text = read_text(value)?;
@@ -43,7 +48,8 @@ pub fn text_of<'raw>(
 /// The text of some bytes. Refused with `InvalidAttributeData` where they are not UTF-8.
 #[tactic(auto, using(crate::proofs::Values::utf8_is_accepted, crate::proofs::Values::not_utf8_is_refused))]
 pub fn read_text(bytes: &[u8]) -> Result<&str, StunParseError>
-    ensures { MatchResult result (λ text. (utf8_refusal bytes.now ≡ None) × (text.now ≡ bytes.now)) (λ error. utf8_refusal bytes.now ≡ Some error) }
+    ensures { MatchResult result (λ text. (utf8_refusal bytes.now ≡ None) × (text.now ≡ bytes.now))
+        (IsNamed (utf8_refusal bytes.now)) }
 {
     match str::from_utf8(bytes) {
         Ok(text) => Ok(text),

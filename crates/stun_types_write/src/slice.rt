@@ -1,52 +1,53 @@
 //! A writer into lent bytes.
 
-ghost use Rattle.std.specs.Prelude.{◌≡◌, ◌++◌, [], length};
+ghost use Rattle.std.specs.Prelude.{◌≡◌, Some, length};
+ghost use Rattle.stun_types_write.specs.Drafts.{empty};
+ghost use Rattle.stun_types_write.specs.Lent.{lent_draft};
 
-use crate::among::{first_among, has_type};
 use crate::attribute::AttributeWrite;
+use crate::ended::Ended;
 use crate::text::write_length;
 use crate::writer::MessageWrite;
-use std::alloc::Global;
 use std::marker::Model;
 use stun_types_base::memory::NoMemory;
-use stun_types_wire::attribute::AttributeType;
 
 /// A writer into lent bytes, from their front on. It has the number of these bytes as its greatest
-/// size, and gives the front that is written.
+/// size, takes no memory, and gives the front that is written and the bytes behind it. Contracts see
+/// the record `Lent`.
 #[derive(Debug, Drop)]
 pub struct MessageWriteMutSlice<'a> {
     lent: &'a mut [u8],
     len: usize,
-    atypes: Vec<AttributeType>,
+    ended: Ended,
 }
 
 impl<'a> Model for MessageWriteMutSlice<'a> {
-    ghost use Rattle.std.specs.Prelude.{map, take, drop};
-    ghost use Rattle.stun_types_write.specs.Written.{WrittenLent};
+    ghost use Rattle.stun_types_write.specs.Lent.{Lent};
 
-    ghost Value = { WrittenLent };
+    ghost Value = { Lent };
 
-    ghost view = { λ writer. record { bytes = take writer.len writer.lent.now; behind = drop writer.len writer.lent.now; kinds = map (λ atype. atype.0) writer.atypes.items } };
+    ghost view = { λ writer. record {
+      lent = writer.lent.now;
+      len = writer.len;
+      ended = writer.ended;
+    } };
 }
 
 impl<'a> MessageWriteMutSlice<'a> {
-    /// An empty writer into these bytes. What it allocates later is the list of the types that are
-    /// added.
-    pub fn new(alloc: Global, lent: &'a mut [u8]) -> MessageWriteMutSlice<'a>
-        ensures bytes { result.bytes ≡ [] }
-        ensures behind { result.behind ≡ lent.old }
-        ensures kinds { result.kinds ≡ [] }
+    /// An empty writer into these bytes.
+    pub fn new(lent: &'a mut [u8]) -> MessageWriteMutSlice<'a>
+        ensures { lent_draft result ≡ empty lent.old (Some (length lent.old)) }
     {
         MessageWriteMutSlice {
             lent,
             len: 0,
-            atypes: Vec::new(alloc),
+            ended: Ended::none(),
         }
     }
 
     /// The bytes that are written.
     pub fn as_slice(&self) -> &[u8]
-        ensures { result.now ≡ self.now.bytes }
+        ensures { result.now ≡ (lent_draft self.now).bytes }
     {
         let end = self.end();
         &self.lent[..end]
@@ -55,46 +56,46 @@ impl<'a> MessageWriteMutSlice<'a> {
     /// All bytes that were lent: those that are written, and behind them those that were never
     /// written, as they were lent.
     pub fn lent(&self) -> &[u8]
-        ensures { result.now ≡ self.now.bytes ++ self.now.behind }
+        ensures { result.now ≡ self.now.lent }
     {
         self.lent
     }
 
-    /// All bytes that were lent, given back: those that are written, and behind them those that were
-    /// never written, as they were lent.
+    /// All bytes that were lent, given back.
     pub fn into_lent(self) -> &'a mut [u8]
-        ensures { result.now ≡ self.entry.bytes ++ self.entry.behind }
+        ensures { result.now ≡ self.entry.lent }
     {
         let MessageWriteMutSlice {
             lent,
             len: _,
-            atypes: _,
+            ended: _,
         } = self;
         lent
     }
 
     /// Where the written bytes end.
     fn end(&self) -> usize
-        ensures { result ≡ length self.now.bytes }
+        ensures { result ≡ length (lent_draft self.now).bytes }
     {
         self.len.min(self.lent.len())
     }
 }
 
 impl<'a> MessageWrite for MessageWriteMutSlice<'a> {
-    ghost use Rattle.std.specs.Prelude.{◌≡◌, ◌+◌, length, Some};
+    ghost use Rattle.std.specs.Prelude.{◌≡◌};
+    ghost use Rattle.stun_types_write.specs.Lent.{lent_draft, with_lent};
+    ghost use Rattle.stun_types_write.specs.Alls.{lent_changed};
 
-    type Output = &'a mut [u8];
+    type Output = (&'a mut [u8], &'a mut [u8]);
 
-    ghost written = { λ writer. writer.bytes };
+    ghost draft = { lent_draft };
 
-    ghost behind = { λ writer. writer.behind };
+    ghost changed = { with_lent };
 
-    ghost kinds = { λ writer. writer.kinds };
+    ghost is_changed = { lent_changed };
 
-    ghost limit = { λ writer. Some (length writer.bytes + length writer.behind) };
-
-    ghost finishes = { λ writer front. front.now ≡ writer.bytes };
+    ghost finishes = { λ writer lent. (lent.0.now ≡ (lent_draft writer).bytes)
+        × (lent.1.now ≡ (lent_draft writer).behind) };
 
     fn max_size(&self) -> Option<usize> {
         Some(self.lent.len())
@@ -108,9 +109,12 @@ impl<'a> MessageWrite for MessageWriteMutSlice<'a> {
         self.end()
     }
 
-    fn mut_data(&mut self) -> &mut [u8] {
-        let end = self.end();
-        &mut self.lent[..end]
+    fn ended(&self) -> Ended {
+        self.ended
+    }
+
+    fn mut_all(&mut self) -> &mut [u8] {
+        self.lent
     }
 
     #[tactic(auto, using(crate::proofs::Lent::take_told, crate::proofs::Lent::drop_told))]
@@ -131,30 +135,21 @@ impl<'a> MessageWrite for MessageWriteMutSlice<'a> {
     fn push_attribute_unchecked(&mut self, attribute: &dyn AttributeWrite) -> Result<(), NoMemory> {
         let start = self.end();
         let end = start + attribute.padded_len();
-        self.atypes.push(attribute.get_type())?;
+        let ended = self.ended.by(attribute.get_type());
         let lent = &mut *self.lent;
         attribute.write_into_unchecked(&mut lent[start..end]);
         self.len = end;
+        self.ended = ended;
         Ok(())
     }
 
-    #[tactic(auto, using(crate::proofs::Types::any_numbers))]
-    fn has_attribute(&self, atype: AttributeType) -> bool {
-        has_type(self.atypes.as_slice(), atype)
-    }
-
-    #[tactic(auto, using(crate::proofs::Types::find_numbers))]
-    fn has_any_attribute(&self, atypes: &[AttributeType]) -> Option<AttributeType> {
-        first_among(self.atypes.as_slice(), atypes)
-    }
-
-    fn finish(self) -> &'a mut [u8] {
+    fn finish(self) -> (&'a mut [u8], &'a mut [u8]) {
         let end = self.end();
         let MessageWriteMutSlice {
             lent,
             len: _,
-            atypes: _,
+            ended: _,
         } = self;
-        &mut lent[..end]
+        lent.split_at_mut(end)
     }
 }

@@ -26,7 +26,8 @@ pub fn write_attribute_header(atype: AttributeType, len: u16, dest: &mut [u8])
 pub fn write_attribute(atype: AttributeType, value: &[u8], dest: &mut [u8])
     requires short { length value.now < 2 ^ 16 }
     requires room { 4 + padded (length value.now) ≤ length dest.old }
-    ensures { dest.new ≡ attribute_text (attr_of atype.0 value.now) ++ drop (4 + padded (length value.now)) dest.old }
+    ensures { dest.new ≡ attribute_text (attr_of atype.0 value.now)
+        ++ drop (4 + padded (length value.now)) dest.old }
 {
     write_attribute_in_two(atype, &[], value, dest);
 }
@@ -36,7 +37,8 @@ pub fn write_attribute(atype: AttributeType, value: &[u8], dest: &mut [u8])
 pub fn write_attribute_in_two(atype: AttributeType, front: &[u8], back: &[u8], dest: &mut [u8])
     requires short { length (front.now ++ back.now) < 2 ^ 16 }
     requires room { 4 + padded (length (front.now ++ back.now)) ≤ length dest.old }
-    ensures { dest.new ≡ attribute_text (attr_of atype.0 (front.now ++ back.now)) ++ drop (4 + padded (length (front.now ++ back.now))) dest.old }
+    ensures { dest.new ≡ attribute_text (attr_of atype.0 (front.now ++ back.now))
+        ++ drop (4 + padded (length (front.now ++ back.now))) dest.old }
 {
     let len = front.len() + back.len();
     let (text, _) = dest.split_at_mut(4 + pad_attribute_len(len));

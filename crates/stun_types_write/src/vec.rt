@@ -1,56 +1,51 @@
 //! A writer into memory of its own.
 
-ghost use Rattle.std.specs.Prelude.{◌≡◌, [], IfOk};
+ghost use Rattle.std.specs.Prelude.{◌≡◌, [], None, IfOk};
+ghost use Rattle.stun_types_write.specs.Drafts.{empty};
+ghost use Rattle.stun_types_write.specs.Lent.{own_draft};
 
-use crate::among::{first_among, has_type};
 use crate::attribute::AttributeWrite;
+use crate::ended::Ended;
 use crate::text::write_length;
 use crate::writer::MessageWrite;
 use std::alloc::Global;
 use std::marker::Model;
 use stun_types_base::memory::NoMemory;
-use stun_types_wire::attribute::AttributeType;
-
-/// For the types of how many attributes `with_capacity` makes room; few messages have more.
-const USUAL_TYPES: usize = 8;
 
 /// A writer into a vector. It has no greatest size but that of a message, and gives the vector.
+/// Contracts see the record `Own`.
 #[derive(Debug, Drop)]
 pub struct MessageWriteVec {
     bytes: Vec<u8>,
-    atypes: Vec<AttributeType>,
+    ended: Ended,
 }
 
 impl Model for MessageWriteVec {
-    ghost use Rattle.std.specs.Prelude.{map};
-    ghost use Rattle.stun_types_write.specs.Written.{Written};
+    ghost use Rattle.stun_types_write.specs.Lent.{Own};
 
-    ghost Value = { Written };
+    ghost Value = { Own };
 
-    ghost view = { λ writer. record { bytes = writer.bytes.items; kinds = map (λ atype. atype.0) writer.atypes.items } };
+    ghost view = { λ writer. record { bytes = writer.bytes.items; ended = writer.ended } };
 }
 
 impl MessageWriteVec {
     /// An empty writer, which holds no memory yet.
     pub fn new(alloc: Global) -> MessageWriteVec
-        ensures bytes { result.bytes ≡ [] }
-        ensures kinds { result.kinds ≡ [] }
+        ensures { own_draft result ≡ empty [] None }
     {
         MessageWriteVec {
             bytes: Vec::new(alloc),
-            atypes: Vec::new(alloc),
+            ended: Ended::none(),
         }
     }
 
-    /// An empty writer with room for this many bytes, and for the types of eight attributes. Where
-    /// memory is refused, `NoMemory`.
+    /// An empty writer with room for this many bytes. Where memory is refused, `NoMemory`.
     pub fn with_capacity(alloc: Global, capacity: usize) -> Result<MessageWriteVec, NoMemory>
-        ensures bytes { IfOk result (λ writer. writer.bytes ≡ []) }
-        ensures kinds { IfOk result (λ writer. writer.kinds ≡ []) }
+        ensures { IfOk result (λ writer. own_draft writer ≡ empty [] None) }
     {
         Ok(MessageWriteVec {
             bytes: Vec::with_capacity(alloc, capacity)?,
-            atypes: Vec::with_capacity(alloc, USUAL_TYPES)?,
+            ended: Ended::none(),
         })
     }
 
@@ -63,21 +58,22 @@ impl MessageWriteVec {
 }
 
 impl MessageWrite for MessageWriteVec {
-    ghost use Rattle.std.specs.Prelude.{◌≡◌, [], None};
+    ghost use Rattle.std.specs.Prelude.{◌≡◌};
+    ghost use Rattle.stun_types_write.specs.Lent.{own_changed, own_draft};
+    ghost use Rattle.stun_types_write.specs.Alls.{own_law};
 
     type Output = Vec<u8>;
 
-    ghost written = { λ writer. writer.bytes };
+    ghost draft = { own_draft };
 
-    ghost behind = { λ _. [] };
+    ghost changed = { own_changed };
 
-    ghost kinds = { λ writer. writer.kinds };
-
-    ghost limit = { λ _. None };
+    ghost is_changed = { own_law };
 
     ghost finishes = { λ writer bytes. bytes.items ≡ writer.bytes };
 
     fn max_size(&self) -> Option<usize> {
+        let _ = &self.bytes;
         None
     }
 
@@ -89,7 +85,11 @@ impl MessageWrite for MessageWriteVec {
         self.bytes.len()
     }
 
-    fn mut_data(&mut self) -> &mut [u8] {
+    fn ended(&self) -> Ended {
+        self.ended
+    }
+
+    fn mut_all(&mut self) -> &mut [u8] {
         self.bytes.as_mut_slice()
     }
 
@@ -105,27 +105,14 @@ impl MessageWrite for MessageWriteVec {
     fn push_attribute_unchecked(&mut self, attribute: &dyn AttributeWrite) -> Result<(), NoMemory> {
         let start = self.bytes.len();
         let end = start + attribute.padded_len();
-        self.atypes.push(attribute.get_type())?;
-        if self.bytes.resize(end, 0).is_err() {
-            let _ = self.atypes.pop();
-            return Err(NoMemory);
-        }
+        self.bytes.resize(end, 0)?;
         attribute.write_into_unchecked(&mut self.bytes[start..]);
+        self.ended = self.ended.by(attribute.get_type());
         Ok(())
     }
 
-    #[tactic(auto, using(crate::proofs::Types::any_numbers))]
-    fn has_attribute(&self, atype: AttributeType) -> bool {
-        has_type(self.atypes.as_slice(), atype)
-    }
-
-    #[tactic(auto, using(crate::proofs::Types::find_numbers))]
-    fn has_any_attribute(&self, atypes: &[AttributeType]) -> Option<AttributeType> {
-        first_among(self.atypes.as_slice(), atypes)
-    }
-
     fn finish(self) -> Vec<u8> {
-        let MessageWriteVec { bytes, atypes: _ } = self;
+        let MessageWriteVec { bytes, ended: _ } = self;
         bytes
     }
 }

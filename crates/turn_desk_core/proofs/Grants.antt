@@ -1,6 +1,6 @@
 -- A grant is kept exactly where an allocation is granted.
-use Rattle.std.specs.Prelude.{◌≡◌, ℕ, ◌+◌, ◌↔◌, Bool, true, false, List, [], ◌∷◌, ◌++◌, length, Option, Some, None, if◌then◌else◌}
-use Rattle.std.proofs.Common.{refl, sym, ap, ◌∙◌, subst, arith, inl, inr, ◌⊎◌}
+use Rattle.std.specs.Prelude.{◌≡◌, ℕ, ◌↔◌, Bool, true, List, [], ◌∷◌, ◌++◌, length, Option, Some, None, if◌then◌else◌}
+use Rattle.std.proofs.Common.{refl, sym, ap, ◌∙◌, subst, arith, inl, inr}
 use Rattle.std.proofs.lemmas.Bool.{cases_Bool}
 use Rattle.std.proofs.lemmas.List.{length-append, append-nil}
 use Rattle.std.specs.declared.net.socket_addr.SocketAddr.{SocketAddr}
@@ -16,7 +16,7 @@ use Rattle.turn_desk_core.specs.declared.verdict.Verdict.{Verdict}
 use Rattle.turn_desk_core.specs.declared.verdict.Verdict.TheVariants.{Fails, Allocates}
 use Rattle.turn_desk_core.specs.Requests.{transport_asked}
 use Rattle.turn_desk_core.specs.State.{State}
-use Rattle.turn_desk_core.specs.Steps.{IsAnswer, IsChallenge, IsGranted, IsVerdict}
+use Rattle.turn_desk_core.specs.Steps.{IsAnswer, IsGranted, IsVerdict}
 use Rattle.turn_desk_core.specs.Verdicts.{allocation, are_relayable, grants_of, verdict}
 
 -- a list is not itself and one more

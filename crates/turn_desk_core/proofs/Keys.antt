@@ -1,9 +1,9 @@
 -- What a validation keeps for its address, and the key that a reply to it is signed under.
-use Rattle.std.specs.Prelude.{◌≡◌, ◌≢◌, ℕ, ◌+◌, ◌≤◌, ◌<◌, slice_index, Bool, true, false, cond, List, [], ◌∷◌, ◌++◌, length, Option, Some, None, IsSome, if◌then◌else◌}
-use Rattle.std.proofs.Common.{refl, sym, ap, ◌∙◌, subst, arith, inl, inr, ◌⊎◌}
+use Rattle.std.specs.Prelude.{◌≡◌, ◌≢◌, ℕ, ◌<◌, slice_index, Bool, true, false, cond, List, [], ◌∷◌, ◌++◌, Option, Some, None, IsSome, if◌then◌else◌}
+use Rattle.std.proofs.Common.{refl, sym, ap, ◌∙◌, subst, inl, inr}
+use Rattle.std.specs.Prelude.{map as map_list}
 use Rattle.std.proofs.lemmas.Bool.{cases_Bool}
-use Rattle.std.proofs.lemmas.List.{append-nil}
-use Rattle.std.specs.Ordering.{is_eq, eq_by_cmp}
+use Rattle.std.specs.Ordering.{is_eq}
 use Rattle.std.specs.Option.{option_map, option_and_then}
 use Rattle.std.specs.Cmp.{eq_by_cmp_equiv}
 use Rattle.std.specs.FinMap as map
@@ -15,26 +15,30 @@ use Rattle.stun_types_wire.specs.declared.class.MessageClass.{MessageClass}
 use Rattle.stun_types_wire.specs.declared.class.MessageClass.TheVariants.{Request, Indication, Success, Error}
 use Rattle.stun_types_wire.specs.Attributes.{Attr}
 use Rattle.stun_types_wire.specs.Types.{is_response_class, type_of}
-use Rattle.stun_types_write.specs.Written.{Written}
+use Rattle.stun_types_write.specs.Drafts.{Draft}
 use Rattle.stun_types_wire.specs.Text.{header_text, message_text}
 use Rattle.stun_types_integrity.specs.Credentials.{Key}
 use Rattle.stun_types_integrity.specs.Signing.{signing_refusal}
-use Rattle.stun_proto_sign.specs.Addition.{Addition, Party, Signer, addition, addition_refusal, attrs, texts_refusal, with_signature, key_in}
-use Rattle.stun_proto_judge.specs.Claims.{claimed}
+use Rattle.stun_types_build.specs.Calls.{Integrity, IsWritten, Ordinary, after_calls}
+use Rattle.stun_types_grammar.specs.Reading.{IsReadAs}
+use Rattle.stun_types_laws.proofs.Composed.{composed_read, signed_read, signed_text_of}
+use Rattle.stun_proto_sign.specs.Addition.{Addition, Party, Signer, addition, addition_refusal, calls_of, texts_refusal, key_in}
+use Rattle.stun_proto_sign.specs.Stages.{IsMade}
+use Rattle.stun_proto_sign.proofs.Made.{made_written}
 use Rattle.stun_proto_judge.specs.Judgement.{IsRefused, Outcome, is_response, user_key}
 use Rattle.stun_proto_server.specs.Server.{Client, Server, nonce_at, has_standing_nonce, refreshed, with_outcome, set_outcome}
 use Rattle.stun_proto_server.specs.Signing.{addition_for, party_at, party_by_client, party_by_outcome, party_by_password}
-use Rattle.stun_proto_server.specs.Validation.{Accepts, IsValidated, after_refusal, known_of, password_at}
+use Rattle.stun_proto_server.specs.Validation.{IsValidated, after_refusal, known_of, password_at}
 use Rattle.stun_types_wire.specs.Grammar.{number_at}
 use Rattle.stun_proto_judge.specs.declared.error.LongTermServerAuthError.{LongTermServerAuthError}
 use Rattle.stun_proto_judge.specs.declared.error.LongTermServerAuthError.TheVariants.{NoMemory}
 use Rattle.stun_proto_server.specs.declared.validation.LongTermServerValidation.{LongTermServerValidation}
 use Rattle.stun_proto_server.specs.declared.validation.LongTermServerValidation.TheVariants.{Validated}
-use Rattle.turn_desk_reply.specs.Replies.{IsReadable, IsReadableSigned, IsReply, error_type, signed_text, success_type}
+use Rattle.turn_desk_reply.specs.Replies.{IsReply, error_type, signed_attributes, signed_text, success_type}
 use Rattle.turn_desk_core.specs.declared.verdict.Verdict.{Verdict}
 use Rattle.turn_desk_core.specs.Requests.{IsServed}
 use Rattle.turn_desk_core.specs.State.{State}
-use Rattle.turn_desk_core.specs.Steps.{IsChallenge, IsSignedFor, IsTaken, IsVerdict, key_at, key_of_party, refusal_attributes}
+use Rattle.turn_desk_core.specs.Steps.{IsChallenge, IsSignedFor, IsTaken, IsTurnedReply, IsVerdict, key_at, key_of_party, refusal_attributes}
 use Rattle.turn_desk_core.specs.Verdicts.{grants_of, reply_attributes, reply_type}
 use Rattle.turn_desk_core.proofs.Numbers.{error_type_fits, number_fits, reply_type_fits}
 use Rattle.turn_desk_core.proofs.Nonces.{refreshed_nonce, refreshed_realm}
@@ -138,37 +142,50 @@ added (Some party) class response has = added_user party.realm party.nonce party
 pub added_for : (server : Server) (from : SocketAddr) (class : MessageClass) → is_response_class class ≡ true → IsSome (key_at server from) → addition_for server from class ≡ Some (sealed (key_at server from))
 added_for server from class response has = added (party_at server from) class response has
 
-plus_zero : (n : ℕ) → n + 0 ≡ n
-plus_zero n = omega arith
+sealed_refusal : (key : Option Key) (draft : Draft) → ((algorithm : IntegrityAlgorithm) → signing_refusal draft algorithm algorithm ≡ None) → addition_refusal (Some (sealed key)) draft ≡ None
+unfolding texts_refusal after_calls
+sealed_refusal None draft signable = refl
+sealed_refusal (Some key) draft signable = signable key.algorithm
 
-sealed_refusal : (key : Option Key) (kinds : List ℕ) (limit : Option ℕ) (len : ℕ) → ((algorithm : IntegrityAlgorithm) → signing_refusal kinds limit len algorithm algorithm ≡ None) → addition_refusal (Some (sealed key)) kinds limit len ≡ None
-unfolding texts_refusal
-sealed_refusal None kinds limit len signable = refl
-sealed_refusal (Some key) kinds limit len signable = rw (append-nil kinds, plus_zero len) (signable key.algorithm)
+pub accepted_for : (server : Server) (from : SocketAddr) (class : MessageClass) (draft : Draft) → is_response_class class ≡ true → IsSome (key_at server from)
+    → ((algorithm : IntegrityAlgorithm) → signing_refusal draft algorithm algorithm ≡ None) → addition_refusal (addition_for server from class) draft ≡ None
+accepted_for server from class draft response has signable =
+    ap (λ (a : Option Addition). addition_refusal a draft) (added_for server from class response has) ∙ sealed_refusal (key_at server from) draft signable
 
-pub accepted_for : (server : Server) (from : SocketAddr) (class : MessageClass) (kinds : List ℕ) (limit : Option ℕ) (len : ℕ) → is_response_class class ≡ true → IsSome (key_at server from)
-    → ((algorithm : IntegrityAlgorithm) → signing_refusal kinds limit len algorithm algorithm ≡ None) → addition_refusal (addition_for server from class) kinds limit len ≡ None
-accepted_for server from class kinds limit len response has signable =
-    ap (λ (a : Option Addition). addition_refusal a kinds limit len) (added_for server from class response has) ∙ sealed_refusal (key_at server from) kinds limit len signable
-
-signed_by : (server : Server) (from : SocketAddr) (signer : Option Key) (a : Addition) (new : List ℕ) (kind number : ℕ) (attributes : List Attr) → key_at server from ≡ signer → IsSome signer → Some a ≡ Some (sealed signer)
-    → new ≡ message_text kind number (with_signature a.signer kind number (attributes ++ attrs a.texts)) → IsSignedFor server from kind number attributes new
-signed_by server from None a new kind number attributes is has same text = absurd (Prim.cc has)
-signed_by server from (Some key) a new kind number attributes is has same text = (
-  key,
-  is,
-  text ∙ ap (λ (b : Addition). message_text kind number (with_signature b.signer kind number (attributes ++ attrs b.texts))) (inside same)
-      ∙ ap (λ (l : List Attr). message_text kind number (with_signature (Some key) kind number l)) (append-nil attributes),
-)
+signed_by : (server : Server) (from : SocketAddr) (signer : Option Key) (what : Option Addition) (old new : Draft) (kind number : ℕ) (attributes : List Attr) → key_at server from ≡ signer → IsSome signer → what ≡ Some (sealed signer)
+    → IsMade what old new → IsReply kind number attributes old → IsSignedFor server from kind number attributes new.bytes
+signed_by server from None what old new kind number attributes is has same made reply = absurd (Prim.cc has)
+signed_by server from (Some key) what old new kind number attributes is has same made reply =
+    let own : made.made ≡ sealed (Some key) = inside (sym made.known ∙ same) in
+    let all = made_written kind number (map_list Ordinary attributes) what old new reply.composed.written made in
+    let written : IsWritten kind number (map_list Ordinary attributes ++ Integrity key.algorithm key.bytes ∷ []) new =
+    subst (λ (a : Addition). IsWritten kind number (map_list Ordinary attributes ++ calls_of a) new) own all in
+    record {
+      key = key;
+      own = is;
+      text = signed_text_of kind number attributes key.algorithm key.bytes new written;
+      read = λ k n. signed_read kind number attributes key.algorithm key.bytes new k n reply.lawful written;
+    }
   where
     inside : {x y : Addition} → Some x ≡ Some y → x ≡ y
     inside p = Prim.cc p
 
-pub signed_for : (server : Server) (from : SocketAddr) (class : MessageClass) (a : Addition) (old new : List ℕ) → is_response_class class ≡ true → IsSome (key_at server from) → addition_for server from class ≡ Some a
-    → ((mtype number : ℕ) (adds : List Attr) → old ≡ message_text mtype number adds → new ≡ message_text mtype number (with_signature a.signer mtype number (adds ++ attrs a.texts)))
-    → (kind number : ℕ) (attributes : List Attr) → old ≡ message_text kind number attributes → IsSignedFor server from kind number attributes new
-signed_for server from class a old new response has is text kind number attributes written =
-    signed_by server from (key_at server from) a new kind number attributes refl has (sym is ∙ added_for server from class response has) (text kind number attributes written)
+pub signed_for : (server : Server) (from : SocketAddr) (class : MessageClass) (old new : Draft) (text : List ℕ) → is_response_class class ≡ true → IsSome (key_at server from) → text ≡ new.bytes
+    → IsMade (addition_for server from class) old new → (kind number : ℕ) (attributes : List Attr) → IsReply kind number attributes old → IsSignedFor server from kind number attributes text
+signed_for server from class old new text response has told made kind number attributes reply =
+    rw told (signed_by server from (key_at server from) (addition_for server from class) old new kind number attributes refl has (added_for server from class response has) made reply)
+
+-- a reply that shows the nonce
+pub turned : (server : Server) (from : SocketAddr) (bytes : List ℕ) (error : LongTermServerAuthError) (realm nonce : List ℕ) (draft : Draft) (text : List ℕ) → realm ≡ server.realm → nonce_at server from ≡ Some nonce → text ≡ draft.bytes
+    → IsReply (error_type bytes) (number_at bytes) (refusal_attributes error realm nonce) draft → IsTurnedReply server from bytes error text
+turned server from bytes error realm nonce draft text same kept told reply =
+    let here : IsReply (error_type bytes) (number_at bytes) (refusal_attributes error server.realm nonce) draft = subst (λ (r : List ℕ). IsReply (error_type bytes) (number_at bytes) (refusal_attributes error r nonce) draft) same reply in
+    rw told (record {
+      nonce = nonce;
+      kept = kept;
+      text = here.composed.text;
+      read = λ k n. composed_read (error_type bytes) (number_at bytes) (refusal_attributes error server.realm nonce) draft k n here.lawful here.composed.written;
+    })
 
 -- ---- a validation
 
@@ -193,14 +210,14 @@ takes_key old from bytes now stream new t =
 
 -- the reply that is signed for its address is that of the verdict
 pub answered : (old new : State) (from : SocketAddr) (bytes : List ℕ) (now : ℕ) (stream : Stream) (what : Verdict) (after : Server) (reply : List ℕ) → ((i : ℕ) → slice_index bytes i < 256) → IsServed bytes
-    → Takes old.auth from bytes now stream after → IsReadableSigned (reply_attributes bytes from what)
+    → Takes old.auth from bytes now stream after
     → IsSignedFor after from (reply_type bytes what) (number_at bytes) (reply_attributes bytes from what) reply → new ≡ record { auth = after; grants = old.grants ++ grants_of bytes from what } → IsVerdict old from bytes now stream what reply new
-answered old new from bytes now stream what after reply are served t readable signed is =
+answered old new from bytes now stream what after reply are served t signed is =
     let k = taken_key old.auth from bytes now stream t.name t.algorithm after (refreshed_realm old.auth from now stream) t.taken in
-    let same = inside (sym signed.1 ∙ k.key) in
+    let same = inside (sym signed.own ∙ k.key) in
     let key = user_key old.auth.realm t.name k.password t.algorithm in
     let text : reply ≡ signed_text (reply_type bytes what) (number_at bytes) (reply_attributes bytes from what) key t.algorithm =
-    signed.2 ∙ ap (λ (own : Key). signed_text (reply_type bytes what) (number_at bytes) (reply_attributes bytes from what) own.bytes own.algorithm) same in
+    signed.text ∙ ap (λ (own : Key). signed_text (reply_type bytes what) (number_at bytes) (reply_attributes bytes from what) own.bytes own.algorithm) same in
     record {
       name = t.name;
       algorithm = t.algorithm;
@@ -208,7 +225,8 @@ answered old new from bytes now stream what after reply are served t readable si
       password = k.password;
       present = k.present;
       text = text;
-      read = rw text (readable (reply_type bytes what) (number_at bytes) key t.algorithm (reply_type_fits bytes what served) (number_fits bytes are served));
+      read = subst (λ (own : Key). IsReadAs (reply_type bytes what) (number_at bytes) (signed_attributes (reply_type bytes what) (number_at bytes) (reply_attributes bytes from what) own.bytes own.algorithm) reply) same
+          (signed.read (reply_type_fits bytes what served) (number_fits bytes are served));
       granted = ap (λ (s : State). s.grants) is;
     }
   where
@@ -235,23 +253,21 @@ refused_nonce old from now stream new is =
     elim_nonce (Some nonce) has some = rw (is, outcome_nonce (refreshed old from now stream) from nonce None has) refl
 
 -- the answer to a request that is refused
-pub challenged : (old new : State) (from : SocketAddr) (bytes : List ℕ) (now : ℕ) (stream : Stream) (error : LongTermServerAuthError) (after : Server) (realm nonce reply : List ℕ) → ((i : ℕ) → slice_index bytes i < 256) → IsServed bytes
+pub challenged : (old new : State) (from : SocketAddr) (bytes : List ℕ) (now : ℕ) (stream : Stream) (error : LongTermServerAuthError) (after : Server) (reply : List ℕ) → ((i : ℕ) → slice_index bytes i < 256) → IsServed bytes
     → error ≢ NoMemory → (error ≢ NoMemory → IsRefused (known_of (refreshed old.auth from now stream) from bytes) bytes error) → (error ≢ NoMemory → after ≡ after_refusal old.auth from bytes now stream)
-    → new ≡ record { auth = after; grants = old.grants } → realm ≡ after.realm → nonce_at after from ≡ Some nonce → reply ≡ message_text (error_type bytes) (number_at bytes) (refusal_attributes error realm nonce) → IsReadable (refusal_attributes error realm nonce)
+    → new ≡ record { auth = after; grants = old.grants } → IsTurnedReply after from bytes error reply
     → IsChallenge old from bytes now stream reply new
-challenged old new from bytes now stream error after realm nonce reply are served ample refused left is told kept text readable =
+challenged old new from bytes now stream error after reply are served ample refused left is told =
     let gone = refusal_after old.auth from bytes now stream after served (left ample) in
-    let same : realm ≡ old.auth.realm = told ∙ ap (λ (s : Server). s.realm) gone ∙ refreshed_realm old.auth from now stream in
-    let whole = text ∙ ap (λ (r : List ℕ). message_text (error_type bytes) (number_at bytes) (refusal_attributes error r nonce)) same in
-    let shows = subst (λ (r : List ℕ). IsReadable (refusal_attributes error r nonce)) same readable in
+    let same : after.realm ≡ old.auth.realm = ap (λ (s : Server). s.realm) gone ∙ refreshed_realm old.auth from now stream in
     let auth : new.auth ≡ after = ap (λ (s : State). s.auth) is in
     record {
       error = error;
       judged = record { ample = ample; refused = refused ample; after = auth ∙ gone };
-      nonce = nonce;
-      kept = ap (λ (s : Server). nonce_at s from) auth ∙ kept;
-      text = whole;
-      read = rw whole (shows (error_type bytes) (number_at bytes) (error_type_fits bytes served) (number_fits bytes are served));
+      nonce = told.nonce;
+      kept = ap (λ (s : Server). nonce_at s from) auth ∙ told.kept;
+      text = told.text ∙ ap (λ (r : List ℕ). message_text (error_type bytes) (number_at bytes) (refusal_attributes error r told.nonce)) same;
+      read = subst (λ (r : List ℕ). IsReadAs (error_type bytes) (number_at bytes) (refusal_attributes error r told.nonce) reply) same (told.read (error_type_fits bytes served) (number_fits bytes are served));
       granted = ap (λ (s : State). s.grants) is;
     }
 
@@ -265,10 +281,10 @@ success_class : (number : ℕ) (attributes : List Attr) → is_response (message
 unfolding message_text header_text
 success_class number attributes = refl
 
-pub error_is_response : (bytes : List ℕ) (number : ℕ) (attributes : List Attr) (reply : Written) → IsServed bytes → IsReply (error_type bytes) number attributes reply → is_response reply.bytes ≡ true
+pub error_is_response : (bytes : List ℕ) (number : ℕ) (attributes : List Attr) (reply : Draft) → IsServed bytes → IsReply (error_type bytes) number attributes reply → is_response reply.bytes ≡ true
 error_is_response bytes number attributes reply served is =
-    ap is_response (is.text ∙ ap (λ (m : ℕ). message_text (type_of Error m) number attributes) served.allocate) ∙ error_class number attributes
+    ap is_response (is.composed.text ∙ ap (λ (m : ℕ). message_text (type_of Error m) number attributes) served.allocate) ∙ error_class number attributes
 
-pub success_is_response : (bytes : List ℕ) (number : ℕ) (attributes : List Attr) (reply : Written) → IsServed bytes → IsReply (success_type bytes) number attributes reply → is_response reply.bytes ≡ true
+pub success_is_response : (bytes : List ℕ) (number : ℕ) (attributes : List Attr) (reply : Draft) → IsServed bytes → IsReply (success_type bytes) number attributes reply → is_response reply.bytes ≡ true
 success_is_response bytes number attributes reply served is =
-    ap is_response (is.text ∙ ap (λ (m : ℕ). message_text (type_of Success m) number attributes) served.allocate) ∙ success_class number attributes
+    ap is_response (is.composed.text ∙ ap (λ (m : ℕ). message_text (type_of Success m) number attributes) served.allocate) ∙ success_class number attributes

@@ -1,11 +1,9 @@
 -- The type and the number of a reply fit into their fields.
-use Rattle.std.specs.Prelude.{◌≡◌, ℕ, suc, ◌^◌, ◌<◌, slice_index, List, [], ◌∷◌, None}
+use Rattle.std.specs.Prelude.{ℕ, suc, ◌^◌, ◌<◌, slice_index, List, [], ◌∷◌}
 use Rattle.std.proofs.Common.{refl, arith, ltb}
 use Rattle.std.proofs.lemmas.Bool.{lt-ltb, and_from}
 use Rattle.std.specs.List.{list_all}
-use Rattle.stun_types_wire.specs.declared.class.MessageClass.TheVariants.{Success, Error}
-use Rattle.stun_types_wire.specs.Types.{type_of}
-use Rattle.stun_types_wire.specs.Grammar.{refusal, number_at}
+use Rattle.stun_types_wire.specs.Grammar.{number_at}
 use Rattle.stun_types_grammar.specs.Headers.{AreBytes}
 use Rattle.stun_types_grammar.proofs.Converse.{has_text}
 use Rattle.turn_desk_reply.specs.Replies.{error_type}

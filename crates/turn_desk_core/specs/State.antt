@@ -11,4 +11,5 @@ pub record State : Type 0 where
   pub grants : List Grant
 
 abbrev pub state_code : Coded State
-state_code = code_by (Server × List Grant) (coded× server_code (coded_list grant.the_row.coded)) (λ s. (s.auth, s.grants)) (λ p. record { auth = p.0; grants = p.1 }) (λ _. refl)
+state_code = code_by (Server × List Grant) (coded× server_code (coded_list grant.the_row.coded))
+    (λ s. (s.auth, s.grants)) (λ p. record { auth = p.0; grants = p.1 }) (λ _. refl)

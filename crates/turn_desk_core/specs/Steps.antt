@@ -1,5 +1,5 @@
 -- What a desk answers a request, and what that leaves (RFC 8489, section 9.2.4; RFC 8656, section 7.2).
-use Rattle.std.specs.Prelude.{◌≡◌, ◌≢◌, ◌⊎◌, ℕ, List, ◌++◌, Option, Some, None, true}
+use Rattle.std.specs.Prelude.{◌≡◌, ◌≢◌, ◌⊎◌, ◌<◌, ◌^◌, ℕ, List, ◌++◌, Option, Some, None, true}
 use Rattle.std.specs.FinMap as map
 use Rattle.std.specs.Option.{option_and_then, option_map}
 use Rattle.std.specs.declared.net.socket_addr.SocketAddr.{SocketAddr}
@@ -13,7 +13,7 @@ use Rattle.stun_types_grammar.specs.Reading.{IsReadAs}
 use Rattle.stun_types_integrity.specs.Credentials.{Key}
 use Rattle.stun_proto_sign.specs.Addition.{Party, key_in}
 use Rattle.stun_proto_judge.specs.declared.error.LongTermServerAuthError.{LongTermServerAuthError}
-use Rattle.stun_proto_judge.specs.declared.error.LongTermServerAuthError.TheVariants.{Unauthorized, IntegrityFailed, BadRequest, StaleNonce, NoMemory}
+use Rattle.stun_proto_judge.specs.declared.error.LongTermServerAuthError.TheVariants.{BadRequest, StaleNonce, NoMemory}
 use Rattle.stun_proto_judge.specs.Judgement.{IsRefused, user_key}
 use Rattle.stun_proto_server.specs.Server.{Server, nonce_at, refreshed, with_outcome}
 use Rattle.stun_proto_server.specs.Signing.{party_at}
@@ -24,7 +24,7 @@ use Rattle.turn_desk_core.specs.declared.grant.Grant as granted
 use Rattle.turn_desk_core.specs.declared.verdict.Verdict.{Verdict}
 use Rattle.turn_desk_core.specs.Requests.{transport_asked}
 use Rattle.turn_desk_core.specs.State.{State}
-use Rattle.turn_desk_core.specs.Verdicts.{allocation, are_relayable, grants_of, reply_attributes, reply_type, verdict}
+use Rattle.turn_desk_core.specs.Verdicts.{allocation, are_relayable, grants_of, reply_attributes, reply_type, verdict_on}
 use Rattle.turn_desk_reply.specs.Replies.{allocated_attributes, challenge_attributes, error_type, failure_attributes, signed_attributes, signed_text, success_type}
 
 -- ---- the key of a party
@@ -37,25 +37,15 @@ key_of_party party = option_and_then (λ (p : Party). option_map (key_in p.realm
 abbrev pub key_at : Server → SocketAddr → Option Key
 key_at server from = key_of_party (party_at server from)
 
--- the text is that of a reply to an address, signed under the key of the user as whom its last message was validated
-abbrev pub IsSignedFor : Server → SocketAddr → ℕ → ℕ → List Attr → List ℕ → Type 0
-IsSignedFor server from kind number attributes text =
-    (key : Key) × (key_at server from ≡ Some key) × (text ≡ signed_text kind number attributes key.bytes key.algorithm)
-
--- ---- validation
-
--- the authenticator refuses the request for a cause, and forgets who its address was
-pub record IsTurnedAway (old : Server) (from : SocketAddr) (bytes : List ℕ) (now : ℕ) (stream : Stream) (error : LongTermServerAuthError) (new : Server) : Type 0 where
-  pub ample : error ≢ NoMemory
-  pub refused : IsRefused (known_of (refreshed old from now stream) from bytes) bytes error
-  pub after : new ≡ with_outcome (refreshed old from now stream) from None
-
--- the authenticator accepts the request as that of a user, by an algorithm, and keeps that for its address
-pub record IsTaken (old : Server) (from : SocketAddr) (bytes : List ℕ) (now : ℕ) (stream : Stream) (name : List ℕ) (algorithm : IntegrityAlgorithm) (new : Server) : Type 0 where
-  pub accepts : Accepts (refreshed old from now stream) from bytes algorithm name
-  pub after : new ≡ with_outcome (refreshed old from now stream) from (Some (record { name = name; algorithm = algorithm }))
-
--- ---- answers
+-- the text is that of a reply to an address, signed under the key of the user as whom its last
+-- message was validated, and is read as that
+pub record IsSignedFor (server : Server) (from : SocketAddr) (kind number : ℕ) (attributes : List Attr)
+    (reply : List ℕ) : Type 0 where
+  pub key : Key
+  pub own : key_at server from ≡ Some key
+  pub text : reply ≡ signed_text kind number attributes key.bytes key.algorithm
+  pub read : kind < 2 ^ 14 → number < 2 ^ 96
+      → IsReadAs kind number (signed_attributes kind number attributes key.bytes key.algorithm) reply
 
 -- what the answer to a request shows that is refused: ERROR-CODE alone to one that is malformed, else a challenge
 abbrev pub refusal_attributes : LongTermServerAuthError → List ℕ → List ℕ → List Attr
@@ -63,8 +53,37 @@ refusal_attributes BadRequest realm nonce = failure_attributes 400
 refusal_attributes StaleNonce realm nonce = challenge_attributes 438 realm nonce
 refusal_attributes _ realm nonce = challenge_attributes 401 realm nonce
 
--- a request that is refused is answered with an error response that shows the nonce which now stands for its address, and nothing is granted
-pub record IsChallenge (old : State) (from : SocketAddr) (bytes : List ℕ) (now : ℕ) (stream : Stream) (reply : List ℕ) (new : State) : Type 0 where
+-- a reply to a request that was turned away, which shows the nonce that is kept for the address
+pub record IsTurnedReply (server : Server) (from : SocketAddr) (bytes : List ℕ) (error : LongTermServerAuthError)
+    (reply : List ℕ) : Type 0 where
+  pub nonce : List ℕ
+  pub kept : nonce_at server from ≡ Some nonce
+  pub text : reply ≡ message_text (error_type bytes) (number_at bytes) (refusal_attributes error server.realm nonce)
+  pub read : error_type bytes < 2 ^ 14 → number_at bytes < 2 ^ 96
+      → IsReadAs (error_type bytes) (number_at bytes) (refusal_attributes error server.realm nonce) reply
+
+-- ---- validation
+
+-- the authenticator refuses the request for a cause, and forgets who its address was
+pub record IsTurnedAway (old : Server) (from : SocketAddr) (bytes : List ℕ) (now : ℕ) (stream : Stream)
+    (error : LongTermServerAuthError) (new : Server) : Type 0 where
+  pub ample : error ≢ NoMemory
+  pub refused : IsRefused (known_of (refreshed old from now stream) from bytes) bytes error
+  pub after : new ≡ with_outcome (refreshed old from now stream) from None
+
+-- the authenticator accepts the request as that of a user, by an algorithm, and keeps that for its address
+pub record IsTaken (old : Server) (from : SocketAddr) (bytes : List ℕ) (now : ℕ) (stream : Stream) (name : List ℕ)
+    (algorithm : IntegrityAlgorithm) (new : Server) : Type 0 where
+  pub accepts : Accepts (refreshed old from now stream) from bytes algorithm name
+  pub after : new ≡ with_outcome (refreshed old from now stream) from
+      (Some (record { name = name; algorithm = algorithm }))
+
+-- ---- answers
+
+-- a request that is refused is answered with an error response that shows the nonce which now
+-- stands for its address, and nothing is granted
+pub record IsChallenge (old : State) (from : SocketAddr) (bytes : List ℕ) (now : ℕ) (stream : Stream) (reply : List ℕ)
+    (new : State) : Type 0 where
   pub error : LongTermServerAuthError
   pub judged : IsTurnedAway old.auth from bytes now stream error new.auth
   pub nonce : List ℕ
@@ -74,23 +93,33 @@ pub record IsChallenge (old : State) (from : SocketAddr) (bytes : List ℕ) (now
   pub granted : new.grants ≡ old.grants
 
 -- a request of a user is answered by the verdict, under the key that validated it, and what the verdict grants is kept
-pub record IsVerdict (old : State) (from : SocketAddr) (bytes : List ℕ) (now : ℕ) (stream : Stream) (what : Verdict) (reply : List ℕ) (new : State) : Type 0 where
+pub record IsVerdict (old : State) (from : SocketAddr) (bytes : List ℕ) (now : ℕ) (stream : Stream) (what : Verdict)
+    (reply : List ℕ) (new : State) : Type 0 where
   pub name : List ℕ
   pub algorithm : IntegrityAlgorithm
   pub judged : IsTaken old.auth from bytes now stream name algorithm new.auth
   pub password : List ℕ
   pub present : map.get old.auth.users name ≡ Some password
-  pub text : reply ≡ signed_text (reply_type bytes what) (number_at bytes) (reply_attributes bytes from what) (user_key old.auth.realm name password algorithm) algorithm
-  pub read : IsReadAs (reply_type bytes what) (number_at bytes) (signed_attributes (reply_type bytes what) (number_at bytes) (reply_attributes bytes from what) (user_key old.auth.realm name password algorithm) algorithm) reply
+  pub text : reply ≡ signed_text (reply_type bytes what) (number_at bytes) (reply_attributes bytes from what)
+      (user_key old.auth.realm name password algorithm) algorithm
+  pub read : IsReadAs (reply_type bytes what) (number_at bytes)
+      (signed_attributes (reply_type bytes what) (number_at bytes) (reply_attributes bytes from what)
+      (user_key old.auth.realm name password algorithm) algorithm) reply
   pub granted : new.grants ≡ old.grants ++ grants_of bytes from what
 
 -- a request that is served is answered, by what the driver decided
 abbrev pub IsAnswer : State → SocketAddr → List ℕ → ℕ → Stream → Decision → List ℕ → State → Type 0
 IsAnswer old from bytes now stream decision reply new =
-    IsChallenge old from bytes now stream reply new ⊎ IsVerdict old from bytes now stream (verdict (transport_asked bytes) decision) reply new
+    IsChallenge old from bytes now stream reply new ⊎ IsVerdict old from bytes now stream
+    (verdict_on bytes decision) reply new
 
--- an allocation is granted to a request: it is a user's, it asks for a transport, and the decision gives one address or two of distinct families; the reply is a success of its method and number that shows these addresses in order and the lifetime, signed under the key that validated the request; what is kept has the request's number, source and transport, and the addresses and the lifetime that were decided
-pub record IsGranted (old : State) (from : SocketAddr) (bytes : List ℕ) (now : ℕ) (stream : Stream) (decision : Decision) (reply : List ℕ) (grant : granted.Grant) : Type 0 where
+-- an allocation is granted to a request: it is a user's, it asks for a transport, and the decision
+-- gives one address or two of distinct families; the reply is a success of its method and number
+-- that shows these addresses in order and the lifetime, signed under the key that validated the
+-- request; what is kept has the request's number, source and transport, and the addresses and the
+-- lifetime that were decided
+pub record IsGranted (old : State) (from : SocketAddr) (bytes : List ℕ) (now : ℕ) (stream : Stream)
+    (decision : Decision) (reply : List ℕ) (grant : granted.Grant) : Type 0 where
   pub name : List ℕ
   pub algorithm : IntegrityAlgorithm
   pub accepts : Accepts (refreshed old.auth from now stream) from bytes algorithm name
@@ -102,7 +131,10 @@ pub record IsGranted (old : State) (from : SocketAddr) (bytes : List ℕ) (now :
   pub lifetime : ℕ
   pub decided : decision ≡ Allocate relayed lifetime
   pub fits : are_relayable relayed ≡ true
-  pub shows : IsReadAs (success_type bytes) (number_at bytes) (signed_attributes (success_type bytes) (number_at bytes) (allocated_attributes (number_at bytes) relayed lifetime from) (user_key old.auth.realm name password algorithm) algorithm) reply
+  pub shows : IsReadAs (success_type bytes) (number_at bytes)
+      (signed_attributes (success_type bytes) (number_at bytes)
+      (allocated_attributes (number_at bytes) relayed lifetime from)
+      (user_key old.auth.realm name password algorithm) algorithm) reply
   pub kept : grant ≡ allocation bytes from transport relayed lifetime
 
 -- ---- want of memory

@@ -12,7 +12,7 @@ use Rattle.turn_desk_core.specs.declared.decision.Decision.TheVariants.{Refuse, 
 use Rattle.turn_desk_core.specs.declared.grant.Grant as granted
 use Rattle.turn_desk_core.specs.declared.verdict.Verdict.{Verdict}
 use Rattle.turn_desk_core.specs.declared.verdict.Verdict.TheVariants.{Fails, Allocates}
-use Rattle.turn_desk_core.specs.Requests.{allocate_method}
+use Rattle.turn_desk_core.specs.Requests.{allocate_method, transport_asked}
 
 -- whether two addresses are of distinct families
 abbrev pub are_distinct : Bool → Bool → Bool
@@ -33,7 +33,8 @@ refused_code code = if nat_lt code 300 || nat_lt 699 code then 500 else code
 -- what becomes of an ALLOCATE that asks for a transport
 abbrev pub decided : TransportType → Decision → Verdict
 decided transport (Refuse code) = Fails (refused_code code)
-decided transport (Allocate addresses lifetime) = if are_relayable addresses then Allocates transport addresses lifetime else Fails 500
+decided transport (Allocate addresses lifetime) = if are_relayable addresses
+    then Allocates transport addresses lifetime else Fails 500
 decided transport (Refresh lifetime) = Fails 500
 decided transport (Connect number) = Fails 500
 decided transport Grant = Fails 500
@@ -42,6 +43,10 @@ decided transport Grant = Fails 500
 abbrev pub verdict : Option TransportType → Decision → Verdict
 verdict None decision = Fails 400
 verdict (Some transport) decision = decided transport decision
+
+-- what becomes of a request that is served, by the transport that it asks for
+abbrev pub verdict_on : List ℕ → Decision → Verdict
+verdict_on request decision = verdict (transport_asked request) decision
 
 -- ---- what is answered and granted
 
@@ -53,9 +58,11 @@ reply_type request (Allocates transport relayed lifetime) = success_type request
 -- what the reply to a request from an address shows, before it is signed
 abbrev pub reply_attributes : List ℕ → SocketAddr → Verdict → List Attr
 reply_attributes request from (Fails code) = failure_attributes code
-reply_attributes request from (Allocates transport relayed lifetime) = allocated_attributes (number_at request) relayed lifetime from
+reply_attributes request from (Allocates transport relayed lifetime) = allocated_attributes
+    (number_at request) relayed lifetime from
 
--- the allocation that is kept: with the request's number, source and transport, and the addresses and the lifetime that were decided
+-- the allocation that is kept: with the request's number, source and transport, and the addresses
+-- and the lifetime that were decided
 abbrev pub allocation : List ℕ → SocketAddr → TransportType → List SocketAddr → ℕ → granted.Grant
 allocation request from transport relayed lifetime = record {
   method = record { 0 = allocate_method };

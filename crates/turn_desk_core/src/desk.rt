@@ -1,21 +1,23 @@
 //! The desk: requests in, replies out.
 
-ghost use Rattle.std.specs.Prelude.{◌≡◌, ◌≢◌, ◌↔◌, ◌++◌, ◌∷◌, IfOk, OnErr, IsSome, None, Some, MatchOption, [], ℕ, List, true};
+ghost use Rattle.std.specs.Prelude.{◌≡◌, ◌≢◌, ◌↔◌, ◌++◌, ◌∷◌, IfOk, OnErr, IsSome, None, MatchOption, MatchResult, [], ℕ, List, true};
 ghost use Rattle.std.specs.Borrow.{sem};
 ghost use Rattle.std.specs.declared.net.socket_addr.SocketAddr.{SocketAddr};
 ghost use Rattle.stun_types_base.specs.Words.{stream_after};
 ghost use Rattle.stun_types_wire.specs.Attributes.{Attr};
 ghost use Rattle.stun_types_wire.specs.Grammar.{number_at};
+ghost use Rattle.stun_types_wire.specs.declared.algorithm.IntegrityAlgorithm.{IntegrityAlgorithm};
 ghost use Rattle.stun_types_write.specs.Adding.{IsBegun};
-ghost use Rattle.stun_types_wire.specs.Text.{message_text};
+ghost use Rattle.stun_types_write.specs.Lent.{own_draft};
+ghost use Rattle.stun_types_integrity.specs.Signing.{signing_refusal};
 ghost use Rattle.stun_proto_judge.specs.Judgement.{is_response};
 ghost use Rattle.stun_proto_server.specs.Server.{SameFor, nonce_at, words_drawn};
-ghost use Rattle.turn_desk_reply.specs.Replies.{IsReadable, IsReadableSigned, IsSignable, error_type};
+ghost use Rattle.turn_desk_reply.specs.Replies.{IsReply, error_type};
 ghost use Rattle.turn_desk_core.specs.declared.grant.Grant.{Grant as Granted};
 ghost use Rattle.turn_desk_core.specs.Lending.{LendsAuth};
-ghost use Rattle.turn_desk_core.specs.Requests.{IsServed, transport_asked};
-ghost use Rattle.turn_desk_core.specs.Steps.{IsAnswer, IsAuthAfter, IsGranted, IsSignedFor, key_at, refusal_attributes};
-ghost use Rattle.turn_desk_core.specs.Verdicts.{allocation, grants_of, reply_attributes, reply_type, verdict};
+ghost use Rattle.turn_desk_core.specs.Requests.{IsServed};
+ghost use Rattle.turn_desk_core.specs.Steps.{IsAnswer, IsAuthAfter, IsGranted, IsSignedFor, IsTurnedReply, key_at, refusal_attributes};
+ghost use Rattle.turn_desk_core.specs.Verdicts.{allocation, grants_of, reply_attributes, reply_type, verdict_on};
 
 use crate::decision::Decision;
 use crate::grant::Grant;
@@ -115,16 +117,31 @@ impl Desk {
         rng: &mut R,
     ) -> Result<Option<Vec<u8>>, NoMemory>
         // None exactly where the bytes are no request that is served.
-        ensures none { IfOk result (λ answer. MatchOption answer (¬ IsServed bytes.now) (λ _. IsServed bytes.now)) }
+        ensures none { IfOk result (λ answer.
+            MatchOption answer (¬ IsServed bytes.now) (λ _. IsServed bytes.now)) }
         // What is answered, what is granted, and what the authenticator keeps.
-        ensures answer { IfOk result (λ answer. MatchOption answer (self.new ≡ self.old) (λ reply. IsAnswer self.old from bytes.now now (R.stream rng.old) decision.now reply.items self.new)) }
+        ensures answer { IfOk result (λ answer. MatchOption answer (self.new ≡ self.old)
+            (λ reply. IsAnswer self.old from bytes.now now (R.stream rng.old) decision.now
+            reply.items self.new)) }
         // A grant is kept exactly where an allocation is granted.
-        ensures grants { IfOk result (λ answer. MatchOption answer (self.new.grants ≡ self.old.grants) (λ reply. (g : Granted) → (self.new.grants ≡ self.old.grants ++ g ∷ []) ↔ IsGranted self.old from bytes.now now (R.stream rng.old) decision.now reply.items g)) }
-        ensures memory { OnErr result ((self.new.grants ≡ self.old.grants) × IsAuthAfter self.old.auth from bytes.now now (R.stream rng.old) self.new.auth) }
-        ensures stream { IfOk result (λ answer. MatchOption answer (R.stream rng.new ≡ R.stream rng.old) (λ _. R.stream rng.new ≡ stream_after (words_drawn self.old.auth from now) (R.stream rng.old))) }
-        ensures stream_refused { OnErr result (R.stream rng.new ≡ stream_after (words_drawn self.old.auth from now) (R.stream rng.old)) }
+        ensures grants { IfOk result (λ answer. MatchOption answer
+            (self.new.grants ≡ self.old.grants)
+            (λ reply. (g : Granted) → (self.new.grants ≡ self.old.grants ++ g ∷ [])
+            ↔ IsGranted self.old from bytes.now now (R.stream rng.old) decision.now
+            reply.items g)) }
+        // Memory is wanted for a request that is served alone.
+        ensures memory { OnErr result (IsServed bytes.now × (self.new.grants ≡ self.old.grants)
+            × IsAuthAfter self.old.auth from bytes.now now (R.stream rng.old) self.new.auth) }
+        // The words of a nonce are drawn for a request that is served, where one is due.
+        ensures stream { MatchResult result
+            (λ answer. MatchOption answer (R.stream rng.new ≡ R.stream rng.old)
+            (λ _. R.stream rng.new
+            ≡ stream_after (words_drawn self.old.auth from now) (R.stream rng.old)))
+            (λ _. R.stream rng.new
+            ≡ stream_after (words_drawn self.old.auth from now) (R.stream rng.old)) }
         // What the desk is to other addresses.
-        ensures others { (other : SocketAddr) → other ≢ from → SameFor other self.old.auth self.new.auth }
+        ensures others { (other : SocketAddr) → other ≢ from
+            → SameFor other self.old.auth self.new.auth }
     {
         let Ok(request) = Message::from_bytes(bytes) else {
             return Ok(None);
@@ -158,20 +175,11 @@ impl Desk {
     ) -> Result<Vec<u8>, NoMemory>
         requires request { IsServed request.now }
         requires nonce { IsSome (nonce_at self.now.auth from) }
-        ensures { IfOk result (λ reply. (nonce : List ℕ) × (nonce_at self.now.auth from ≡ Some nonce)
-            × (reply.items ≡ message_text (error_type request.now) (number_at request.now) (refusal_attributes error self.now.auth.realm nonce)) × IsReadable (refusal_attributes error self.now.auth.realm nonce)) }
+        ensures { IfOk result (λ reply.
+            IsTurnedReply self.now.auth from request.now error reply.items) }
     {
         let nonce = self.auth.nonce_for_client(from).unwrap();
-        let realm = self.auth.realm();
-        let reply = match error {
-            LongTermServerAuthError::BadRequest => {
-                failure(self.alloc, request, ErrorCode::BAD_REQUEST)?
-            }
-            LongTermServerAuthError::StaleNonce => {
-                challenge(self.alloc, request, ErrorCode::STALE_NONCE, realm, nonce)?
-            }
-            _ => challenge(self.alloc, request, ErrorCode::UNAUTHORIZED, realm, nonce)?,
-        };
+        let reply = refusal(self.alloc, request, error, self.auth.realm(), nonce)?;
         Ok(reply.finish())
     }
 
@@ -185,9 +193,15 @@ impl Desk {
     ) -> Result<Vec<u8>, NoMemory>
         requires request { IsServed request.now }
         requires validated { IsSome (key_at self.old.auth from) }
-        ensures reply { IfOk result (λ reply. IsSignedFor self.old.auth from (reply_type request.now (verdict (transport_asked request.now) decision.now)) (number_at request.now) (reply_attributes request.now from (verdict (transport_asked request.now) decision.now)) reply.items) }
-        ensures readable { IfOk result (λ _. IsReadableSigned (reply_attributes request.now from (verdict (transport_asked request.now) decision.now))) }
-        ensures granted { IfOk result (λ _. self.new ≡ record self.old { grants = self.old.grants ++ grants_of request.now from (verdict (transport_asked request.now) decision.now) }) }
+        ensures reply { IfOk result (λ reply. IsSignedFor self.old.auth from
+            (reply_type request.now (verdict_on request.now decision.now))
+            (number_at request.now)
+            (reply_attributes request.now from (verdict_on request.now decision.now))
+            reply.items) }
+        ensures granted { IfOk result (λ _. self.new ≡ record self.old {
+          grants = self.old.grants
+              ++ grants_of request.now from (verdict_on request.now decision.now);
+        }) }
         ensures err { OnErr result (self.new ≡ self.old) }
     {
         match judge(self.alloc, request, decision)? {
@@ -212,14 +226,39 @@ impl Desk {
     /// A reply to an address, signed under the key of the user by whom its last message was
     /// validated. Where memory is refused, `NoMemory`.
     fn sign(&self, reply: MessageWriteVec, from: SocketAddr) -> Result<Vec<u8>, NoMemory>
-        requires response { is_response reply.bytes ≡ true }
-        requires begun { IsBegun reply.bytes }
-        requires signable { IsSignable reply }
+        requires response { is_response (own_draft reply).bytes ≡ true }
+        requires begun { IsBegun (own_draft reply).bytes }
+        requires signable { (algorithm : IntegrityAlgorithm)
+            → signing_refusal (own_draft reply) algorithm algorithm ≡ None }
         requires validated { IsSome (key_at self.now.auth from) }
-        ensures { IfOk result (λ signed. (kind number : ℕ) (attributes : List Attr) → reply.bytes ≡ message_text kind number attributes → IsSignedFor self.now.auth from kind number attributes signed.items) }
+        ensures { IfOk result (λ signed. (kind number : ℕ) (attributes : List Attr)
+            → IsReply kind number attributes (own_draft reply)
+            → IsSignedFor self.now.auth from kind number attributes signed.items) }
     {
         let signed = self.auth.sign_outgoing_message_unchecked(reply, from)?;
         Ok(signed.finish())
+    }
+}
+
+/// The error response to a request that was refused, of a server's realm, with the nonce that is kept
+/// for the address. Where memory is refused, `NoMemory`.
+fn refusal(
+    alloc: Global,
+    request: &Message,
+    error: LongTermServerAuthError,
+    realm: &str,
+    nonce: &str,
+) -> Result<MessageWriteVec, NoMemory>
+    requires { IsServed request.now }
+    ensures { IfOk result (λ reply. IsReply (error_type request.now) (number_at request.now)
+        (refusal_attributes error realm.now nonce.now) (own_draft reply)) }
+{
+    match error {
+        LongTermServerAuthError::BadRequest => failure(alloc, request, ErrorCode::BAD_REQUEST),
+        LongTermServerAuthError::StaleNonce => {
+            challenge(alloc, request, ErrorCode::STALE_NONCE, realm, nonce)
+        }
+        _ => challenge(alloc, request, ErrorCode::UNAUTHORIZED, realm, nonce),
     }
 }
 

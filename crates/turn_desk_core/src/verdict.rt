@@ -1,8 +1,7 @@
 //! What becomes of a request that one of the desk's users sent.
 
 ghost use Rattle.std.specs.Prelude.{◌≡◌, IfOk};
-ghost use Rattle.turn_desk_core.specs.Requests.{transport_asked};
-ghost use Rattle.turn_desk_core.specs.Verdicts.{are_relayable, refused_code, verdict};
+ghost use Rattle.turn_desk_core.specs.Verdicts.{are_relayable, refused_code, verdict_on};
 
 use crate::decision::Decision;
 use crate::request::transport_asked;
@@ -38,7 +37,7 @@ pub(crate) fn judge(
     request: &Message,
     decision: &Decision,
 ) -> Result<Verdict, NoMemory>
-    ensures { IfOk result (λ made. made ≡ verdict (transport_asked request.now) decision.now) }
+    ensures { IfOk result (λ made. made ≡ verdict_on request.now decision.now) }
 {
     let Some(transport) = transport_asked(request) else {
         return Ok(Verdict::Fails(ErrorCode::BAD_REQUEST));

@@ -32,5 +32,6 @@ abbrev pub IsDecision : List (List ℕ) → Decision → Type 0
 IsDecision [] decision = ⊥
 IsDecision (name ∷ []) decision = (name ≡ codes "grant") × (decision ≡ Grant)
 IsDecision (name ∷ word ∷ []) decision = IsNumbered name word decision
-IsDecision (name ∷ addresses ∷ lifetime ∷ []) decision = (name ≡ codes "allocate") × IsAllocate addresses lifetime decision
+IsDecision (name ∷ addresses ∷ lifetime ∷ []) decision = (name ≡ codes "allocate")
+    × IsAllocate addresses lifetime decision
 IsDecision (name ∷ addresses ∷ lifetime ∷ more ∷ rest) decision = ⊥

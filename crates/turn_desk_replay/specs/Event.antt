@@ -7,7 +7,8 @@ use Rattle.turn_desk_replay.specs.Decision.{IsDecision}
 use Rattle.turn_desk_replay.specs.Number.{number, number_within}
 
 -- the words, of which the last ones are a decision, spell bytes that reach the desk
-pub record IsToDeskOf (answers : List (List ℕ)) (now from bytes seed : List ℕ) (decision : List (List ℕ)) (event : ToDesk) : Type 0 where
+pub record IsToDeskOf (answers : List (List ℕ)) (now from bytes seed : List ℕ) (decision : List (List ℕ))
+    (event : ToDesk) : Type 0 where
   pub moment : number now ≡ Some event.now
   pub source : IsSocketText from event.from
   pub named : named_bytes answers bytes ≡ Some event.bytes.items

@@ -14,7 +14,8 @@ answer_text (Some reply) = reply_text reply
 
 -- some answers were printed, one line for each, and then a last text
 abbrev pub PrintsAnswersAnd : Option (List ℕ) → Option (List ℕ) → List ℕ → Type 0
-PrintsAnswersAnd old new last = (answers : List (Option (List ℕ))) × Appends old new (flat_map answer_text answers ++ last)
+PrintsAnswersAnd old new last = (answers : List (Option (List ℕ)))
+    × Appends old new (flat_map answer_text answers ++ last)
 
 -- some answers were printed, one line for each
 abbrev pub PrintsAnswers : Option (List ℕ) → Option (List ℕ) → Type 0

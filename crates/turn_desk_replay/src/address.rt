@@ -15,7 +15,8 @@ use stun_types_base::memory::NoMemory;
 
 /// The transport address that a word spells, as `192.0.2.1:3478` or `[2001:db8::1]:3478`.
 pub fn read_address(word: &str) -> Option<SocketAddr>
-    ensures { MatchOption result ((a : SocketAddr) → ¬ (IsSocketText word.now a)) (IsSocketText word.now) }
+    ensures { MatchOption result ((a : SocketAddr) → ¬ (IsSocketText word.now a))
+        (IsSocketText word.now) }
 {
     word.parse::<SocketAddr>().ok()
 }
@@ -24,7 +25,8 @@ pub fn read_address(word: &str) -> Option<SocketAddr>
 /// fit a request is for the desk to say.
 pub fn read_addresses(alloc: Global, word: &str) -> Result<ListOf<SocketAddr>, LineError>
     ensures ok { IfOk result (AreAddresses (slice_split (λ b. b == 44) word.now)) }
-    ensures bad { result ≡ Err LineError.Bad → (addresses : List SocketAddr) → ¬ (AreAddresses (slice_split (λ b. b == 44) word.now) addresses) }
+    ensures bad { result ≡ Err LineError.Bad → (addresses : List SocketAddr)
+        → ¬ (AreAddresses (slice_split (λ b. b == 44) word.now) addresses) }
 {
     let words = pieces(alloc, word, ',')?;
     listed_addresses(alloc, words.as_slice())
@@ -33,7 +35,8 @@ pub fn read_addresses(alloc: Global, word: &str) -> Result<ListOf<SocketAddr>, L
 /// The addresses that one word or two spell.
 fn listed_addresses(alloc: Global, words: &[&str]) -> Result<ListOf<SocketAddr>, LineError>
     ensures ok { IfOk result (AreAddresses (map (λ x. x.now) words.now)) }
-    ensures bad { result ≡ Err LineError.Bad → (addresses : List SocketAddr) → ¬ (AreAddresses (map (λ x. x.now) words.now) addresses) }
+    ensures bad { result ≡ Err LineError.Bad → (addresses : List SocketAddr)
+        → ¬ (AreAddresses (map (λ x. x.now) words.now) addresses) }
 {
     match words {
         [only] => match read_address(only) {

@@ -31,8 +31,10 @@ pub fn read_bytes(alloc: Global, word: &str, answers: &[Answer]) -> Result<Vec<u
 
 /// The bytes that the parts of a word name, in the order of the parts.
 fn join_parts(alloc: Global, parts: &[&str], answers: &[Answer]) -> Result<Vec<u8>, LineError>
-    ensures ok { IfOk result (λ bytes. joined (map (λ x. part_bytes answers.now x.now) parts.now) ≡ Some bytes.items) }
-    ensures bad { result ≡ Err LineError.Bad → joined (map (λ x. part_bytes answers.now x.now) parts.now) ≡ None }
+    ensures ok { IfOk result (λ bytes. joined (map (λ x. part_bytes answers.now x.now) parts.now)
+        ≡ Some bytes.items) }
+    ensures bad { result ≡ Err LineError.Bad → joined
+        (map (λ x. part_bytes answers.now x.now) parts.now) ≡ None }
 {
     let mut bytes = Vec::new(alloc);
     for part in parts {
@@ -50,7 +52,8 @@ fn push_part(
     part: &str,
     answers: &[Answer],
 ) -> Result<(), LineError>
-    ensures ok { OnOk result (prepend bytes.old.items (part_bytes answers.now part.now) ≡ Some bytes.new.items) }
+    ensures ok { OnOk result (prepend bytes.old.items (part_bytes answers.now part.now)
+        ≡ Some bytes.new.items) }
     ensures bad { result ≡ Err LineError.Bad → part_bytes answers.now part.now ≡ None }
 {
     match part.strip_prefix('@') {
@@ -66,7 +69,8 @@ fn push_answered(
     reference: &str,
     answers: &[Answer],
 ) -> Result<(), LineError>
-    ensures ok { OnOk result (prepend bytes.old.items (answered_part answers.now reference.now) ≡ Some bytes.new.items) }
+    ensures ok { OnOk result (prepend bytes.old.items (answered_part answers.now reference.now)
+        ≡ Some bytes.new.items) }
     ensures bad { result ≡ Err LineError.Bad → answered_part answers.now reference.now ≡ None }
 {
     let words = pieces(alloc, reference, ':')?;
@@ -78,7 +82,8 @@ fn push_answered(
 
 /// Appends the bytes of a part that is lower case hex.
 fn push_hex(alloc: Global, bytes: &mut Vec<u8>, part: &str) -> Result<(), LineError>
-    ensures ok { OnOk result (prepend bytes.old.items (some_bytes (hex_bytes part.now)) ≡ Some bytes.new.items) }
+    ensures ok { OnOk result (prepend bytes.old.items (some_bytes (hex_bytes part.now))
+        ≡ Some bytes.new.items) }
     ensures bad { result ≡ Err LineError.Bad → some_bytes (hex_bytes part.now) ≡ None }
 {
     let decoded = decode_lower(alloc, part)?;
@@ -87,7 +92,8 @@ fn push_hex(alloc: Global, bytes: &mut Vec<u8>, part: &str) -> Result<(), LineEr
 
 /// Appends bytes that a part named. Where they are none, the part named nothing.
 fn push_some(bytes: &mut Vec<u8>, named: &[u8]) -> Result<(), LineError>
-    ensures ok { OnOk result (prepend bytes.old.items (some_bytes (Some named.now)) ≡ Some bytes.new.items) }
+    ensures ok { OnOk result (prepend bytes.old.items (some_bytes (Some named.now))
+        ≡ Some bytes.new.items) }
     ensures bad { result ≡ Err LineError.Bad → some_bytes (Some named.now) ≡ None }
 {
     if named.is_empty() {
@@ -100,7 +106,8 @@ fn push_some(bytes: &mut Vec<u8>, named: &[u8]) -> Result<(), LineError>
 /// The bytes that `k` or `k:a:b` names, from the words between the colons.
 #[tactic(auto, unfolding(crate::specs::Bytes::reference_bytes))]
 fn answered_bytes<'a>(words: &[&str], answers: &'a [Answer]) -> Option<&'a [u8]>
-    ensures { option_copied result ≡ reference_bytes answers.entry.now (map (λ x. x.now) words.now) }
+    ensures { option_copied result ≡ reference_bytes answers.entry.now
+        (map (λ x. x.now) words.now) }
 {
     match words {
         [event] => whole_answer(event, answers),
@@ -127,7 +134,8 @@ fn whole_answer<'a>(event: &str, answers: &'a [Answer]) -> Option<&'a [u8]>
 
 /// A range of what an event line answered: from one place up to, not including, another.
 fn answer_range<'a>(event: &str, from: &str, to: &str, answers: &'a [Answer]) -> Option<&'a [u8]>
-    ensures { option_copied result ≡ range_of (answer_of answers.entry.now (number event.now)) (number from.now) (number to.now) }
+    ensures { option_copied result ≡ range_of (answer_of answers.entry.now (number event.now))
+        (number from.now) (number to.now) }
 {
     let Some(bytes) = whole_answer(event, answers) else {
         return None;

@@ -13,7 +13,8 @@ use turn_desk_core::decision::Decision;
 /// The decision that the last words of a line spell.
 pub fn read_decision(alloc: Global, words: &[&str]) -> Result<Decision, LineError>
     ensures ok { IfOk result (IsDecision (map (λ x. x.now) words.now)) }
-    ensures bad { result ≡ Err LineError.Bad → (decision : Decision) → ¬ (IsDecision (map (λ x. x.now) words.now) decision) }
+    ensures bad { result ≡ Err LineError.Bad → (decision : Decision)
+        → ¬ (IsDecision (map (λ x. x.now) words.now) decision) }
 {
     match words {
         ["allocate", addresses, lifetime] => read_allocate(alloc, addresses, lifetime),
@@ -29,7 +30,8 @@ pub fn read_decision(alloc: Global, words: &[&str]) -> Result<Decision, LineErro
 /// `allocate ADDR LIFETIME`, with two addresses with a comma between.
 fn read_allocate(alloc: Global, addresses: &str, lifetime: &str) -> Result<Decision, LineError>
     ensures ok { IfOk result (IsAllocate addresses.now lifetime.now) }
-    ensures bad { result ≡ Err LineError.Bad → (decision : Decision) → ¬ (IsAllocate addresses.now lifetime.now decision) }
+    ensures bad { result ≡ Err LineError.Bad → (decision : Decision)
+        → ¬ (IsAllocate addresses.now lifetime.now decision) }
 {
     let Some(lifetime) = read_u32(lifetime) else {
         return Err(LineError::Bad);
@@ -45,7 +47,8 @@ fn read_allocate(alloc: Global, addresses: &str, lifetime: &str) -> Result<Decis
 
 /// A decision that is a name and a number.
 fn read_numbered(name: &str, number: &str) -> Option<Decision>
-    ensures { MatchOption result ((decision : Decision) → ¬ (IsNumbered name.now number.now decision)) (IsNumbered name.now number.now) }
+    ensures { MatchOption result ((decision : Decision)
+        → ¬ (IsNumbered name.now number.now decision)) (IsNumbered name.now number.now) }
 {
     match name {
         "refuse" => match read_code(number) {

@@ -40,7 +40,8 @@ pub struct ToDesk {
 /// The event line that begins with `todesk`, from the words behind it.
 pub fn read_to_desk(alloc: Global, words: &[&str], answers: &[Answer]) -> Result<ToDesk, LineError>
     ensures ok { IfOk result (IsToDesk answers.now (map (λ x. x.now) words.now)) }
-    ensures bad { result ≡ Err LineError.Bad → (event : ToDesk) → ¬ (IsToDesk answers.now (map (λ x. x.now) words.now) event) }
+    ensures bad { result ≡ Err LineError.Bad → (event : ToDesk)
+        → ¬ (IsToDesk answers.now (map (λ x. x.now) words.now) event) }
 {
     let [now, from, bytes, seed, decision @ ..] = words else {
         return Err(LineError::Bad);

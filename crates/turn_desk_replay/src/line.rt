@@ -27,7 +27,8 @@ pub fn read_line<'a>(
     answers: &[Answer],
 ) -> Result<Line<'a>, LineError>
     ensures ok { IfOk result (IsLine answers.entry.now line.entry.now) }
-    ensures bad { result ≡ Err LineError.Bad → (read : Line) → ¬ (IsLine answers.entry.now line.entry.now read) }
+    ensures bad { result ≡ Err LineError.Bad → (read : Line)
+        → ¬ (IsLine answers.entry.now line.entry.now read) }
 {
     let words = read_words(alloc, line)?;
     spell(alloc, words.as_slice(), answers)
@@ -36,7 +37,8 @@ pub fn read_line<'a>(
 /// The line that some words spell.
 fn spell<'a>(alloc: Global, words: &[&'a str], answers: &[Answer]) -> Result<Line<'a>, LineError>
     ensures ok { IfOk result (IsLineOf answers.entry.now (map (λ x. x.now) words.entry.now)) }
-    ensures bad { result ≡ Err LineError.Bad → (read : Line) → ¬ (IsLineOf answers.entry.now (map (λ x. x.now) words.entry.now) read) }
+    ensures bad { result ≡ Err LineError.Bad → (read : Line)
+        → ¬ (IsLineOf answers.entry.now (map (λ x. x.now) words.entry.now) read) }
 {
     match words {
         ["desk", rest @ ..] => setup_line(read_desk(rest)),
@@ -51,7 +53,8 @@ fn spell<'a>(alloc: Global, words: &[&'a str], answers: &[Answer]) -> Result<Lin
 
 /// The line of a setup, or a bad one where there is none.
 fn setup_line<'a>(setup: Option<Setup<'a>>) -> Result<Line<'a>, LineError>
-    ensures { MatchOption setup.entry (result ≡ Err LineError.Bad) (λ s. result ≡ Ok (Line.Setup s)) }
+    ensures { MatchOption setup.entry (result ≡ Err LineError.Bad)
+        (λ s. result ≡ Ok (Line.Setup s)) }
 {
     match setup {
         Some(setup) => Ok(Line::Setup(setup)),

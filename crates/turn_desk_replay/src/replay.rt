@@ -35,9 +35,11 @@ pub fn replay<I: Read, O: Write>(alloc: Global, input: &mut I, output: &mut O) -
     // At most one byte more than the longest trace is taken from the reader.
     ensures taken { TakesAtMost (MAX_INPUT + 1) (I.remaining input.old) (I.remaining input.new) }
     // Where the trace was read, it is all that the reader had.
-    ensures whole { result ≢ Status.Fault → result ≢ Status.NoMemory → TakesAll MAX_INPUT (I.remaining input.old) (I.remaining input.new) }
+    ensures whole { result ≢ Status.Fault → result ≢ Status.NoMemory
+        → TakesAll MAX_INPUT (I.remaining input.old) (I.remaining input.new) }
     // Where it ended well, each line of the trace says nothing or can be read.
-    ensures done { result ≡ Status.Done → TakesLines IsReadable (I.remaining input.old) (I.remaining input.new) }
+    ensures done { result ≡ Status.Done → TakesLines IsReadable (I.remaining input.old)
+        (I.remaining input.new) }
     ensures printed { Prints result (O.contents output.old) (O.contents output.new) }
 {
     match replay_input(alloc, input, output) {
@@ -49,9 +51,12 @@ pub fn replay<I: Read, O: Write>(alloc: Global, input: &mut I, output: &mut O) -
 /// Reads a trace whole, does what its lines say, and prints what its event lines are answered.
 fn replay_input<I: Read, O: Write>(alloc: Global, input: &mut I, output: &mut O) -> Result<(), Stop>
     ensures taken { TakesAtMost (MAX_INPUT + 1) (I.remaining input.old) (I.remaining input.new) }
-    ensures whole { result ≢ Err Stop.Unread → result ≢ Err Stop.NoMemory → TakesAll MAX_INPUT (I.remaining input.old) (I.remaining input.new) }
-    ensures done { OnOk result (TakesLines IsReadable (I.remaining input.old) (I.remaining input.new)) }
-    ensures printed { result ≢ Err Stop.Unwritten → PrintsAnswers (O.contents output.old) (O.contents output.new) }
+    ensures whole { result ≢ Err Stop.Unread → result ≢ Err Stop.NoMemory
+        → TakesAll MAX_INPUT (I.remaining input.old) (I.remaining input.new) }
+    ensures done { OnOk result (TakesLines IsReadable (I.remaining input.old)
+        (I.remaining input.new)) }
+    ensures printed { result ≢ Err Stop.Unwritten
+        → PrintsAnswers (O.contents output.old) (O.contents output.new) }
 {
     match read_input(alloc, input) {
         Ok(trace) => replay_lines(alloc, trace.as_slice(), output),
@@ -145,7 +150,8 @@ impl Progress {
 /// Does what the lines of a trace say, and prints what its event lines are answered.
 fn replay_lines<O: Write>(alloc: Global, trace: &[u8], output: &mut O) -> Result<(), Stop>
     ensures read { OnOk result (AllByRecursion IsReadable (lines_of trace.now)) }
-    ensures printed { result ≢ Err Stop.Unwritten → PrintsAnswers (O.contents output.old) (O.contents output.new) }
+    ensures printed { result ≢ Err Stop.Unwritten
+        → PrintsAnswers (O.contents output.old) (O.contents output.new) }
 {
     let mut progress = Progress::new(alloc);
     let mut rest = trace;
@@ -171,7 +177,8 @@ fn replay_line<O: Write>(
     output: &mut O,
 ) -> Result<(), Stop>
     ensures read { OnOk result (IsReadable line.now) }
-    ensures printed { result ≢ Err Stop.Unwritten → PrintsAnswers (O.contents output.old) (O.contents output.new) }
+    ensures printed { result ≢ Err Stop.Unwritten
+        → PrintsAnswers (O.contents output.old) (O.contents output.new) }
 {
     if is_skipped(line) {
         return Ok(());
@@ -195,8 +202,10 @@ fn answer_with<O: Write>(
     reply: Option<Vec<u8>>,
     output: &mut O,
 ) -> Result<(), Stop>
-    ensures printed { result ≢ Err Stop.Unwritten → PrintsAnswers (O.contents output.old) (O.contents output.new) }
-    ensures answer { OnOk result (Appends (O.contents output.old) (O.contents output.new) (answer_text (option_map (λ bytes. bytes.items) reply))) }
+    ensures printed { result ≢ Err Stop.Unwritten
+        → PrintsAnswers (O.contents output.old) (O.contents output.new) }
+    ensures answer { OnOk result (Appends (O.contents output.old) (O.contents output.new)
+        (answer_text (option_map (λ bytes. bytes.items) reply))) }
 {
     match reply {
         None => keep_answer(progress, Vec::new(progress.alloc), "none\n", output),
@@ -214,7 +223,8 @@ fn keep_answer<O: Write>(
     text: &str,
     output: &mut O,
 ) -> Result<(), Stop>
-    ensures printed { OnOk result (Appends (O.contents output.old) (O.contents output.new) text.now) }
+    ensures printed { OnOk result (Appends (O.contents output.old)
+        (O.contents output.new) text.now) }
     ensures same { result ≡ Err Stop.NoMemory → O.contents output.new ≡ O.contents output.old }
     ensures refused { OnErr result (result ≢ Err Stop.Unwritten → result ≡ Err Stop.NoMemory) }
 {

@@ -44,7 +44,9 @@ pub enum Setup<'a> {
 
 /// The setup line that begins with `desk`, from the words behind it.
 pub fn read_desk<'a>(words: &[&'a str]) -> Option<Setup<'a>>
-    ensures { MatchOption result ((setup : Setup) → ¬ (IsDesk (map (λ x. x.now) words.entry.now) setup)) (IsDesk (map (λ x. x.now) words.entry.now)) }
+    ensures { MatchOption result ((setup : Setup)
+        → ¬ (IsDesk (map (λ x. x.now) words.entry.now) setup))
+        (IsDesk (map (λ x. x.now) words.entry.now)) }
 {
     let [realm, algorithms, anonymity] = words else {
         return None;
@@ -64,7 +66,9 @@ pub fn read_desk<'a>(words: &[&'a str]) -> Option<Setup<'a>>
 
 /// The setup line that begins with `user`, from the words behind it.
 pub fn read_user<'a>(words: &[&'a str]) -> Option<Setup<'a>>
-    ensures { MatchOption result ((setup : Setup) → ¬ (IsUser (map (λ x. x.now) words.entry.now) setup)) (IsUser (map (λ x. x.now) words.entry.now)) }
+    ensures { MatchOption result ((setup : Setup)
+        → ¬ (IsUser (map (λ x. x.now) words.entry.now) setup))
+        (IsUser (map (λ x. x.now) words.entry.now)) }
 {
     let [name, password] = words else {
         return None;
@@ -77,7 +81,8 @@ pub fn read_user<'a>(words: &[&'a str]) -> Option<Setup<'a>>
 
 /// The algorithms that a word names.
 pub fn read_algorithms(word: &str) -> Option<Algorithms>
-    ensures { MatchOption result ((a : Algorithms) → word.now ≢ algorithms_word a) (λ a. word.now ≡ algorithms_word a) }
+    ensures { MatchOption result ((a : Algorithms) → word.now ≢ algorithms_word a)
+        (λ a. word.now ≡ algorithms_word a) }
 {
     match word {
         "sha1" => Some(Algorithms::Sha1),
@@ -87,7 +92,8 @@ pub fn read_algorithms(word: &str) -> Option<Algorithms>
 
 /// The anonymity that a word names.
 pub fn read_anonymity(word: &str) -> Option<Anonymity>
-    ensures { MatchOption result ((a : Feature) → word.now ≢ anonymity_word a) (λ a. word.now ≡ anonymity_word a) }
+    ensures { MatchOption result ((a : Feature) → word.now ≢ anonymity_word a)
+        (λ a. word.now ≡ anonymity_word a) }
 {
     match word {
         "auto" => Some(Anonymity::Auto),

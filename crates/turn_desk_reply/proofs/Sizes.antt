@@ -1,7 +1,8 @@
 -- How long a reply is: it can always be signed.
 use Rattle.std.specs.Prelude.{◌≡◌, ℕ, ◌+◌, ◌≤◌, List, [], ◌∷◌, length, None}
 use Rattle.std.specs.declared.net.socket_addr.SocketAddr.{SocketAddr}
-use Rattle.std.proofs.Common.{refl, arith}
+use Rattle.std.proofs.Common.{refl, sym, ap, subst, ◌∙◌, arith}
+use Rattle.std.specs.List.{AllByRecursion}
 use Rattle.std.proofs.lemmas.Bool.{le-ltb}
 use Rattle.std.proofs.lemmas.List.{length-append}
 use Rattle.byteorder.specs.Endian.{big_bytes}
@@ -9,13 +10,14 @@ use Rattle.stun_types_wire.specs.declared.algorithm.IntegrityAlgorithm.{Integrit
 use Rattle.stun_types_wire.specs.declared.algorithm.IntegrityAlgorithm.TheVariants.{Sha1, Sha256}
 use Rattle.stun_types_wire.specs.Attributes.{Attr, attr_size}
 use Rattle.stun_types_wire.specs.Text.{header_text, attribute_text, body_text, message_text}
-use Rattle.stun_types_write.specs.Written.{Written}
+use Rattle.stun_types_write.specs.Drafts.{Draft, empty, none_ended}
+use Rattle.stun_types_build.specs.Calls.{IsComposed, IsOrdinary}
 use Rattle.stun_types_build.proofs.Adds.{length-attribute_text}
 use Rattle.stun_types_address.specs.Addresses.{address_value}
 use Rattle.stun_types_address.specs.Xor.{xor_bytes, xored, octets_mask}
 use Rattle.stun_types_attribute.specs.Errors.{CodeAndOther, reason_for, reason_of}
 use Rattle.stun_types_integrity.specs.Signing.{order_refusal, signing_refusal}
-use Rattle.turn_desk_reply.specs.Replies.{IsReply, IsSignable, allocated_attributes, error_attribute, failure_attributes, relayed_attribute}
+use Rattle.turn_desk_reply.specs.Replies.{IsReply, allocated_attributes, challenge_attributes, error_attribute, failure_attributes, relayed_attribute}
 
 -- an xor is no longer than what it is made with
 xor_short : (bytes mask : List ℕ) → length (xor_bytes bytes mask) ≤ length mask
@@ -44,38 +46,11 @@ no_body = refl
 
 -- ---- what can be signed
 
--- a short reply that shows no integrity attribute and no FINGERPRINT
-signable : (reply : Written) (kinds : List ℕ) → reply.kinds ≡ kinds → ((algorithm : IntegrityAlgorithm) → order_refusal kinds algorithm ≡ None) → length reply.bytes ≤ 4096 → IsSignable reply
-unfolding signing_refusal
-signable reply kinds same order short Sha1 = rw (same, order Sha1, le-ltb (20 + 65_535) (length reply.bytes + 24) (omega (arith, short))) refl
-signable reply kinds same order short Sha256 = rw (same, order Sha256, le-ltb (20 + 65_535) (length reply.bytes + 36) (omega (arith, short))) refl
-
-error_order : (algorithm : IntegrityAlgorithm) → order_refusal (0x0009 ∷ []) algorithm ≡ None
-unfolding order_refusal
-error_order Sha1 = refl
-error_order Sha256 = refl
-
-pub failure_signable : (kind number code : ℕ) (reply : Written) → length (reason_for code) ≤ 763 → IsReply kind number (failure_attributes code) reply → IsSignable reply
-failure_signable kind number code reply reason is =
-    let text = text-length kind number (failure_attributes code) in
-    let body = body-length [] (error_attribute code) in
-    let none = no_body in
-    signable reply (0x0009 ∷ []) is.types error_order (rw is.text (omega (arith, text, body, none, reason)))
-
-one_order : (algorithm : IntegrityAlgorithm) → order_refusal (0x0016 ∷ 0x000D ∷ 0x0020 ∷ []) algorithm ≡ None
-unfolding order_refusal
-one_order Sha1 = refl
-one_order Sha256 = refl
-
-two_order : (algorithm : IntegrityAlgorithm) → order_refusal (0x0016 ∷ 0x0016 ∷ 0x000D ∷ 0x0020 ∷ []) algorithm ≡ None
-unfolding order_refusal
-two_order Sha1 = refl
-two_order Sha256 = refl
-
-no_order : (algorithm : IntegrityAlgorithm) → order_refusal (0x000D ∷ 0x0020 ∷ []) algorithm ≡ None
-unfolding order_refusal
-no_order Sha1 = refl
-no_order Sha256 = refl
+-- a short message to which no attribute was added that ends one
+signable : (reply : Draft) → reply.ended ≡ none_ended → reply.limit ≡ None → length reply.bytes ≤ 4096 → (algorithm : IntegrityAlgorithm) → signing_refusal reply algorithm algorithm ≡ None
+unfolding signing_refusal order_refusal
+signable reply none free short Sha1 = rw (none, free, le-ltb (20 + 65_535) (length reply.bytes + 24) (omega (arith, short))) refl
+signable reply none free short Sha256 = rw (none, free, le-ltb (20 + 65_535) (length reply.bytes + 36) (omega (arith, short))) refl
 
 -- the attributes of a success but for the relayed addresses
 abbrev pub lifetime_of : ℕ → Attr
@@ -98,23 +73,82 @@ relayed-length number relayed rest =
     let short = xored_short number (address_value relayed) in
     omega (arith, one, short)
 
-pub allocated_signable : (kind number lifetime : ℕ) (from : SocketAddr) (relayed : List SocketAddr) (reply : Written) → length relayed ≤ 2 → IsReply kind number (allocated_attributes number relayed lifetime from) reply → IsSignable reply
-allocated_signable kind number lifetime from [] reply few is =
+allocated-length : (kind number lifetime : ℕ) (from : SocketAddr) (relayed : List SocketAddr) → length relayed ≤ 2 → length (message_text kind number (allocated_attributes number relayed lifetime from)) ≤ 4096
+allocated-length kind number lifetime from [] few =
     let text = text-length kind number (allocated_attributes number [] lifetime from) in
     let end = end-length number lifetime from in
-    signable reply (0x000D ∷ 0x0020 ∷ []) is.types no_order (rw is.text (omega (arith, text, end)))
-allocated_signable kind number lifetime from (a ∷ []) reply few is =
+    omega (arith, text, end)
+allocated-length kind number lifetime from (a ∷ []) few =
     let text = text-length kind number (allocated_attributes number (a ∷ []) lifetime from) in
     let end = end-length number lifetime from in
     let one = relayed-length number a (lifetime_of lifetime ∷ mapped_of number from ∷ []) in
-    signable reply (0x0016 ∷ 0x000D ∷ 0x0020 ∷ []) is.types one_order (rw is.text (omega (arith, text, end, one)))
-allocated_signable kind number lifetime from (a ∷ b ∷ []) reply few is =
+    omega (arith, text, end, one)
+allocated-length kind number lifetime from (a ∷ b ∷ []) few =
     let text = text-length kind number (allocated_attributes number (a ∷ b ∷ []) lifetime from) in
     let end = end-length number lifetime from in
     let one = relayed-length number b (lifetime_of lifetime ∷ mapped_of number from ∷ []) in
     let two = relayed-length number a (relayed_attribute number b ∷ lifetime_of lifetime ∷ mapped_of number from ∷ []) in
-    signable reply (0x0016 ∷ 0x0016 ∷ 0x000D ∷ 0x0020 ∷ []) is.types two_order (rw is.text (omega (arith, text, end, one, two)))
-allocated_signable kind number lifetime from (a ∷ b ∷ c ∷ rest) reply few is = absurd (omega (arith, few))
+    omega (arith, text, end, one, two)
+allocated-length kind number lifetime from (a ∷ b ∷ c ∷ rest) few = absurd (omega (arith, few))
+
+failure-length : (kind number code : ℕ) → length (reason_for code) ≤ 763 → length (message_text kind number (failure_attributes code)) ≤ 4096
+failure-length kind number code reason =
+    let text = text-length kind number (failure_attributes code) in
+    let body = body-length [] (error_attribute code) in
+    let none = no_body in
+    omega (arith, text, body, none, reason)
+
+challenge-length : (kind number code : ℕ) (realm nonce : List ℕ) → length (reason_for code) ≤ 763 → length realm ≤ 763 → length nonce ≤ 763 → length (message_text kind number (challenge_attributes code realm nonce)) ≤ 4096
+challenge-length kind number code realm nonce reason r m =
+    let a : Attr = record { kind = 0x0014; value = realm } in
+    let b : Attr = record { kind = 0x0015; value = nonce } in
+    let text = text-length kind number (challenge_attributes code realm nonce) in
+    let s1 = body-length (a ∷ b ∷ []) (error_attribute code) in
+    let s2 = body-length (b ∷ []) a in
+    let s3 = body-length [] b in
+    let s4 = no_body in
+    omega (arith, text, s1, s2, s3, s4, reason, r, m)
+
+-- ---- ordinary attributes
+
+error_ordinary : (code : ℕ) → length (reason_for code) ≤ 763 → IsOrdinary (error_attribute code)
+error_ordinary code reason = record { fits = record { kind = omega arith; value = omega (arith, reason) }; ordinary = refl }
+
+relayed_ordinary : (number : ℕ) (addr : SocketAddr) → IsOrdinary (relayed_attribute number addr)
+relayed_ordinary number addr = let short = xored_short number (address_value addr) in record { fits = record { kind = omega arith; value = omega (arith, short) }; ordinary = refl }
+
+lifetime_ordinary : (lifetime : ℕ) → IsOrdinary (lifetime_of lifetime)
+lifetime_ordinary lifetime = record { fits = record { kind = omega arith; value = omega arith }; ordinary = refl }
+
+mapped_ordinary : (number : ℕ) (addr : SocketAddr) → IsOrdinary (mapped_of number addr)
+mapped_ordinary number addr = let short = xored_short number (address_value addr) in record { fits = record { kind = omega arith; value = omega (arith, short) }; ordinary = refl }
+
+allocated_ordinary : (number lifetime : ℕ) (from : SocketAddr) (relayed : List SocketAddr) → length relayed ≤ 2 → AllByRecursion IsOrdinary (allocated_attributes number relayed lifetime from)
+allocated_ordinary number lifetime from [] few = (lifetime_ordinary lifetime, (mapped_ordinary number from, tt))
+allocated_ordinary number lifetime from (a ∷ []) few = (relayed_ordinary number a, (lifetime_ordinary lifetime, (mapped_ordinary number from, tt)))
+allocated_ordinary number lifetime from (a ∷ b ∷ []) few = (relayed_ordinary number a, (relayed_ordinary number b, (lifetime_ordinary lifetime, (mapped_ordinary number from, tt))))
+allocated_ordinary number lifetime from (a ∷ b ∷ c ∷ rest) few = absurd (omega (arith, few))
+
+-- ---- replies
+
+reply_of : (kind number : ℕ) (attributes : List Attr) (old reply : Draft) → old ≡ empty [] None → IsComposed kind number attributes old reply → AllByRecursion IsOrdinary attributes → length (message_text kind number attributes) ≤ 4096 → IsReply kind number attributes reply
+reply_of kind number attributes old reply new composed lawful short = record {
+  composed = subst (λ (d : Draft). IsComposed kind number attributes d reply) new composed;
+  lawful = lawful;
+  signable = signable reply composed.ended (composed.limit ∙ ap (λ (d : Draft). d.limit) new) (subst (λ (n : ℕ). n ≤ 4096) (sym (ap length composed.text)) short);
+}
+
+pub failure_reply : (kind number code : ℕ) (old reply : Draft) → old ≡ empty [] None → length (reason_for code) ≤ 763 → IsComposed kind number (failure_attributes code) old reply → IsReply kind number (failure_attributes code) reply
+failure_reply kind number code old reply new reason composed = reply_of kind number (failure_attributes code) old reply new composed (error_ordinary code reason, tt) (failure-length kind number code reason)
+
+pub challenge_reply : (kind number code : ℕ) (realm nonce : List ℕ) (reply : Draft) → length (reason_for code) ≤ 763 → length realm ≤ 763 → length nonce ≤ 763 → IsComposed kind number (challenge_attributes code realm nonce) (empty [] None) reply → IsReply kind number (challenge_attributes code realm nonce) reply
+challenge_reply kind number code realm nonce reply reason r m composed =
+    reply_of kind number (challenge_attributes code realm nonce) (empty [] None) reply refl composed
+    (error_ordinary code reason, (record { fits = record { kind = omega arith; value = omega (arith, r) }; ordinary = refl }, (record { fits = record { kind = omega arith; value = omega (arith, m) }; ordinary = refl }, tt)))
+    (challenge-length kind number code realm nonce reason r m)
+
+pub allocated_reply : (kind number lifetime : ℕ) (from : SocketAddr) (relayed : List SocketAddr) (old reply : Draft) → old ≡ empty [] None → length relayed ≤ 2 → IsComposed kind number (allocated_attributes number relayed lifetime from) old reply → IsReply kind number (allocated_attributes number relayed lifetime from) reply
+allocated_reply kind number lifetime from relayed old reply new few composed = reply_of kind number (allocated_attributes number relayed lifetime from) old reply new composed (allocated_ordinary number lifetime from relayed few) (allocated-length kind number lifetime from relayed few)
 
 -- the reason of a code that is built without another
 pub default_reason : (told : CodeAndOther) (code : ℕ) → told.code ≡ code → told.reason ≡ None → reason_of told ≡ reason_for code

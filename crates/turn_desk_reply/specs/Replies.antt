@@ -1,16 +1,15 @@
 -- What a desk's replies show, before they are signed (RFC 8489, section 9.2.4; RFC 8656, section 7.3).
-use Rattle.std.specs.Prelude.{◌≡◌, ℕ, ◌<◌, ◌^◌, List, [], ◌∷◌, ◌++◌, length, map, None}
+use Rattle.std.specs.Prelude.{◌≡◌, ℕ, List, [], ◌∷◌, ◌++◌, map, None}
+use Rattle.std.specs.List.{AllByRecursion}
 use Rattle.std.specs.declared.net.socket_addr.SocketAddr.{SocketAddr}
 use Rattle.byteorder.specs.Endian.{big_bytes}
 use Rattle.stun_types_wire.specs.declared.algorithm.IntegrityAlgorithm.{IntegrityAlgorithm}
 use Rattle.stun_types_wire.specs.declared.class.MessageClass.TheVariants.{Success, Error}
 use Rattle.stun_types_wire.specs.Attributes.{Attr, kind_at}
-use Rattle.stun_types_wire.specs.Shape.{kinds_of}
 use Rattle.stun_types_wire.specs.Types.{method_of, type_of}
 use Rattle.stun_types_wire.specs.Text.{message_text}
-use Rattle.stun_types_grammar.specs.Reading.{IsReadAs}
-use Rattle.stun_types_write.specs.Adding.{IsBegun}
-use Rattle.stun_types_write.specs.Written.{Written}
+use Rattle.stun_types_write.specs.Drafts.{Draft, empty}
+use Rattle.stun_types_build.specs.Calls.{IsComposed, IsOrdinary}
 use Rattle.stun_types_address.specs.Addresses.{address_value}
 use Rattle.stun_types_address.specs.Xor.{xored}
 use Rattle.stun_types_attribute.specs.Errors.{error_value, reason_for}
@@ -47,7 +46,8 @@ relayed_attribute number addr = record { kind = 0x0016; value = xored number (ad
 abbrev pub relayed_attributes : ℕ → List SocketAddr → List Attr
 relayed_attributes number addrs = map (relayed_attribute number) addrs
 
--- what the success response to an ALLOCATE shows: XOR-RELAYED-ADDRESS of each address, LIFETIME, XOR-MAPPED-ADDRESS of the source
+-- what the success response to an ALLOCATE shows: XOR-RELAYED-ADDRESS of each address, LIFETIME,
+-- XOR-MAPPED-ADDRESS of the source
 abbrev pub allocated_attributes : ℕ → List SocketAddr → ℕ → SocketAddr → List Attr
 allocated_attributes number relayed lifetime from =
     relayed_attributes number relayed
@@ -55,31 +55,21 @@ allocated_attributes number relayed lifetime from =
     ∷ record { kind = 0x0020; value = xored number (address_value from) }
     ∷ []
 
--- a reply that is written: the text of a message, its types, and a header that is there
-pub record IsReply (kind number : ℕ) (attributes : List Attr) (reply : Written) : Type 0 where
-  pub text : reply.bytes ≡ message_text kind number attributes
-  pub types : reply.kinds ≡ kinds_of attributes
-  pub begun : IsBegun reply.bytes
+-- a reply that is written: a message was begun, and these ordinary attributes were added; nothing but
+-- memory refuses its signing, by any algorithm
+pub record IsReply (kind number : ℕ) (attributes : List Attr) (reply : Draft) : Type 0 where
+  pub composed : IsComposed kind number attributes (empty [] None) reply
+  pub lawful : AllByRecursion IsOrdinary attributes
+  pub signable : (algorithm : IntegrityAlgorithm) → signing_refusal reply algorithm algorithm ≡ None
 
--- nothing but memory refuses a signing of the reply, by any algorithm
-abbrev pub IsSignable : Written → Type 0
-IsSignable reply = (algorithm : IntegrityAlgorithm) → signing_refusal reply.kinds None (length reply.bytes) algorithm algorithm ≡ None
-
--- ---- how it is read
-
--- a message that shows these attributes is read as showing them
-abbrev pub IsReadable : List Attr → Type 0
-IsReadable attributes = (kind number : ℕ) → kind < 2 ^ 14 → number < 2 ^ 96 → IsReadAs kind number attributes (message_text kind number attributes)
+-- ---- what a signed reply shows
 
 -- the attributes of a message of this type and number, signed under a key
 abbrev pub signed_attributes : ℕ → ℕ → List Attr → List ℕ → IntegrityAlgorithm → List Attr
-signed_attributes kind number attributes key algorithm = attributes ++ signature algorithm key (message_text kind number attributes) ∷ []
+signed_attributes kind number attributes key algorithm = attributes
+    ++ signature algorithm key (message_text kind number attributes) ∷ []
 
 -- the text of a message that is signed under a key
 abbrev pub signed_text : ℕ → ℕ → List Attr → List ℕ → IntegrityAlgorithm → List ℕ
-signed_text kind number attributes key algorithm = message_text kind number (signed_attributes kind number attributes key algorithm)
-
--- a message that shows these attributes and is signed, under any key, is read as showing them and the integrity attribute
-abbrev pub IsReadableSigned : List Attr → Type 0
-IsReadableSigned attributes =
-    (kind number : ℕ) (key : List ℕ) (algorithm : IntegrityAlgorithm) → kind < 2 ^ 14 → number < 2 ^ 96 → IsReadAs kind number (signed_attributes kind number attributes key algorithm) (signed_text kind number attributes key algorithm)
+signed_text kind number attributes key algorithm = message_text kind number
+    (signed_attributes kind number attributes key algorithm)

@@ -7,7 +7,10 @@ ghost use Rattle.stun_types_wire.specs.Types.{class_of};
 ghost use Rattle.stun_types_wire.specs.Grammar.{number_at};
 ghost use Rattle.stun_types_wire.specs.declared.class.MessageClass.TheVariants.{Request};
 ghost use Rattle.stun_types_write.specs.Adding.{IsBegun};
-ghost use Rattle.turn_desk_reply.specs.Replies.{IsReadableSigned, IsReply, IsSignable, allocated_attributes, relayed_attributes, success_type};
+ghost use Rattle.stun_types_write.specs.Drafts.{Draft};
+ghost use Rattle.stun_types_write.specs.Lent.{own_draft};
+ghost use Rattle.stun_types_build.specs.Calls.{IsComposed};
+ghost use Rattle.turn_desk_reply.specs.Replies.{IsReply, allocated_attributes, relayed_attributes, success_type};
 
 use std::alloc::Global;
 use std::net::SocketAddr;
@@ -29,13 +32,13 @@ pub fn allocated(
 ) -> Result<MessageWriteVec, NoMemory>
     requires request { class_of (kind_at request.now) ≡ Request }
     requires few { length relayed.now ≤ 2 }
-    ensures reply { IfOk result (λ reply. IsReply (success_type request.now) (number_at request.now) (allocated_attributes (number_at request.now) relayed.now lifetime from) reply) }
-    ensures signable { IfOk result (λ reply. IsSignable reply) }
-    // A signed message that shows this is read as showing it.
-    ensures signed { IfOk result (λ _. IsReadableSigned (allocated_attributes (number_at request.now) relayed.now lifetime from)) }
+    ensures { IfOk result (λ reply. IsReply (success_type request.now) (number_at request.now)
+        (allocated_attributes (number_at request.now) relayed.now lifetime from)
+        (own_draft reply)) }
 {
     match write_allocated(alloc, request, relayed, lifetime, from) {
         Ok(reply) => Ok(reply),
+        // So short a message fits.
         Err(_) => Err(NoMemory),
     }
 }
@@ -50,9 +53,9 @@ fn write_allocated(
 ) -> Result<MessageWriteVec, StunWriteError>
     requires request { class_of (kind_at request.now) ≡ Request }
     requires few { length relayed.now ≤ 2 }
-    ensures reply { IfOk result (λ reply. IsReply (success_type request.now) (number_at request.now) (allocated_attributes (number_at request.now) relayed.now lifetime from) reply) }
-    ensures signable { IfOk result (λ reply. IsSignable reply) }
-    ensures signed { IfOk result (λ _. IsReadableSigned (allocated_attributes (number_at request.now) relayed.now lifetime from)) }
+    ensures { IfOk result (λ reply. IsReply (success_type request.now) (number_at request.now)
+        (allocated_attributes (number_at request.now) relayed.now lifetime from)
+        (own_draft reply)) }
 {
     let number = request.transaction_id();
     let lifetime = Lifetime::new(lifetime);
@@ -71,9 +74,13 @@ fn add_relayed(
     relayed: Option<&SocketAddr>,
     number: TransactionId,
 ) -> Result<(), StunWriteError>
-    requires { IsBegun reply.old.bytes }
-    ensures reply { OnOk result ((kind : ℕ) (attributes : List Attr) → IsReply kind number attributes reply.old → IsReply kind number (attributes ++ relayed_attributes number (option_to_list (option_copied relayed.entry))) reply.new) }
-    ensures begun { IsBegun reply.new.bytes }
+    requires { IsBegun (own_draft reply.old).bytes }
+    ensures composed { OnOk result ((kind : ℕ) (attributes : List Attr) (old : Draft)
+        → IsComposed kind number attributes old (own_draft reply.old)
+        → IsComposed kind number
+        (attributes ++ relayed_attributes number (option_to_list (option_copied relayed.entry)))
+        old (own_draft reply.new)) }
+    ensures begun { IsBegun (own_draft reply.new).bytes }
 {
     if let Some(addr) = relayed {
         let relayed = XorRelayedAddress::new(*addr, number);

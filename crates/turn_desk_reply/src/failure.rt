@@ -6,7 +6,8 @@ ghost use Rattle.stun_types_wire.specs.Types.{class_of};
 ghost use Rattle.stun_types_wire.specs.Grammar.{number_at};
 ghost use Rattle.stun_types_wire.specs.declared.class.MessageClass.TheVariants.{Request};
 ghost use Rattle.stun_types_attribute.specs.Errors.{reason_for};
-ghost use Rattle.turn_desk_reply.specs.Replies.{IsReadable, IsReadableSigned, IsReply, IsSignable, challenge_attributes, error_type, failure_attributes};
+ghost use Rattle.stun_types_write.specs.Lent.{own_draft};
+ghost use Rattle.turn_desk_reply.specs.Replies.{IsReply, challenge_attributes, error_type, failure_attributes};
 
 use std::alloc::Global;
 use stun_types::attribute::{ErrorCode, Nonce, Realm};
@@ -19,14 +20,12 @@ pub fn failure(alloc: Global, request: &Message, code: u16) -> Result<MessageWri
     requires request { class_of (kind_at request.now) ≡ Request }
     requires least { 300 ≤ code }
     requires most { code ≤ 699 }
-    ensures reply { IfOk result (λ reply. IsReply (error_type request.now) (number_at request.now) (failure_attributes code) reply) }
-    ensures signable { IfOk result (λ reply. IsSignable reply) }
-    // A message that shows this is read as showing it, and so is a signed one.
-    ensures readable { IfOk result (λ _. IsReadable (failure_attributes code)) }
-    ensures signed { IfOk result (λ _. IsReadableSigned (failure_attributes code)) }
+    ensures { IfOk result (λ reply. IsReply (error_type request.now) (number_at request.now)
+        (failure_attributes code) (own_draft reply)) }
 {
     match write_failure(alloc, request, code) {
         Ok(reply) => Ok(reply),
+        // The code is lawful, and so short a message fits.
         Err(_) => Err(NoMemory),
     }
 }
@@ -44,12 +43,12 @@ pub fn challenge(
     requires request { class_of (kind_at request.now) ≡ Request }
     requires least { 300 ≤ code }
     requires most { code ≤ 699 }
-    ensures reply { IfOk result (λ reply. IsReply (error_type request.now) (number_at request.now) (challenge_attributes code realm.now nonce.now) reply) }
-    // A message that shows this is read as showing it.
-    ensures readable { IfOk result (λ _. IsReadable (challenge_attributes code realm.now nonce.now)) }
+    ensures { IfOk result (λ reply. IsReply (error_type request.now) (number_at request.now)
+        (challenge_attributes code realm.now nonce.now) (own_draft reply)) }
 {
     match write_challenge(alloc, request, code, realm, nonce) {
         Ok(reply) => Ok(reply),
+        // The code is lawful, and so short a message fits, where realm and nonce are a server's.
         Err(_) => Err(NoMemory),
     }
 }
@@ -61,10 +60,8 @@ fn write_failure(
     code: u16,
 ) -> Result<MessageWriteVec, StunWriteError>
     requires request { class_of (kind_at request.now) ≡ Request }
-    ensures reply { IfOk result (λ reply. IsReply (error_type request.now) (number_at request.now) (failure_attributes code) reply) }
-    ensures signable { IfOk result (λ reply. IsSignable reply) }
-    ensures readable { IfOk result (λ _. IsReadable (failure_attributes code)) }
-    ensures signed { IfOk result (λ _. IsReadableSigned (failure_attributes code)) }
+    ensures reply { IfOk result (λ reply. IsReply (error_type request.now) (number_at request.now)
+        (failure_attributes code) (own_draft reply)) }
     ensures reason { IfOk result (λ _. length (reason_for code) ≤ 763) }
 {
     let code = ErrorCode::builder(code).build(alloc)?;
@@ -82,8 +79,8 @@ fn write_challenge(
     nonce: &str,
 ) -> Result<MessageWriteVec, StunWriteError>
     requires request { class_of (kind_at request.now) ≡ Request }
-    ensures reply { IfOk result (λ reply. IsReply (error_type request.now) (number_at request.now) (challenge_attributes code realm.now nonce.now) reply) }
-    ensures readable { IfOk result (λ _. IsReadable (challenge_attributes code realm.now nonce.now)) }
+    ensures { IfOk result (λ reply. IsReply (error_type request.now) (number_at request.now)
+        (challenge_attributes code realm.now nonce.now) (own_draft reply)) }
 {
     let realm = Realm::new(alloc, realm)?;
     let nonce = Nonce::new(alloc, nonce)?;

@@ -1,9 +1,10 @@
 //! Messages that are begun, added to, signed and marked, in a writer into memory of its own and in one
 //! into lent bytes; and what writers tell.
 
-ghost use Rattle.std.specs.Prelude.{◌≡◌, ◌<◌, ◌≤◌, ◌^◌, [], length, IfOk, IfSome};
+ghost use Rattle.std.specs.Prelude.{◌≡◌, ◌<◌, ◌^◌, length, IfOk};
 ghost use Rattle.stun_types_wire.specs.Shape.{rank};
 ghost use Rattle.stun_types_write.specs.Adding.{IsBegun};
+ghost use Rattle.stun_types_write.specs.Outcomes.{CanBegin};
 
 use crate::samples::{credentials_of_samples, credentials_of_user};
 use rand_chacha::ChaCha20Rng;
@@ -188,10 +189,8 @@ key sha1 sha1 -> Not enough space, expected 64, actual 63
 
 /// Begins a message in an empty writer.
 fn begin<W: MessageWrite + Drop>(alloc: Global, asked: &str, writer: W) -> Result<W, Fail>
-    requires empty { W.written writer ≡ [] }
-    requires no_kinds { W.kinds writer ≡ [] }
-    requires room { IfSome (W.limit writer) (λ most. 20 ≤ most) }
-    ensures { IfOk result (λ begun. IsBegun (W.written begun)) }
+    requires empty { CanBegin (W.draft writer) }
+    ensures { IfOk result (λ begun. IsBegun (W.draft begun).bytes) }
 {
     let (how, text) = asked.split_once(' ').ok_or("no message to begin")?;
     let bytes = hex::decode(alloc, text)?;
@@ -271,10 +270,10 @@ fn add_raw<W: MessageWrite>(
     atype: AttributeType,
     value: &[u8],
 ) -> Result<(), StunWriteError>
-    requires begun { IsBegun (W.written writer.old) }
+    requires begun { IsBegun (W.draft writer.old).bytes }
     requires ordinary { rank atype.0 ≡ 0 }
     requires short { length value.now < 2 ^ 16 }
-    ensures { IsBegun (W.written writer.new) }
+    ensures { IsBegun (W.draft writer.new).bytes }
 {
     let raw = RawAttribute::new(atype, value);
     add_as(writer, &raw, &raw)
@@ -286,8 +285,8 @@ fn make_add<W: MessageWrite>(
     writer: &mut W,
     add: Add,
 ) -> Result<Result<(), StunWriteError>, Fail>
-    requires { IsBegun (W.written writer.old) }
-    ensures { IsBegun (W.written writer.new) }
+    requires { IsBegun (W.draft writer.old).bytes }
+    ensures { IsBegun (W.draft writer.new).bytes }
 {
     let answer = match add {
         Add::Algorithm => add_raw(writer, AttributeType(0x001D), &[0, 2, 0, 0]),
@@ -330,8 +329,8 @@ fn take_line<W: MessageWrite>(
     writer: &mut W,
     line: &str,
 ) -> Result<(), Fail>
-    requires { IsBegun (W.written writer.old) }
-    ensures { IsBegun (W.written writer.new) }
+    requires { IsBegun (W.draft writer.old).bytes }
+    ensures { IsBegun (W.draft writer.new).bytes }
 {
     let (asked, expected) = line.split_once(" -> ").unwrap_or((line, "added"));
     let before = writer.data().to_vec(rt.alloc())?;
@@ -365,9 +364,7 @@ fn write<W: MessageWrite + Drop>(
     row: &str,
     writer: W,
 ) -> Result<W, Fail>
-    requires empty { W.written writer ≡ [] }
-    requires no_kinds { W.kinds writer ≡ [] }
-    requires room { IfSome (W.limit writer) (λ most. 20 ≤ most) }
+    requires empty { CanBegin (W.draft writer) }
 {
     let lines: Vec<&str> = row.lines().collect(rt.alloc())?;
     let [_, begun, adds @ .., last] = lines.as_slice() else {
@@ -386,7 +383,7 @@ fn write_into_lent(rt: &(impl Abort + AllocGlobal), row: &str, room: usize) -> R
     let mut bytes = Vec::new(rt.alloc());
     bytes.resize(room, 0xEE)?;
     assert!(rt; bytes.len() >= 20);
-    let writer = MessageWriteMutSlice::new(rt.alloc(), bytes.as_mut_slice());
+    let writer = MessageWriteMutSlice::new(bytes.as_mut_slice());
     let writer = write(rt, row, writer)?;
     let mut behind = Vec::new(rt.alloc());
     behind.resize(room.saturating_sub(writer.len()), 0xEE)?;
@@ -413,7 +410,7 @@ fn messages_are_written(rt: HostRuntime) -> Result<(), Fail> {
 
 /// What a writer tells of the BINDING request with LIFETIME that it has.
 fn tells<W: MessageWrite>(rt: &impl Abort, writer: &W, room: Option<usize>)
-    requires { IsBegun (W.written writer.now) }
+    requires { IsBegun (W.draft writer.now).bytes }
 {
     assert!(rt; writer.has_class(MessageClass::Request) && writer.has_method(BINDING));
     let number = TransactionId::from(0x7392u128);
@@ -442,7 +439,7 @@ fn writers_tell_what_they_have(rt: HostRuntime) -> Result<(), Fail> {
     assert!(rt; writer.as_slice() == expected.as_slice());
     assert_eq!(rt; writer.finish().as_slice(), expected.as_slice());
     let mut bytes = [0xEE; 30];
-    let writer = MessageWriteMutSlice::new(rt.alloc(), &mut bytes);
+    let writer = MessageWriteMutSlice::new(&mut bytes);
     let mut writer = begin(rt.alloc(), header, writer)?;
     make_add(rt.alloc(), &mut writer, Add::Lifetime)??;
     let refused = make_add(rt.alloc(), &mut writer, Add::Username("user"))?;
@@ -452,8 +449,42 @@ fn writers_tell_what_they_have(rt: HostRuntime) -> Result<(), Fail> {
     );
     tells(&rt, &writer, Some(30));
     assert!(rt; writer.lent().starts_with(expected.as_slice()) && writer.lent().len() == 30);
-    let front: &[u8] = writer.finish();
-    assert_eq!(rt; front, expected.as_slice());
+    let (front, behind) = writer.finish();
+    let (front, behind): (&[u8], &[u8]) = (front, behind);
+    assert_eq!(rt;
+        (front, behind),
+        (expected.as_slice(), [0xEE, 0xEE].as_slice())
+    );
+    Ok(())
+}
+
+/// A byte of the message that is written, and one behind it where there is one, are changed in place;
+/// what was added still counts.
+#[test]
+fn bytes_are_changed_in_place(rt: HostRuntime) -> Result<(), Fail> {
+    let header = "begin 000100002112a442000000000000000000007392";
+    let text = "000100082112a442000000000000000000007392000d000400000259";
+    let expected = hex::decode(rt.alloc(), text)?;
+    let mut writer = begin(rt.alloc(), header, MessageWriteVec::new(rt.alloc()))?;
+    make_add(rt.alloc(), &mut writer, Add::Lifetime)??;
+    let all = writer.mut_all();
+    assert!(rt; all.len() == 28);
+    all[27] = 0x59;
+    assert_eq!(rt; writer.finish().as_slice(), expected.as_slice());
+    let mut bytes = [0xEE; 30];
+    let writer = MessageWriteMutSlice::new(&mut bytes);
+    let mut writer = begin(rt.alloc(), header, writer)?;
+    make_add(rt.alloc(), &mut writer, Add::Lifetime)??;
+    let all = writer.mut_all();
+    assert!(rt; all.len() == 30);
+    all[27] = 0x59;
+    all[29] = 0xED;
+    let (front, behind) = writer.finish();
+    let (front, behind): (&[u8], &[u8]) = (front, behind);
+    assert_eq!(rt;
+        (front, behind),
+        (expected.as_slice(), [0xEE, 0xED].as_slice())
+    );
     Ok(())
 }
 

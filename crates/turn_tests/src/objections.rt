@@ -1,9 +1,10 @@
 //! Error responses to requests of whose attributes something is wrong.
 
-ghost use Rattle.std.specs.Prelude.{◌≡◌, ◌≤◌, [], IfSome};
+ghost use Rattle.std.specs.Prelude.{◌≡◌};
 ghost use Rattle.stun_types_wire.specs.Attributes.{kind_at};
 ghost use Rattle.stun_types_wire.specs.Types.{class_of};
 ghost use Rattle.stun_types_wire.specs.declared.class.MessageClass.TheVariants.{Request};
+ghost use Rattle.stun_types_write.specs.Outcomes.{CanBegin};
 
 use crate::samples::UNSIGNED;
 use std::alloc::Global;
@@ -59,9 +60,7 @@ fn reply<W: MessageWrite + Drop>(
     writer: W,
 ) -> Result<Option<W>, StunWriteError>
     requires request { class_of (kind_at request.now) ≡ Request }
-    requires empty { W.written writer ≡ [] }
-    requires no_kinds { W.kinds writer ≡ [] }
-    requires room { IfSome (W.limit writer) (λ most. 20 ≤ most) }
+    requires empty { CanBegin (W.draft writer) }
 {
     match answer {
         Answer::Check(supported, required) => {
@@ -87,9 +86,7 @@ fn is_answered<W: MessageWrite + Drop>(
     answer: Answer,
     expected: Result<&str, StunWriteError>,
 ) -> Result<(), Fail>
-    requires empty { W.written writer ≡ [] }
-    requires no_kinds { W.kinds writer ≡ [] }
-    requires room { IfSome (W.limit writer) (λ most. 20 ≤ most) }
+    requires empty { CanBegin (W.draft writer) }
 {
     let bytes = hex::decode(rt.alloc(), text)?;
     let request = Message::from_bytes(bytes.as_slice())?;
@@ -129,7 +126,16 @@ fn requests_are_objected_to(rt: HostRuntime) -> Result<(), Fail> {
             Ok(expected),
         )?;
     }
-    // one byte less than ERROR-CODE takes behind the header, and than UNKNOWN-ATTRIBUTES behind that
+    lent_bytes_are_too_few(&rt, algorithm, user)?;
+    types_are_too_many(&rt)
+}
+
+/// One byte less than ERROR-CODE takes behind the header, and than UNKNOWN-ATTRIBUTES behind that.
+fn lent_bytes_are_too_few<'x>(
+    rt: &(impl Abort + AllocGlobal),
+    algorithm: &'x [AttributeType],
+    user: &'x [AttributeType],
+) -> Result<(), Fail> {
     for (answer, expected) in [
         (Answer::Bad, 40),
         (Answer::Unknown(user), 48),
@@ -142,11 +148,15 @@ fn requests_are_objected_to(rt: HostRuntime) -> Result<(), Fail> {
         let mut bytes = Vec::new(rt.alloc());
         bytes.resize(actual, 0)?;
         assert!(rt; bytes.len() >= 20);
-        let writer = MessageWriteMutSlice::new(rt.alloc(), bytes.as_mut_slice());
+        let writer = MessageWriteMutSlice::new(bytes.as_mut_slice());
         let refused = Err(StunWriteError::TooSmall { expected, actual });
-        is_answered(&rt, writer, UNSIGNED, answer, refused)?;
+        is_answered(rt, writer, UNSIGNED, answer, refused)?;
     }
-    // the first make a lawful value, which has 32 bytes and two of padding beside it
+    Ok(())
+}
+
+/// The first make a lawful value, which has 32 bytes and two of padding beside it.
+fn types_are_too_many(rt: &(impl Abort + AllocGlobal)) -> Result<(), Fail> {
     for (count, actual) in [(32_767, 65_568), (32_768, 65_536)] {
         let mut types = Vec::new(rt.alloc());
         types.resize(count, SOFTWARE)?;
@@ -155,13 +165,8 @@ fn requests_are_objected_to(rt: HostRuntime) -> Result<(), Fail> {
             expected: 65_535,
             actual,
         });
-        is_answered(
-            &rt,
-            writer,
-            UNSIGNED,
-            Answer::Unknown(types.as_slice()),
-            refused,
-        )?;
+        let answer = Answer::Unknown(types.as_slice());
+        is_answered(rt, writer, UNSIGNED, answer, refused)?;
     }
     Ok(())
 }

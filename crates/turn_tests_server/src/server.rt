@@ -4,6 +4,7 @@ ghost use Rattle.std.specs.Prelude.{[], ◌≡◌, IfOk};
 ghost use Rattle.stun_types_wire.specs.Text.{message_text};
 ghost use Rattle.stun_types_wire.specs.Types.{type_of};
 ghost use Rattle.stun_types_write.specs.Adding.{IsBegun};
+ghost use Rattle.stun_types_write.specs.Drafts.{none_ended};
 
 use crate::rows::words;
 use rand_chacha::ChaCha20Rng;
@@ -198,7 +199,7 @@ fn messages_are_validated_or_refused(rt: HostRuntime) -> Result<(), Fail> {
 /// A message of the method ALLOCATE and a class that is begun.
 fn begun(alloc: Global, class: MessageClass) -> Result<MessageWriteVec, NoMemory>
     ensures bytes { IfOk result (λ writer. writer.bytes ≡ message_text (type_of class 3) 0x7392 []) }
-    ensures kinds { IfOk result (λ writer. writer.kinds ≡ []) }
+    ensures ended { IfOk result (λ writer. writer.ended ≡ none_ended) }
     ensures begun { IfOk result (λ writer. IsBegun writer.bytes) }
 {
     let mtype = MessageType::from_class_method(class, Method(3));

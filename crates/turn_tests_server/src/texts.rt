@@ -53,38 +53,7 @@ fn are_printed<T: Display>(
 
 #[test]
 fn values_are_printed(rt: HostRuntime) -> Result<(), Fail> {
-    let (expected, actual) = (28, 27);
-    let errors = [
-        StunParseError::NotStun,
-        StunParseError::Truncated { expected, actual },
-        StunParseError::TooLarge { expected, actual },
-        StunParseError::MissingAttribute(AttributeType(0x0014)),
-        StunParseError::AttributeAfterIntegrity(AttributeType(0x8022)),
-        StunParseError::FingerprintMismatch,
-        StunParseError::WrongAttributeImplementation,
-        StunParseError::InvalidAttributeData,
-        StunParseError::NoMemory,
-    ];
-    are_printed(&rt, &errors, PARSE_ERRORS)?;
-    let (value, min, max) = (299, 300, 699);
-    let errors = [
-        StunWriteError::AttributeExists(AttributeType(0x0008)),
-        StunWriteError::FingerprintExists,
-        StunWriteError::MessageIntegrityExists,
-        StunWriteError::TooLarge { expected, actual },
-        StunWriteError::TooSmall { expected, actual },
-        StunWriteError::IntegrityFailed,
-        StunWriteError::OutOfRange { value, min, max },
-        StunWriteError::NoMemory,
-    ];
-    are_printed(&rt, &errors, WRITE_ERRORS)?;
-    let missing = StunParseError::MissingAttribute(AttributeType(0x0008));
-    let errors = [
-        ValidateError::Parse(missing),
-        ValidateError::IntegrityFailed,
-        ValidateError::NoMemory,
-    ];
-    are_printed(&rt, &errors, VALIDATE_ERRORS)?;
+    errors_are_printed(&rt)?;
     let unknown = [ParseTransportTypeError::UnknownTransport];
     are_printed(&rt, &unknown, "Unknown transport value was provided\n")?;
     are_printed(&rt, &[NoMemory], "no memory\n")?;
@@ -98,4 +67,40 @@ fn values_are_printed(rt: HostRuntime) -> Result<(), Fail> {
         &[AddressFamily::IPV4, AddressFamily::IPV6],
         "IPV4\nIPV6\n",
     )
+}
+
+/// The errors of parsing, of writing and of validation.
+fn errors_are_printed(rt: &(impl Abort + AllocGlobal)) -> Result<(), Fail> {
+    let (expected, actual) = (28, 27);
+    let errors = [
+        StunParseError::NotStun,
+        StunParseError::Truncated { expected, actual },
+        StunParseError::TooLarge { expected, actual },
+        StunParseError::MissingAttribute(AttributeType(0x0014)),
+        StunParseError::AttributeAfterIntegrity(AttributeType(0x8022)),
+        StunParseError::FingerprintMismatch,
+        StunParseError::WrongAttributeImplementation,
+        StunParseError::InvalidAttributeData,
+        StunParseError::NoMemory,
+    ];
+    are_printed(rt, &errors, PARSE_ERRORS)?;
+    let (value, min, max) = (299, 300, 699);
+    let errors = [
+        StunWriteError::AttributeExists(AttributeType(0x0008)),
+        StunWriteError::FingerprintExists,
+        StunWriteError::MessageIntegrityExists,
+        StunWriteError::TooLarge { expected, actual },
+        StunWriteError::TooSmall { expected, actual },
+        StunWriteError::IntegrityFailed,
+        StunWriteError::OutOfRange { value, min, max },
+        StunWriteError::NoMemory,
+    ];
+    are_printed(rt, &errors, WRITE_ERRORS)?;
+    let missing = StunParseError::MissingAttribute(AttributeType(0x0008));
+    let errors = [
+        ValidateError::Parse(missing),
+        ValidateError::IntegrityFailed,
+        ValidateError::NoMemory,
+    ];
+    are_printed(rt, &errors, VALIDATE_ERRORS)
 }

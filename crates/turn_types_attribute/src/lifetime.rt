@@ -1,6 +1,7 @@
 //! LIFETIME (RFC 8656, section 18.2).
 
-ghost use Rattle.std.specs.Prelude.{◌≡◌, None, Some, length, MatchResult};
+ghost use Rattle.std.specs.Prelude.{◌≡◌, None, length, MatchResult};
+ghost use Rattle.stun_types_write.specs.Reading.{IsNamed};
 ghost use Rattle.byteorder.specs.Endian.{big_bytes, big_number};
 ghost use Rattle.stun_types_write.specs.Reading.{value_refusal};
 
@@ -85,12 +86,15 @@ impl AttributeWrite for Lifetime {
 /// where it is another type, `Truncated` where the value is shorter, `TooLarge` where it is longer.
 impl<'a, 'raw> TryFrom<&'raw RawAttribute<'a>> for Lifetime {
     ghost use Rattle.std.specs.Prelude.{◌≡◌, MatchResult, Some, None};
+    ghost use Rattle.stun_types_write.specs.Reading.{IsNamed};
     ghost use Rattle.byteorder.specs.Endian.{big_number};
     ghost use Rattle.stun_types_write.specs.Reading.{value_refusal};
 
     type Error = StunParseError;
 
-    ghost try_from_gives = { λ raw result. MatchResult result (λ read. (value_refusal 0x000D 4 4 raw.now ≡ None) × (read ≡ big_number 4 raw.now.value)) (λ error. value_refusal 0x000D 4 4 raw.now ≡ Some error) };
+    ghost try_from_gives = { λ raw result. MatchResult result
+        (λ read. (value_refusal 0x000D 4 4 raw.now ≡ None) × (read ≡ big_number 4 raw.now.value))
+        (IsNamed (value_refusal 0x000D 4 4 raw.now)) };
 
     fn try_from(raw: &'raw RawAttribute<'a>) -> Result<Lifetime, StunParseError> {
         let seconds = seconds_of(raw)?;
@@ -123,7 +127,9 @@ impl<'a> AttributeFromRaw<'a> for Lifetime {
 
 /// The number in the value of a LIFETIME. Refused as `try_from` is.
 fn seconds_of(raw: &RawAttribute<'_>) -> Result<u32, StunParseError>
-    ensures { MatchResult result (λ seconds. (value_refusal 0x000D 4 4 raw.now ≡ None) × (raw.now.kind ≡ 0x000D) × (seconds ≡ big_number 4 raw.now.value) × (big_bytes 4 seconds ≡ raw.now.value)) (λ error. value_refusal 0x000D 4 4 raw.now ≡ Some error) }
+    ensures { MatchResult result (λ seconds. (value_refusal 0x000D 4 4 raw.now ≡ None)
+        × (raw.now.kind ≡ 0x000D) × (seconds ≡ big_number 4 raw.now.value)
+        × (big_bytes 4 seconds ≡ raw.now.value)) (IsNamed (value_refusal 0x000D 4 4 raw.now)) }
 {
     let value = value_of(raw, Lifetime::TYPE, 4, 4)?;
     Ok(number_of(value))

@@ -1,6 +1,7 @@
 //! REQUESTED-TRANSPORT (RFC 8656, section 18.8).
 
-ghost use Rattle.std.specs.Prelude.{◌≡◌, None, Some, MatchResult, slice_index};
+ghost use Rattle.std.specs.Prelude.{◌≡◌, None, MatchResult, slice_index};
+ghost use Rattle.stun_types_write.specs.Reading.{IsNamed};
 ghost use Rattle.stun_types_write.specs.Reading.{value_refusal};
 ghost use Rattle.turn_types_attribute.specs.Transports.{transport_value};
 
@@ -97,11 +98,14 @@ impl AttributeWrite for RequestedTransport {
 /// `TooLarge` where it is longer.
 impl<'a, 'raw> TryFrom<&'raw RawAttribute<'a>> for RequestedTransport {
     ghost use Rattle.std.specs.Prelude.{◌≡◌, MatchResult, Some, None, slice_index};
+    ghost use Rattle.stun_types_write.specs.Reading.{IsNamed};
     ghost use Rattle.stun_types_write.specs.Reading.{value_refusal};
 
     type Error = StunParseError;
 
-    ghost try_from_gives = { λ raw result. MatchResult result (λ read. (value_refusal 0x0019 4 4 raw.now ≡ None) × (read ≡ slice_index raw.now.value 0)) (λ error. value_refusal 0x0019 4 4 raw.now ≡ Some error) };
+    ghost try_from_gives = { λ raw result. MatchResult result
+        (λ read. (value_refusal 0x0019 4 4 raw.now ≡ None) × (read ≡ slice_index raw.now.value 0))
+        (IsNamed (value_refusal 0x0019 4 4 raw.now)) };
 
     fn try_from(raw: &'raw RawAttribute<'a>) -> Result<RequestedTransport, StunParseError> {
         let protocol = protocol_of(raw)?;
@@ -140,7 +144,9 @@ impl<'a> AttributeFromRaw<'a> for RequestedTransport {
 
 /// The number in the value of a REQUESTED-TRANSPORT. Refused as `try_from` is.
 fn protocol_of(raw: &RawAttribute<'_>) -> Result<u8, StunParseError>
-    ensures { MatchResult result (λ protocol. (value_refusal 0x0019 4 4 raw.now ≡ None) × (raw.now.kind ≡ 0x0019) × (protocol ≡ slice_index raw.now.value 0)) (λ error. value_refusal 0x0019 4 4 raw.now ≡ Some error) }
+    ensures { MatchResult result (λ protocol. (value_refusal 0x0019 4 4 raw.now ≡ None)
+        × (raw.now.kind ≡ 0x0019) × (protocol ≡ slice_index raw.now.value 0))
+        (IsNamed (value_refusal 0x0019 4 4 raw.now)) }
 {
     let value = value_of(raw, RequestedTransport::TYPE, 4, 4)?;
     Ok(value[0])

@@ -1,6 +1,7 @@
 //! XOR-RELAYED-ADDRESS (RFC 8656, section 18.5).
 
-ghost use Rattle.std.specs.Prelude.{◌≡◌};
+ghost use Rattle.std.specs.Prelude.{Some, ◌≡◌};
+ghost use Rattle.stun_types_write.specs.Reading.{IsNamed};
 ghost use Rattle.stun_types_address.specs.Addresses.{address_of, address_value};
 ghost use Rattle.stun_types_address.specs.Xor.{xored};
 
@@ -45,7 +46,7 @@ impl XorRelayedAddress {
     /// The address, under the number of the message that holds it, with no flow information and no
     /// scope.
     pub fn addr(&self, number: TransactionId) -> SocketAddr
-        ensures told { result ≡ address_of (xored number self.now) }
+        ensures told { Some result ≡ address_of (xored number self.now) }
         ensures value { address_value result ≡ xored number self.now }
     {
         self.addr.addr(number)
@@ -89,11 +90,14 @@ impl AttributeWrite for XorRelayedAddress {
 /// has not the 8 bytes of IPv4 or the 20 of IPv6.
 impl<'a, 'raw> TryFrom<&'raw RawAttribute<'a>> for XorRelayedAddress {
     ghost use Rattle.std.specs.Prelude.{◌≡◌, MatchResult, Some, None};
+    ghost use Rattle.stun_types_write.specs.Reading.{IsNamed};
     ghost use Rattle.stun_types_address.specs.Addresses.{address_again, address_read_refusal};
 
     type Error = StunParseError;
 
-    ghost try_from_gives = { λ raw result. MatchResult result (λ read. (address_read_refusal 0x0016 raw.now ≡ None) × (read ≡ address_again raw.now.value)) (λ error. address_read_refusal 0x0016 raw.now ≡ Some error) };
+    ghost try_from_gives = { λ raw result. MatchResult result
+        (λ read. (address_read_refusal 0x0016 raw.now ≡ None)
+        × (read ≡ address_again raw.now.value)) (IsNamed (address_read_refusal 0x0016 raw.now)) };
 
     fn try_from(raw: &'raw RawAttribute<'a>) -> Result<XorRelayedAddress, StunParseError> {
         let addr = XorSocketAddr::from_raw_of_type(raw, XorRelayedAddress::TYPE)?;

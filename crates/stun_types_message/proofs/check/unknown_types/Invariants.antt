@@ -1,12 +1,21 @@
-use Rattle.std.proofs.Common.{◌≡◌, map}
+use Rattle.std.proofs.Common.{◌≡◌, ◌+◌, ◌*◌, ◌^◌, ◌<◌, ℕ, List, length, map}
+use Rattle.std.specs.Prelude.{sum_by}
+use Rattle.stun_types_wire.specs.Attributes.{attr_size, attributes}
 use Rattle.stun_types_wire.specs.Grammar.{shown}
+use Rattle.stun_types_message.specs.Marks.{IsListing}
 use Rattle.stun_types_message.specs.Objections.{unknown_kinds}
 use Rattle.stun_types_message.proofs.Listing.{listed_with}
 use Rattle.stun_types_message.proofs.check.unknown_types.Given as goal
 
--- what is listed, and what is left, come to what is to be listed
-abbrev pub invariant-loop-attribute : goal.invariant-loop-attribute
-invariant-loop-attribute l =
-    (goal.iterator-loop-attribute).can_next l.attribute-iterator ×
-    (goal.iterator-loop-attribute).is_finite l.attribute-iterator ×
-    (listed_with (map (λ t. t.0) l.fn.supported) (map (λ t. t.0) l.unknown.items) (map (λ x. x.1) l.attribute-iterator) ≡ unknown_kinds (shown l.fn.msg) (map (λ t. t.0) l.fn.supported))
+-- what is listed, and what is left, come to what is to be listed; what is left is whole
+abbrev pub invariant-loop-left : goal.invariant-loop-left
+invariant-loop-left l =
+    (seen : List ℕ) ×
+    IsListing seen l.listed l.unknown ×
+    (length l.listed ≡ 0x8000) ×
+    (listed_with (map (λ t. t.0) l.fn.supported) seen (attributes l.left) ≡ unknown_kinds (shown l.fn.msg) (map (λ t. t.0) l.fn.supported)) ×
+    (sum_by attr_size (attributes l.left) ≡ length l.left) ×
+    (4 * l.unknown.count + length l.left < 2 ^ 63)
+
+abbrev pub decreases-loop-left : goal.decreases-loop-left
+decreases-loop-left l = length l.left

@@ -3,4 +3,4 @@ use Rattle.turn_tests.proofs.building.write.Given as goal
 
 -- the message that was begun can be added to
 abbrev pub invariant-loop-line : goal.invariant-loop-line
-invariant-loop-line g l = IsBegun (g.W.MessageWrite.written l.writer)
+invariant-loop-line g l = IsBegun (g.W.MessageWrite.draft l.writer).bytes

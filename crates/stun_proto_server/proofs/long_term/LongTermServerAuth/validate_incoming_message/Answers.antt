@@ -1,4 +1,4 @@
-use Rattle.std.proofs.Common.{sym, ◌∙◌}
+use Rattle.std.proofs.Common.{refl, sym, ◌∙◌}
 use Rattle.stun_proto_server.specs.Server.{refreshed}
 use Rattle.stun_proto_server.specs.Validation.{known_of}
 use Rattle.stun_proto_server.proofs.Apart.{same_for-then}
@@ -7,7 +7,8 @@ use Rattle.stun_proto_server.proofs.long_term.LongTermServerAuth.validate_incomi
 
 pub returns-then-is_response-clause-refused : goal.returns-then-is_response-clause-refused
 returns-then-is_response-clause-refused g c _ =
-    response_is_refused (known_of (refreshed c.args.self.now c.args.from c.args.now (g.R.Rng.stream c.args.rng.now)) c.args.from c.args.message.now) c.args.message.now (sym c.is_response.ensures ∙ c.if-is_response.true)
+    let response = sym c.is_response.ensures ∙ c.if-is_response.true in
+    (response_is_refused (known_of (refreshed c.args.self.now c.args.from c.args.now (g.R.Rng.stream c.args.rng.now)) c.args.from c.args.message.now) c.args.message.now response, rw response refl)
 
 pub returns-then-is_response-clause-stream : goal.returns-then-is_response-clause-stream
 returns-then-is_response-clause-stream g c =

@@ -1,11 +1,9 @@
-use Rattle.std.proofs.Common.{rules, arith, ◌≡◌, [], ◌<◌, ◌^◌}
-use Rattle.stun_types_wire.specs.Text.{message_text, body_text}
-use Rattle.stun_types_build.proofs.Adds.{text_begun}
+use Rattle.std.proofs.Common.{ℕ, ap, ◌∙◌}
+use Rattle.stun_types_wire.specs.Text.{header_text}
+use Rattle.stun_types_build.proofs.Begun.{begun}
 use Rattle.stun_types_message.proofs.message.Message.builder.Goals as goal
 
 pub returns-clause-begun : goal.returns-clause-begun
-unfolding message_text body_text
 returns-clause-begun g c =
-    let lawful : c.args.mtype < 2 ^ 14 = omega (arith, c.to_bytes.ensures.lawful, c.new-header.ensures.kind) in
-    let is : g.W.MessageWrite.written c.push_data.new.self ≡ message_text c.args.mtype c.args.transaction_id [] = search rules in
-    rw is (text_begun c.args.mtype c.args.transaction_id lawful)
+    let told = c.to_bytes.ensures.text ∙ ap (λ (n : ℕ). header_text c.new-header.result.kind n c.new-header.result.number) c.new-header.ensures.len in
+    begun _ _ _ _ _ _ _ c.requires.empty c.new-header.ensures.kind c.new-header.ensures.number c.to_bytes.ensures.lawful told c.in_ok-push_data.ensures.ok

@@ -1,12 +1,11 @@
 use Rattle.std.specs.Prelude.{◌<◌, slice_index}
-use Rattle.std.proofs.Common.{rules, arith, ◌≡◌, ◌≢◌, ◌⊎◌, inl, inr, List, ℕ, subst, sym, ap, ◌∙◌, refl}
-use Rattle.stun_types_wire.specs.Grammar.{number_at}
+use Rattle.std.proofs.Common.{rules, arith, ◌≢◌, inl, inr, List, ℕ, subst, sym, refl}
 use Rattle.stun_proto_judge.specs.declared.error.LongTermServerAuthError.TheVariants.{NoMemory}
 use Rattle.stun_proto_server.specs.Server.{SameFor}
-use Rattle.turn_desk_core.specs.Requests.{IsServed, transport_asked}
+use Rattle.turn_desk_core.specs.Requests.{IsServed}
 use Rattle.turn_desk_core.specs.State.{State}
 use Rattle.turn_desk_core.specs.Steps.{IsAnswer}
-use Rattle.turn_desk_core.specs.Verdicts.{verdict}
+use Rattle.turn_desk_core.specs.Verdicts.{verdict_on}
 use Rattle.turn_desk_core.proofs.Grants.{exactly_granted}
 use Rattle.turn_desk_core.proofs.Keys.{answered, challenged, refusal_after, refused_nonce, takes, takes_key}
 use Rattle.turn_desk_core.proofs.desk.Desk.handle.Goals as goal
@@ -25,20 +24,20 @@ turn_away-requires g c =
     record {
       request = served;
       nonce = refused_nonce c.self.inside.auth c.args.from c.args.now stream c.validate_incoming_message.new.self
-          (refusal_after c.self.inside.auth c.args.from c.in-Ok.request c.args.now stream c.validate_incoming_message.new.self served (c.in-Err.ensures.forgotten ample));
+          (refusal_after c.self.inside.auth c.args.from c.in-Ok.request c.args.now stream c.validate_incoming_message.new.self served (c.in-Err.ensures.refused ample).1);
     }
 
 pub returns-in_ok-reply-in-Ok-validate_incoming_message-clause-answer : goal.returns-in_ok-reply-in-Ok-validate_incoming_message-clause-answer
 returns-in_ok-reply-in-Ok-validate_incoming_message-clause-answer g c =
     let stream = g.R.Rng.stream c.args.rng.now in
     let old : State = record { auth = c.self.inside.auth; grants = c.self.inside.grants } in
-    let what = verdict (transport_asked c.in-Ok.request) c.args.decision.now in
+    let what = verdict_on c.in-Ok.request c.args.decision.now in
     let reply = c.in_ok-reply-in-Ok-validate_incoming_message.reply.items in
     let served : IsServed c.in-Ok.request = search rules in
     let are : (i : ℕ) → slice_index c.in-Ok.request i < 256 = subst (λ (b : List ℕ). (i : ℕ) → slice_index b i < 256) (sym c.in-Ok.ensures.0) (λ i. omega (arith, c.type_inv.bytes i)) in
     let t = takes c.self.inside.auth c.args.from c.in-Ok.request c.args.now stream c.in-Ok-validate_incoming_message.field-0 c.validate_incoming_message.new.self c.in-Ok-validate_incoming_message.ensures.valid in
     let here : IsAnswer old c.args.from c.in-Ok.request c.args.now stream c.args.decision.now reply c.answer.new.self =
-    inr (answered old c.answer.new.self c.args.from c.in-Ok.request c.args.now stream what c.validate_incoming_message.new.self reply are served t c.in_ok-reply-in-Ok-validate_incoming_message.ensures.readable
+    inr (answered old c.answer.new.self c.args.from c.in-Ok.request c.args.now stream what c.validate_incoming_message.new.self reply are served t
     c.in_ok-reply-in-Ok-validate_incoming_message.ensures.reply c.in_ok-reply-in-Ok-validate_incoming_message.ensures.granted) in
     subst (λ (s : State). IsAnswer s c.args.from c.args.bytes.now c.args.now stream c.args.decision.now reply c.answer.new.self) c.self.view_is
     (subst (λ (b : List ℕ). IsAnswer old c.args.from b c.args.now stream c.args.decision.now reply c.answer.new.self) c.in-Ok.ensures.0 here)
@@ -57,10 +56,9 @@ returns-in_ok-reply-in-Err g c =
     let served : IsServed c.in-Ok.request = search rules in
     let ample : c.in-Err.error ≢ NoMemory = search rules in
     let are : (i : ℕ) → slice_index c.in-Ok.request i < 256 = subst (λ (b : List ℕ). (i : ℕ) → slice_index b i < 256) (sym c.in-Ok.ensures.0) (λ i. omega (arith, c.type_inv.bytes i)) in
-    let told = c.in_ok-reply-in-Err.ensures in
     let here : IsAnswer old c.args.from c.in-Ok.request c.args.now stream c.args.decision.now reply new =
-    inl (challenged old new c.args.from c.in-Ok.request c.args.now stream c.in-Err.error c.validate_incoming_message.new.self c.validate_incoming_message.new.self.realm told.0 reply are served ample
-    c.in-Err.ensures.refused c.in-Err.ensures.forgotten refl refl told.1 told.2 told.3) in
+    inl (challenged old new c.args.from c.in-Ok.request c.args.now stream c.in-Err.error c.validate_incoming_message.new.self reply are served ample
+    (λ a. (c.in-Err.ensures.refused a).0) (λ a. (c.in-Err.ensures.refused a).1) refl c.in_ok-reply-in-Err.ensures) in
     let there : IsAnswer c.args.self.now c.args.from c.args.bytes.now c.args.now stream c.args.decision.now reply new =
     subst (λ (s : State). IsAnswer s c.args.from c.args.bytes.now c.args.now stream c.args.decision.now reply new) c.self.view_is
     (subst (λ (b : List ℕ). IsAnswer old c.args.from b c.args.now stream c.args.decision.now reply new) c.in-Ok.ensures.0 here) in
@@ -70,7 +68,6 @@ returns-in_ok-reply-in-Err g c =
       grants = λ grant. exactly_granted c.args.self.now new c.args.from c.args.bytes.now c.args.now stream c.args.decision.now reply grant there;
       memory = tt;
       stream = search rules;
-      stream_refused = tt;
       others = λ other different. subst (λ (s : State). SameFor other s.auth c.validate_incoming_message.new.self) c.self.view_is (c.validate_incoming_message.ensures.others other different);
     }
 
@@ -81,6 +78,5 @@ returns-in_err-reply-in-Err g c = record {
   grants = search rules;
   memory = search rules;
   stream = search rules;
-  stream_refused = search rules;
   others = λ other different. subst (λ (s : State). SameFor other s.auth c.validate_incoming_message.new.self) c.self.view_is (c.validate_incoming_message.ensures.others other different);
 }

@@ -1,0 +1,83 @@
+//! The success response to an ALLOCATE, written into any writer.
+
+ghost use Rattle.std.specs.Prelude.{◌≡◌, [], OnOk};
+ghost use Rattle.stun_types_wire.specs.Text.{message_text};
+ghost use Rattle.stun_types_write.specs.Adding.{IsBegun};
+ghost use Rattle.stun_types_address.specs.Addresses.{address_value};
+ghost use Rattle.stun_bench.specs.Allocated.{IsMarked, allocated_text, place_value};
+
+use crate::allocation::Allocation;
+use crate::read::SOFTWARE;
+use std::net::{Ipv4Addr, SocketAddr, SocketAddrV4};
+use stun_types::attribute::{RawAttribute, XorMappedAddress};
+use stun_types::message::{
+    IntegrityKey, MessageClass, MessageType, Method, StunWriteError, TransactionId, add_as,
+};
+use stun_types::prelude::{MessageWrite, MessageWriteExt};
+use turn_types_attribute::lifetime::Lifetime;
+use turn_types_attribute::xor_relayed_address::XorRelayedAddress;
+
+/// ALLOCATE (RFC 8656, section 17).
+pub(crate) const ALLOCATE: Method = Method(0x003);
+
+/// How many bytes SOFTWARE has at most (RFC 8489, section 14.14).
+const MAX_SOFTWARE: usize = 763;
+
+/// The type of the response.
+pub(crate) fn response_type() -> MessageType
+    ensures { result ≡ 0x0103 }
+{
+    MessageType::from_class_method(MessageClass::Success, ALLOCATE)
+}
+
+/// Adds what the response shows to one that was begun: XOR-RELAYED-ADDRESS, LIFETIME,
+/// XOR-MAPPED-ADDRESS and SOFTWARE. Refused with `TooLarge` where SOFTWARE has more than 763 bytes, and
+/// as an add is.
+pub(crate) fn add_response<W: MessageWrite>(
+    writer: &mut W,
+    told: &Allocation,
+    number: u64,
+    software: &[u8],
+) -> Result<(), StunWriteError>
+    requires begun { IsBegun (W.draft writer.old).bytes }
+    ensures text { OnOk result ((W.draft writer.old).bytes ≡ message_text 0x0103 number []
+        → (W.draft writer.new).bytes ≡ allocated_text told.now number software.now) }
+    ensures begun { OnOk result (IsBegun (W.draft writer.new).bytes) }
+{
+    if software.len() > MAX_SOFTWARE {
+        return Err(StunWriteError::TooLarge {
+            expected: MAX_SOFTWARE,
+            actual: software.len(),
+        });
+    }
+    let number = TransactionId::from(u128::from(number));
+    let relayed = XorRelayedAddress::new(address(told.relayed_ip, told.relayed_port), number);
+    let lifetime = Lifetime::new(told.lifetime);
+    let mapped = XorMappedAddress::new(address(told.mapped_ip, told.mapped_port), number);
+    let software = RawAttribute::new(SOFTWARE, software);
+    add_as(writer, &relayed, &relayed)?;
+    add_as(writer, &lifetime, &lifetime)?;
+    add_as(writer, &mapped, &mapped)?;
+    add_as(writer, &software, &software)
+}
+
+/// Adds the MESSAGE-INTEGRITY under a key to the response, or the MESSAGE-INTEGRITY-SHA256, and its
+/// FINGERPRINT. Refused as an add is.
+pub(crate) fn mark_response<W: MessageWrite>(
+    writer: &mut W,
+    key: &IntegrityKey,
+) -> Result<(), StunWriteError>
+    requires begun { IsBegun (W.draft writer.old).bytes }
+    ensures { OnOk result (IsMarked key.now.algorithm key.now.bytes
+        (W.draft writer.old).bytes (W.draft writer.new).bytes) }
+{
+    writer.add_message_integrity_with_key(key, key.algorithm())?;
+    writer.add_fingerprint()
+}
+
+/// An address of IPv4.
+fn address(ip: u32, port: u16) -> SocketAddr
+    ensures { address_value result ≡ place_value ip port }
+{
+    SocketAddr::V4(SocketAddrV4::new(Ipv4Addr::from_octets(ip.to_be_bytes()), port))
+}

@@ -1,0 +1,43 @@
+//! Which of the attributes that end a message were added.
+
+ghost use Rattle.std.specs.Prelude.{◌≡◌};
+ghost use Rattle.stun_types_write.specs.Drafts.{ended_by, none_ended};
+
+use stun_types_wire::attribute::{
+    AttributeType, FINGERPRINT, MESSAGE_INTEGRITY, MESSAGE_INTEGRITY_SHA256,
+};
+
+/// Which of the three attributes that end a message were added (RFC 8489, sections 14.5 to 14.7).
+#[derive(Clone, Copy, Debug)]
+pub struct Ended {
+    /// MESSAGE-INTEGRITY was.
+    pub integrity: bool,
+    /// MESSAGE-INTEGRITY-SHA256 was.
+    pub sha256: bool,
+    /// FINGERPRINT was.
+    pub fingerprint: bool,
+}
+
+impl Ended {
+    /// None of them.
+    pub fn none() -> Ended
+        ensures { result ≡ none_ended }
+    {
+        Ended {
+            integrity: false,
+            sha256: false,
+            fingerprint: false,
+        }
+    }
+
+    /// These, and the one of this type where it is one of the three.
+    pub fn by(self, atype: AttributeType) -> Ended
+        ensures { result ≡ ended_by self atype.0 }
+    {
+        Ended {
+            integrity: self.integrity || atype.0 == MESSAGE_INTEGRITY.0,
+            sha256: self.sha256 || atype.0 == MESSAGE_INTEGRITY_SHA256.0,
+            fingerprint: self.fingerprint || atype.0 == FINGERPRINT.0,
+        }
+    }
+}
