@@ -123,7 +123,7 @@ fn mark(
     ensures { IfSome result (λ writer. writer.bytes
         ≡ marked_text algorithm password.now told.now number software.now) }
 {
-    let key = key_of_password(alloc, password, algorithm)?;
+    let key = key_of_password(password, algorithm)?;
     let mut writer = build(alloc, told, number, software).ok()?;
     mark_response(&mut writer, &key).ok()?;
     Some(writer)
@@ -142,7 +142,7 @@ fn sign(
     ensures { IfSome result (λ writer. writer.bytes
         ≡ signed_text algorithm password.now told.now number software.now) }
 {
-    let key = key_of_password(alloc, password, algorithm)?;
+    let key = key_of_password(password, algorithm)?;
     let mut writer = build(alloc, told, number, software).ok()?;
     writer.add_message_integrity_with_key(&key, algorithm).ok()?;
     Some(writer)

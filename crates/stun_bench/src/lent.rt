@@ -8,7 +8,6 @@ ghost use Rattle.stun_bench.specs.Allocated.{BeginsResponse, IsSizeOf, allocated
 use crate::allocation::Allocation;
 use crate::key::key_of_password;
 use crate::response::{add_response, mark_response, response_type};
-use std::alloc::Global;
 use stun_types::message::{
     IntegrityAlgorithm, Message, MessageHeader, MessageWriteMutSlice, TransactionId,
 };
@@ -37,11 +36,9 @@ pub extern "C" fn stun_bench_build_lent(
 }
 
 /// Writes the same response with a MESSAGE-INTEGRITY, under the key that a password makes, and a
-/// FINGERPRINT at its end. Otherwise the same; it is refused too where the password is not UTF-8, and
-/// where memory is refused for the key.
+/// FINGERPRINT at its end. Otherwise the same; it is refused too where the password is not UTF-8.
 #[unsafe(no_mangle)]
 pub extern "C" fn stun_bench_mark_lent_sha1(
-    alloc: Global,
     password: &[u8],
     told: &Allocation,
     number: u64,
@@ -50,7 +47,7 @@ pub extern "C" fn stun_bench_mark_lent_sha1(
 ) -> usize
     ensures { IsSizeOf (marked_text Sha1 password.now told.now number software.now) result }
 {
-    let Some(key) = key_of_password(alloc, password, IntegrityAlgorithm::Sha1) else {
+    let Some(key) = key_of_password(password, IntegrityAlgorithm::Sha1) else {
         return 0;
     };
     let Some(begun) = begin_into(number, out) else {

@@ -76,7 +76,7 @@ pub extern "C" fn stun_bench_sign_request_sha1(
     let Ok(writer) = ask(alloc, lifetime, number, user, realm, nonce) else {
         return 0;
     };
-    match sign(alloc, password, IntegrityAlgorithm::Sha1, writer) {
+    match sign(password, IntegrityAlgorithm::Sha1, writer) {
         Some(signed) => copy_out(signed.as_slice(), out),
         None => 0,
     }
@@ -101,7 +101,7 @@ pub extern "C" fn stun_bench_sign_request_sha256(
     let Ok(writer) = ask(alloc, lifetime, number, user, realm, nonce) else {
         return 0;
     };
-    match sign(alloc, password, IntegrityAlgorithm::Sha256, writer) {
+    match sign(password, IntegrityAlgorithm::Sha256, writer) {
         Some(signed) => copy_out(signed.as_slice(), out),
         None => 0,
     }
@@ -110,7 +110,6 @@ pub extern "C" fn stun_bench_sign_request_sha256(
 /// A message, signed under the key that a password makes. None where the password is not UTF-8, where
 /// the message is not signed, and where memory is refused.
 fn sign(
-    alloc: Global,
     password: &[u8],
     algorithm: IntegrityAlgorithm,
     writer: MessageWriteVec,
@@ -121,7 +120,7 @@ fn sign(
         ≡ message_text mtype number (adds ++ signature algorithm password.now
         (message_text mtype number adds) ∷ [])) }
 {
-    let key = key_of_password(alloc, password, algorithm)?;
+    let key = key_of_password(password, algorithm)?;
     let mut writer = writer;
     writer.add_message_integrity_with_key(&key, algorithm).ok()?;
     Some(writer)

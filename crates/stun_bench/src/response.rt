@@ -65,7 +65,7 @@ pub(crate) fn add_response<W: MessageWrite>(
 /// FINGERPRINT. Refused as an add is.
 pub(crate) fn mark_response<W: MessageWrite>(
     writer: &mut W,
-    key: &IntegrityKey,
+    key: &IntegrityKey<'_>,
 ) -> Result<(), StunWriteError>
     requires begun { IsBegun (W.draft writer.old).bytes }
     ensures { OnOk result (IsMarked key.now.algorithm key.now.bytes

@@ -1,14 +1,14 @@
 //! Validation under a password.
 
-ghost use Rattle.std.specs.Prelude.{◌≡◌, ◌↔◌, ℕ, List, IsTrue, IfSome, MatchOption, false};
+ghost use Rattle.std.specs.Prelude.{◌≡◌, ◌↔◌, ℕ, List, IsTrue, MatchOption, false};
+ghost use Rattle.std.specs.Str.{IsUtf8};
 ghost use Rattle.stun_types_wire.specs.declared.algorithm.IntegrityAlgorithm.TheVariants.{Sha1, Sha256};
 ghost use Rattle.stun_types_integrity.specs.Integrity.{IsSigned};
 
 use crate::key::key_of_password;
-use std::alloc::Global;
 use stun_types::message::{IntegrityAlgorithm, Message};
 
-/// What C is told of a question whose answer takes memory.
+/// What C is told of a question that may have no answer.
 #[repr(C)]
 #[derive(Clone, Copy, Debug)]
 pub struct Answer {
@@ -19,39 +19,35 @@ pub struct Answer {
 }
 
 /// Whether bytes are a message that shows a MESSAGE-INTEGRITY with the right HMAC under a password
-/// (RFC 8489, sections 9.1.1 and 14.5). It is not known where the password is not UTF-8, and where
-/// memory is refused for the key.
+/// (RFC 8489, sections 9.1.1 and 14.5). It is not known where the password is not UTF-8, and else it is.
 #[unsafe(no_mangle)]
-pub extern "C" fn stun_bench_validate_sha1(alloc: Global, password: &[u8], bytes: &[u8]) -> Answer
+pub extern "C" fn stun_bench_validate_sha1(password: &[u8], bytes: &[u8]) -> Answer
     ensures known { IsTrue result.known → (IsTrue result.holds
         ↔ ((text : List ℕ) × IsSigned bytes.now password.now Sha1 text)) }
-    ensures unknown { result.known ≡ false → result.holds ≡ false }
+    ensures unknown { result.known ≡ false → (¬ IsUtf8 password.now)
+        × (result.holds ≡ false) }
 {
-    told(validates(alloc, password, bytes, IntegrityAlgorithm::Sha1))
+    told(validates(password, bytes, IntegrityAlgorithm::Sha1))
 }
 
 /// The same of a MESSAGE-INTEGRITY-SHA256 (RFC 8489, section 14.6).
 #[unsafe(no_mangle)]
-pub extern "C" fn stun_bench_validate_sha256(alloc: Global, password: &[u8], bytes: &[u8]) -> Answer
+pub extern "C" fn stun_bench_validate_sha256(password: &[u8], bytes: &[u8]) -> Answer
     ensures known { IsTrue result.known → (IsTrue result.holds
         ↔ ((text : List ℕ) × IsSigned bytes.now password.now Sha256 text)) }
-    ensures unknown { result.known ≡ false → result.holds ≡ false }
+    ensures unknown { result.known ≡ false → (¬ IsUtf8 password.now)
+        × (result.holds ≡ false) }
 {
-    told(validates(alloc, password, bytes, IntegrityAlgorithm::Sha256))
+    told(validates(password, bytes, IntegrityAlgorithm::Sha256))
 }
 
 /// Whether bytes are a message that shows the integrity attribute of an algorithm with the right
-/// HMAC under a password. None where the password is not UTF-8, and where memory is refused.
-fn validates(
-    alloc: Global,
-    password: &[u8],
-    bytes: &[u8],
-    algorithm: IntegrityAlgorithm,
-) -> Option<bool>
-    ensures { IfSome result (λ holds. IsTrue holds
+/// HMAC under a password. None where the password is not UTF-8.
+fn validates(password: &[u8], bytes: &[u8], algorithm: IntegrityAlgorithm) -> Option<bool>
+    ensures { MatchOption result (¬ IsUtf8 password.now) (λ holds. IsTrue holds
         ↔ ((text : List ℕ) × IsSigned bytes.now password.now algorithm text)) }
 {
-    let key = key_of_password(alloc, password, algorithm)?;
+    let key = key_of_password(password, algorithm)?;
     match Message::from_bytes(bytes) {
         Ok(message) => Some(message.validate_integrity_with_key(&key).is_ok()),
         Err(_) => Some(false),

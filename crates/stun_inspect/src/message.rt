@@ -29,13 +29,7 @@ pub(crate) fn message_in_words(
             push_header(&mut text, &message, names)?;
             push_shown(alloc, &mut text, &message, names)?;
             match credentials {
-                Some(credentials) => push_integrity(
-                    alloc,
-                    &mut text,
-                    &message,
-                    credentials,
-                    names,
-                )?,
+                Some(credentials) => push_integrity(&mut text, &message, credentials, names)?,
                 None => text.push_str("validation without credentials\n")?,
             }
             push_fingerprint(&mut text, &message)?;
@@ -95,7 +89,6 @@ fn push_shown(
 /// Appends what each integrity attribute that is shown comes to under the credentials, and the
 /// verdict by the last of them.
 fn push_integrity(
-    alloc: Global,
     text: &mut String,
     message: &Message<'_>,
     credentials: &MessageIntegrityCredentials,
@@ -106,14 +99,14 @@ fn push_integrity(
         (MessageIntegritySha256::TYPE, IntegrityAlgorithm::Sha256),
     ] {
         if message.has_attribute(atype) {
-            let key = credentials.make_key(alloc, algorithm)?;
+            let key = credentials.make_key(algorithm);
             let name = atype.name(names);
             write!(text, "integrity {name} ")?;
             push_verdict(text, message.validate_integrity_with_key(&key))?;
         }
     }
     text.push_str("validation ")?;
-    push_verdict(text, message.validate_integrity(alloc, credentials))
+    push_verdict(text, message.validate_integrity(credentials))
 }
 
 /// Appends a verdict on a message, and ends its line.
@@ -126,7 +119,6 @@ fn push_verdict(
             let name = algorithm_name(algorithm);
             writeln!(text, "valid {name}")?;
         }
-        Err(ValidateError::NoMemory) => return Err(NoMemory),
         Err(error) => {
             let objection = Objection(error);
             writeln!(text, "refused {objection}")?;

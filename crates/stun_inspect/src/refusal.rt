@@ -47,7 +47,6 @@ impl fmt::Display for Objection {
                 write!(f, "{refusal}")
             }
             ValidateError::IntegrityFailed => write!(f, "IntegrityFailed"),
-            ValidateError::NoMemory => write!(f, "NoMemory"),
         }
     }
 }

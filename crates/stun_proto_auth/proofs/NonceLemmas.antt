@@ -1,15 +1,18 @@
 -- Lemmas on the text of a nonce.
-use Rattle.std.proofs.Common.{◌≡◌, ℕ, ◌<◌, Bool, true, false, List, length, take, nat_lt, drop, nat_eq, slice_index, sym, ap, ◌∙◌, refl, arith, min, if◌then◌else◌}
+use Rattle.std.proofs.Common.{◌≡◌, ℕ, ◌+◌, ◌<◌, ◌≤◌, Bool, true, false, List, length, take, nat_lt, drop, nat_eq, slice_index, sym, ap, ◌∙◌, refl, arith, min, if◌then◌else◌}
 use Rattle.std.specs.Cmp.Lexicographic.{pointwise}
 use Rattle.std.specs.List.{list_all}
+use Rattle.std.proofs.lemmas.List.{length-map}
 use Rattle.std.proofs.lemmas.List.Folds.{list_all_at}
 use Rattle.std.proofs.lemmas.Grind.{common_steps}
 use Rattle.base64.specs.GeneralPurpose.{decode_of}
 use Rattle.base64.specs.Engines.{standard}
-use Rattle.stun_proto_auth.specs.Nonce.{nonce_cookie, nonce_alphabet, features_decoded, features_told, no_features, nonce_text}
+use Rattle.stun_types_attribute.specs.Texts.{longest_text}
+use Rattle.stun_proto_auth.specs.Nonce.{nonce_character, nonce_cookie, nonce_alphabet, features_decoded, features_told, no_features, nonce_text}
 use Rattle.base64.specs.Rfc4648.{encode_symbols}
 use Rattle.base64.specs.Decode.{scan_steps, groups_error, groups_bytes}
 use Rattle.stun_proto_auth.specs.declared.nonce.NonceFeatures.{NonceFeatures}
+use Rattle.stun_proto_auth.specs.declared.nonce.TheConstants.{NONCE_WORDS}
 
 -- a character of the alphabet is an ASCII one
 pub nonce_alphabet-ascii : (place : ℕ) → place < 62 → slice_index nonce_alphabet place < 128
@@ -42,3 +45,19 @@ features_told-by_cases false false words = refl
 -- a nonce tells of the features that it was written with
 pub features_told-nonce_text : (features : NonceFeatures) (words : List ℕ) → features_told (nonce_text features words) ≡ features
 features_told-nonce_text features words = features_told-by_cases features.password_algorithms features.anonymous_username words
+
+-- ---- the length of a nonce
+
+-- the cookie, four characters, and one for each word, by cases of the features
+nonce_text-length_by_cases : (algorithms anonymous : Bool) (words : List ℕ) → let features : NonceFeatures = record { password_algorithms = algorithms; anonymous_username = anonymous } in length (nonce_text features words) ≡ 13 + length words
+unfolding encode_symbols
+nonce_text-length_by_cases true true words = omega (arith, length-map words nonce_character)
+nonce_text-length_by_cases true false words = omega (arith, length-map words nonce_character)
+nonce_text-length_by_cases false true words = omega (arith, length-map words nonce_character)
+nonce_text-length_by_cases false false words = omega (arith, length-map words nonce_character)
+
+-- a nonce of at most sixteen words is short
+pub nonce_text-short : (features : NonceFeatures) (words text : List ℕ) → text ≡ nonce_text features words → length words ≤ NONCE_WORDS → length text ≤ longest_text
+nonce_text-short features words text is few =
+    let all = nonce_text-length_by_cases features.password_algorithms features.anonymous_username words in
+    rw is (omega (arith, all, few))

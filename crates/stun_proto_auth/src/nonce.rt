@@ -2,7 +2,7 @@
 //! 9.2).
 
 ghost use Rattle.std.specs.Prelude.{◌≡◌, ◌<◌, ◌≤◌, IfOk, ℕ, List, length};
-ghost use Rattle.std.specs.String.{string_bytes};
+ghost use Rattle.stun_types_attribute.specs.Texts.{longest_text};
 ghost use Rattle.stun_proto_auth.specs.Nonce.{nonce_character, nonce_text, features_told};
 ghost use Rattle.stun_proto_auth.specs.declared.nonce.NonceFeatures.{NonceFeatures};
 
@@ -10,11 +10,15 @@ use crate::feature::Feature;
 use crate::supported::SupportedIntegrity;
 use base64::engine::general_purpose::STANDARD;
 use std::alloc::Global;
+use std::marker::Model;
 use stun_types_base::memory::NoMemory;
 use stun_types_wire::algorithm::IntegrityAlgorithm;
 
 /// What the nonce of a server begins with, where the server tells of its security features.
 pub const LONG_TERM_RFC8489_NONCE_COOKIE: &str = "obMatJos2";
+
+/// How many random words a nonce is made of.
+pub const NONCE_WORDS: usize = 16;
 
 /// The characters that follow the features in a nonce: A to Z, a to z, 0 to 9.
 const ALPHABET: &[u8; 62] = b"ABCDEFGHIJKLMNOPQRSTUVWXYZabcdefghijklmnopqrstuvwxyz0123456789";
@@ -101,6 +105,35 @@ impl NonceFeatures {
     }
 }
 
+/// The text of a server's nonce, which a NONCE has room for: it has at most 763 bytes (RFC 8489,
+/// section 14.10). Contracts see the bytes of the text.
+#[derive(Debug, Drop)]
+pub struct ServerNonce {
+    text: String,
+}
+
+impl Model for ServerNonce {
+    ghost use Rattle.std.specs.Prelude.{List, ℕ, ◌≤◌, length};
+    ghost use Rattle.std.specs.String.{string_bytes};
+    ghost use Rattle.stun_types_attribute.specs.Texts.{longest_text};
+
+    ghost Value = { List ℕ };
+
+    ghost view = { λ nonce. string_bytes nonce.text };
+
+    ghost invariant = { λ nonce. length (string_bytes nonce.text) ≤ longest_text };
+}
+
+impl ServerNonce {
+    /// The text.
+    pub fn as_str(&self) -> &str
+        ensures value { result.now ≡ self.now }
+        ensures short { length result.now ≤ longest_text }
+    {
+        self.text.as_str()
+    }
+}
+
 /// The character of a word in a nonce.
 fn character(word: u32) -> char
     ensures value { result ≡ nonce_character word }
@@ -109,21 +142,21 @@ fn character(word: u32) -> char
     char::from(ALPHABET[(word % 62) as usize])
 }
 
-/// The text of a nonce: the cookie, the features in four base64 characters, and for each word the
-/// character at its remainder by 62 in A to Z, a to z, 0 to 9. Refused where memory is.
+/// The nonce of some words: the cookie, the features in four base64 characters, and for each word
+/// the character at its remainder by 62 in A to Z, a to z, 0 to 9. Refused where memory is.
 pub fn write_nonce(
     alloc: Global,
     features: NonceFeatures,
-    words: &[u32],
-) -> Result<String, NoMemory>
-    ensures { IfOk result (λ nonce. string_bytes nonce ≡ nonce_text features words.now) }
+    words: &[u32; NONCE_WORDS],
+) -> Result<ServerNonce, NoMemory>
+    ensures { IfOk result (λ nonce. nonce ≡ nonce_text features words.now) }
 {
-    let mut nonce = String::from_str(alloc, LONG_TERM_RFC8489_NONCE_COOKIE)?;
-    STANDARD.encode_string(&features.bytes(), &mut nonce)?;
+    let mut text = String::from_str(alloc, LONG_TERM_RFC8489_NONCE_COOKIE)?;
+    STANDARD.encode_string(&features.bytes(), &mut text)?;
     for word in words {
-        nonce.push(character(*word))?;
+        text.push(character(*word))?;
     }
-    Ok(nonce)
+    Ok(ServerNonce { text })
 }
 
 /// The law of reading: a nonce tells a client of the features that it was written with.

@@ -15,7 +15,7 @@ use Rattle.stun_proto_judge.specs.declared.error.LongTermServerAuthError.{LongTe
 use Rattle.stun_proto_judge.specs.declared.error.LongTermServerAuthError.TheVariants.{Unauthorized, IntegrityFailed, BadRequest, StaleNonce, NoMemory}
 use Rattle.stun_proto_judge.specs.Errors.{digest_error}
 use Rattle.stun_proto_judge.specs.Claims.{Claimed, claimed}
-use Rattle.stun_proto_judge.specs.Judgement.{Knowledge, Outcome, ServerAccepts, HasWrongDigest, IsRefused, is_response, is_consistent, is_same_text, user_key, integrity_refusal, parts_refusal, nonce_refusal, algorithms_refusal, claim_refusal, judgement}
+use Rattle.stun_proto_judge.specs.Judgement.{Knowledge, Outcome, ServerAccepts, HasWrongDigest, IsAccepted, IsRefused, is_response, is_consistent, is_same_text, user_key, integrity_refusal, parts_refusal, nonce_refusal, algorithms_refusal, claim_refusal, judgement}
 
 -- ---- the pieces of a claim that is not refused
 
@@ -175,19 +175,16 @@ valid_by bytes key realm name password algorithm answered is last valid =
     subst (λ (a : IntegrityAlgorithm). IsSigned bytes own a valid.1.0) same (subst (λ (k : Key). IsSigned bytes k.bytes answered valid.1.0) is valid.1.1) in
     (valid.1.0, signed_validates bytes own algorithm valid.1.0 last signed)
 
--- why a message does not validate is that it does not, or want of memory
-wrong_or_memory : (P : Type 0) (algorithm : IntegrityAlgorithm) (error : ValidateError) → (P → error ≡ invalid.NoMemory) → digest_error algorithm error ≢ NoMemory → (digest_error algorithm error ≡ IntegrityFailed algorithm) × (P → ⊥)
-wrong_or_memory P algorithm (invalid.Parse cause) h other = (refl, λ p. Prim.cc (h p))
-wrong_or_memory P algorithm invalid.IntegrityFailed h other = (refl, λ p. Prim.cc (h p))
-wrong_or_memory P algorithm invalid.NoMemory h other = absurd (other refl)
+-- an error of validation is that of a wrong digest
+pub is_wrong : (algorithm : IntegrityAlgorithm) (error : ValidateError) → digest_error algorithm error ≡ IntegrityFailed algorithm
+is_wrong algorithm (invalid.Parse cause) = refl
+is_wrong algorithm invalid.IntegrityFailed = refl
 
 pub wrong_by : (bytes : List ℕ) (key : Key) (realm name password : List ℕ) (algorithm : IntegrityAlgorithm) (error : ValidateError) (answered : LongTermServerAuthError) → answered ≡ digest_error algorithm error → key ≡ long_term_key (record { username = name; password = password; realm = realm }) algorithm
-    → ((text : List ℕ) → IsSigned bytes key.bytes key.algorithm text → error ≡ invalid.NoMemory) → answered ≢ NoMemory
+    → ((text : List ℕ) → ¬ IsSigned bytes key.bytes key.algorithm text)
     → (answered ≡ IntegrityFailed algorithm) × ((text : List ℕ) → ¬ Validates bytes (user_key realm name password algorithm) algorithm text)
-wrong_by bytes key realm name password algorithm error answered made is accepted other =
-    let P : Type 0 = (text : List ℕ) × Validates bytes (user_key realm name password algorithm) algorithm text in
-    let both = wrong_or_memory P algorithm error
-    (λ p. accepted p.0 (subst (λ (k : Key). IsSigned bytes k.bytes k.algorithm p.0) (sym is) p.1.signed)) (λ e. other (made ∙ e)) in (made ∙ both.0, λ text v. both.1 (text, v))
+wrong_by bytes key realm name password algorithm error answered made is not_signed =
+    (made ∙ is_wrong algorithm error, λ text v. not_signed text (subst (λ (k : Key). IsSigned bytes k.bytes k.algorithm text) (sym is) v.signed))
 
 -- the user that is answered is the one that was found
 pub accepts_user : (known : Knowledge) (bytes : List ℕ) (algorithm : IntegrityAlgorithm) (name copy : List ℕ) (user : Outcome) → user ≡ record { name = copy; algorithm = algorithm } → copy ≡ name → ServerAccepts known bytes algorithm name → ServerAccepts known bytes user.algorithm user.name
@@ -196,19 +193,18 @@ accepts_user known bytes algorithm name copy user is same a =
 
 pub digest_refused : (known : Knowledge) (bytes : List ℕ) (claim : Claimed) (algorithm : IntegrityAlgorithm) (name password realm : List ℕ) (result : Result Outcome LongTermServerAuthError) (error : LongTermServerAuthError) → claim ≡ claimed bytes → is_response bytes ≡ false
     → claim_refusal known claim ≡ None → claim.integrity ≡ Some algorithm → claim.username ≡ Some name → known.password ≡ Some password → realm ≡ known.realm
-    → IsErrAnd result (λ e. e ≡ error) → (error ≢ NoMemory → (error ≡ IntegrityFailed algorithm) × ((text : List ℕ) → ¬ Validates bytes (user_key realm name password algorithm) algorithm text))
+    → IsErrAnd result (λ e. e ≡ error) → (error ≡ IntegrityFailed algorithm) × ((text : List ℕ) → ¬ Validates bytes (user_key realm name password algorithm) algorithm text)
     → IfErr result (λ e. e ≢ NoMemory → IsRefused known bytes e)
 digest_refused known bytes claim algorithm name password realm (Ok user) error is other none last named present own answer wrong = tt
 digest_refused known bytes claim algorithm name password realm (Err e) error is other none last named present own answer wrong =
     λ cause. refuses_digest known bytes claim algorithm name password e is other none last named present
-    (subst (λ (r : List ℕ). (e ≡ IntegrityFailed algorithm) × ((text : List ℕ) → ¬ Validates bytes (user_key r name password algorithm) algorithm text)) own
-    (let w = wrong (λ q. cause (answer ∙ q)) in (answer ∙ w.0, w.1)))
+    (subst (λ (r : List ℕ). (e ≡ IntegrityFailed algorithm) × ((text : List ℕ) → ¬ Validates bytes (user_key r name password algorithm) algorithm text)) own (answer ∙ wrong.0, wrong.1))
+
+-- a wrong digest is no want of memory
+pub not_memory : (known : Knowledge) (bytes : List ℕ) (algorithm : IntegrityAlgorithm) (result : Result Outcome LongTermServerAuthError) (error : LongTermServerAuthError) → IsErrAnd result (λ e. e ≡ error) → error ≡ IntegrityFailed algorithm → result ≡ Err NoMemory → IsAccepted known bytes
+not_memory known bytes algorithm (Ok user) error answer is memory = absurd (Prim.cc memory)
+not_memory known bytes algorithm (Err e) error answer is memory = absurd (let same : e ≡ NoMemory = Prim.cc memory in let other : IntegrityFailed algorithm ≡ NoMemory = sym is ∙ sym answer ∙ same in Prim.cc other)
 
 -- the key of the realm that is known
 pub in_realm : (bytes realm own name password : List ℕ) (algorithm : IntegrityAlgorithm) → realm ≡ own → (text : List ℕ) × Validates bytes (user_key realm name password algorithm) algorithm text → (text : List ℕ) × Validates bytes (user_key own name password algorithm) algorithm text
 in_realm bytes realm own name password algorithm is valid = (valid.0, subst (λ (r : List ℕ). Validates bytes (user_key r name password algorithm) algorithm valid.0) is valid.1)
-
--- where nothing that is claimed is refused, only the digest can be
-pub judged : (known : Knowledge) (bytes : List ℕ) (claim : Claimed) → claim ≡ claimed bytes → is_response bytes ≡ false → claim_refusal known claim ≡ None → judgement known bytes ≡ None
-unfolding judgement
-judged known bytes claim is other none = rw other (ap (λ (c : Claimed). claim_refusal known c) (sym is) ∙ none)

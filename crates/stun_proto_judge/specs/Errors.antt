@@ -26,4 +26,3 @@ integrity_of _ = None
 abbrev pub digest_error : IntegrityAlgorithm → ValidateError → LongTermServerAuthError
 digest_error algorithm (invalid.Parse cause) = IntegrityFailed algorithm
 digest_error algorithm invalid.IntegrityFailed = IntegrityFailed algorithm
-digest_error algorithm invalid.NoMemory = NoMemory

@@ -70,6 +70,12 @@ pub record ServerAccepts (known : Knowledge) (bytes : List ℕ) (algorithm : Int
   pub text : List ℕ
   pub validates : Validates bytes (user_key known.realm name password algorithm) algorithm text
 
+-- a message is accepted as that of some user, by some algorithm
+pub record IsAccepted (known : Knowledge) (bytes : List ℕ) : Type 0 where
+  pub algorithm : IntegrityAlgorithm
+  pub name : List ℕ
+  pub accepts : ServerAccepts known bytes algorithm name
+
 -- ---- the refusals, in their order
 
 -- a response is none of a user's

@@ -60,7 +60,6 @@ impl LongTermServerAuthError {
             ValidateError::Parse(_) | ValidateError::IntegrityFailed => {
                 LongTermServerAuthError::IntegrityFailed(algorithm)
             }
-            ValidateError::NoMemory => LongTermServerAuthError::NoMemory,
         }
     }
 

@@ -7,14 +7,13 @@ ghost use Rattle.stun_types_wire.specs.declared.algorithm.IntegrityAlgorithm.{In
 ghost use Rattle.stun_types_integrity.specs.Credentials.{long_term_key};
 ghost use Rattle.stun_types_integrity.specs.Integrity.{Validates};
 ghost use Rattle.stun_proto_judge.specs.Claims.{claimed};
-ghost use Rattle.stun_proto_judge.specs.Judgement.{IsRefused, ServerAccepts, claim_refusal, is_response, judgement, user_key};
+ghost use Rattle.stun_proto_judge.specs.Judgement.{IsAccepted, IsRefused, ServerAccepts, claim_refusal, is_response, user_key};
 
 use crate::claim::Claim;
 use crate::error::LongTermServerAuthError;
 use crate::known::Known;
 use crate::user::ValidatedUser;
 use std::alloc::Global;
-use stun_types_base::memory::NoMemory;
 use stun_types_integrity::key::IntegrityKey;
 use stun_types_message::message::Message;
 use stun_types_wire::algorithm::IntegrityAlgorithm;
@@ -25,8 +24,8 @@ use stun_types_wire::algorithm::IntegrityAlgorithm;
 /// attribute; `BadRequest` where it shows neither the name of a user nor a hash of it, no realm or
 /// no nonce; `StaleNonce` where the nonce is not the one that stands; `BadRequest` where password
 /// algorithms are inconsistent; `Unauthorized` where it names no user of the server;
-/// `IntegrityFailed` where the digest is wrong. Where memory is refused for the key or the name,
-/// `NoMemory`.
+/// `IntegrityFailed` where the digest is wrong. Where nothing refuses the message and memory is refused
+/// for the name, `NoMemory`.
 pub fn judge(
     alloc: Global,
     message: &Message<'_>,
@@ -43,9 +42,9 @@ pub fn judge(
         (λ error. error ≡ LongTermServerAuthError.NoMemory) }
     ensures refused { IfErr result (λ error. error ≢ LongTermServerAuthError.NoMemory
         → IsRefused known.now message.now error) }
-    // Memory is asked for only where nothing but the digest can refuse the message.
+    // Memory is asked for only where the message is accepted.
     ensures memory { result ≡ Err LongTermServerAuthError.NoMemory
-        → judgement known.now message.now ≡ None }
+        → IsAccepted known.now message.now }
 {
     decide(alloc, message, claim, known)
 }
@@ -65,10 +64,10 @@ fn decide(
     ensures refused { IfErr result (λ error. error ≢ LongTermServerAuthError.NoMemory
         → IsRefused known.now message.now error) }
     ensures memory { result ≡ Err LongTermServerAuthError.NoMemory
-        → judgement known.now message.now ≡ None }
+        → IsAccepted known.now message.now }
 {
     let pending = check(claim, known)?;
-    validate_user(alloc, message, &pending, known.realm())?;
+    validate_user(message, &pending, known.realm())?;
     let name = String::from_str(alloc, pending.name)?;
     Ok(ValidatedUser::new(name, pending.algorithm))
 }
@@ -108,10 +107,8 @@ fn check<'a>(
     }
 }
 
-/// Whether a message validates under the key of a user in a realm. Refused with `IntegrityFailed`;
-/// where memory is refused for the key, with `NoMemory`.
+/// Whether a message validates under the key of a user in a realm. Refused with `IntegrityFailed`.
 fn validate_user(
-    alloc: Global,
     message: &Message<'_>,
     pending: &Pending<'_>,
     realm: &str,
@@ -121,32 +118,26 @@ fn validate_user(
         × Validates message.now
         (user_key realm.now pending.now.name.now pending.now.password.now pending.now.algorithm)
         pending.now.algorithm text) }
-    ensures refused { IfErr result (λ error. error ≢ LongTermServerAuthError.NoMemory
-        → (error ≡ LongTermServerAuthError.IntegrityFailed pending.now.algorithm)
+    ensures refused { IfErr result (λ error.
+        (error ≡ LongTermServerAuthError.IntegrityFailed pending.now.algorithm)
         × ((text : List ℕ) → ¬ Validates message.now
         (user_key realm.now pending.now.name.now pending.now.password.now pending.now.algorithm)
         pending.now.algorithm text)) }
 {
-    let key = key_in(alloc, pending, realm)?;
+    let key = key_in(pending, realm);
     match message.validate_integrity_with_key(&key) {
         Ok(_) => Ok(()),
         Err(error) => Err(LongTermServerAuthError::of_digest(pending.algorithm, error)),
     }
 }
 
-/// The key of the user in a realm. Where memory is refused, `NoMemory`.
-fn key_in(alloc: Global, pending: &Pending<'_>, realm: &str) -> Result<IntegrityKey, NoMemory>
-    ensures { IfOk result (λ key. key ≡ long_term_key (record {
+/// The key of the user in a realm.
+fn key_in<'a>(pending: &Pending<'_>, realm: &str) -> IntegrityKey<'a>
+    ensures { result ≡ long_term_key (record {
       username = pending.now.name.now;
       password = pending.now.password.now;
       realm = realm.now;
-    }) pending.now.algorithm) }
+    }) pending.now.algorithm }
 {
-    IntegrityKey::long_term(
-        alloc,
-        pending.name,
-        realm,
-        pending.password,
-        pending.algorithm,
-    )
+    IntegrityKey::long_term(pending.name, realm, pending.password, pending.algorithm)
 }

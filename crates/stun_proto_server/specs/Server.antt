@@ -12,6 +12,7 @@ use Rattle.stun_proto_agent.specs.Moments.{moment_after}
 use Rattle.stun_proto_auth.specs.contracts.feature.Feature as feature
 use Rattle.stun_proto_auth.specs.declared.feature.Feature.{Feature}
 use Rattle.stun_proto_auth.specs.Nonce.{features_offered, nonce_text}
+use Rattle.stun_proto_auth.specs.declared.nonce.TheConstants.{NONCE_WORDS}
 use Rattle.stun_proto_judge.specs.Judgement.{Outcome}
 use Rattle.stun_types_base.specs.SocketAddrs.{socket_addr_cmp}
 use Rattle.stun_types_base.specs.Words.{words_of}
@@ -90,10 +91,10 @@ is_standing expiry now (Some kept) = nat_lt now (moment_after kept.drawn expiry)
 abbrev pub has_standing_nonce : Server → SocketAddr → ℕ → Bool
 has_standing_nonce server client now = is_standing server.nonce_expiry now (map.get server.clients client)
 
--- what a drawing at a moment keeps: the nonce of the stream's next sixteen words, which tells of the server's features
+-- what a drawing at a moment keeps: the nonce of the next words of the stream, which tells of the server's features
 abbrev pub new_client : Server → ℕ → Stream → Client
 new_client server now stream = record {
-  nonce = nonce_text (features_offered server.algorithms server.anonymous_username) (words_of 16 stream);
+  nonce = nonce_text (features_offered server.algorithms server.anonymous_username) (words_of NONCE_WORDS stream);
   drawn = now;
   outcome = None;
 }
@@ -125,7 +126,7 @@ with_outcome server from outcome = record server {
 
 -- how many words a refresh draws
 abbrev pub words_drawn : Server → SocketAddr → ℕ → ℕ
-words_drawn server from now = if has_standing_nonce server from now then 0 else 16
+words_drawn server from now = if has_standing_nonce server from now then 0 else NONCE_WORDS
 
 -- two servers that an address can't tell apart: the same realm, users and settings, and the same kept for the address
 pub record SameFor (client : SocketAddr) (old new : Server) : Type 0 where

@@ -1,14 +1,14 @@
 -- What a server holds a message against, and what a validation leaves (RFC 8489, section 9.2.4).
-use Rattle.std.specs.Prelude.{◌≡◌, ◌⊎◌, ℕ, List, Option, Some, None, if◌then◌else◌}
+use Rattle.std.specs.Prelude.{◌≡◌, ◌⊎◌, ℕ, false, List, Option, Some, None, if◌then◌else◌}
 use Rattle.std.specs.FinMap as map
 use Rattle.std.specs.declared.net.socket_addr.SocketAddr.{SocketAddr}
 use Rattle.rand_core.specs.Stream.{Stream}
 use Rattle.stun_types_wire.specs.declared.algorithm.IntegrityAlgorithm.{IntegrityAlgorithm}
 use Rattle.stun_proto_judge.specs.Claims.{claimed}
-use Rattle.stun_proto_judge.specs.Judgement.{Knowledge, ServerAccepts, is_response}
+use Rattle.stun_proto_judge.specs.Judgement.{Knowledge, IsAccepted, ServerAccepts, is_response}
 use Rattle.stun_proto_server.specs.declared.validation.LongTermServerValidation.{LongTermServerValidation}
 use Rattle.stun_proto_server.specs.declared.validation.LongTermServerValidation.TheVariants.{Validated}
-use Rattle.stun_proto_server.specs.Server.{Server, nonce_at, refreshed, with_outcome, words_drawn}
+use Rattle.stun_proto_server.specs.Server.{Server, has_standing_nonce, nonce_at, refreshed, with_outcome, words_drawn}
 
 -- the password of the user of a name, where there is a name and such a user
 abbrev pub password_at : Server → Option (List ℕ) → Option (List ℕ)
@@ -40,6 +40,13 @@ after_refusal server from bytes now stream = if is_response bytes then server
 -- the server after a refusal for memory: as it was, or with a nonce that stands for the address
 abbrev pub IsAfterNoMemory : Server → SocketAddr → ℕ → Stream → Server → Type 0
 IsAfterNoMemory server from now stream new = (new ≡ server) ⊎ (new ≡ refreshed server from now stream)
+
+-- memory is wanted of a message from an address: it is no response, and a nonce is due, or the
+-- message is accepted and the name of its user is to be kept
+pub record WantsMemory (server : Server) (from : SocketAddr) (bytes : List ℕ) (now : ℕ) (stream : Stream) : Type 0 where
+  pub no_response : is_response bytes ≡ false
+  pub due : (has_standing_nonce server from now ≡ false)
+      ⊎ IsAccepted (known_of (refreshed server from now stream) from bytes) bytes
 
 -- a validation by an algorithm: the server accepts the message as that of a user, and keeps the
 -- user and the algorithm for the address

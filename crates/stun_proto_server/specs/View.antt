@@ -9,7 +9,7 @@ use Rattle.stun_proto_server.specs.declared.long_term.LongTermServerAuth.TheInsi
 
 -- what is kept for one address
 abbrev pub client_of : ClientRecord → Client
-client_of kept = record { nonce = string_bytes kept.nonce; drawn = kept.drawn; outcome = kept.outcome }
+client_of kept = record { nonce = kept.nonce; drawn = kept.drawn; outcome = kept.outcome }
 
 -- the server
 abbrev pub server_of : Inside → Server

@@ -1,6 +1,6 @@
 //! The server's side of long-term credentials: its users, and a nonce for each client address.
 
-ghost use Rattle.std.specs.Prelude.{◌≡◌, ◌≢◌, ◌*◌, ◌≤◌, nat_lt, length, [], ◌∷◌, Ok, Some, OnOk, OnErr, MatchOption, IsTrue};
+ghost use Rattle.std.specs.Prelude.{◌≡◌, ◌≢◌, ◌*◌, ◌≤◌, nat_lt, length, [], ◌∷◌, Ok, Some, IfSome, OnOk, OnErr, MatchOption, IsTrue};
 ghost use Rattle.std.specs.BTreeMap as tree;
 ghost use Rattle.std.specs.Duration.{as_nanos};
 ghost use Rattle.std.specs.FinMap as map;
@@ -12,6 +12,7 @@ ghost use Rattle.stun_proto_agent.specs.Moments.{moment_after};
 ghost use Rattle.stun_proto_auth.specs.Algorithms.{is_same_algorithm, with_algorithm};
 ghost use Rattle.stun_types_base.specs.SocketAddrs.{socket_addr_cmp};
 ghost use Rattle.stun_types_base.specs.Words.{stream_after};
+ghost use Rattle.stun_types_attribute.specs.Texts.{longest_text};
 ghost use Rattle.stun_types_wire.specs.declared.algorithm.IntegrityAlgorithm.TheVariants.{Sha1};
 ghost use Rattle.stun_proto_auth.specs.declared.feature.Feature.TheVariants.{Auto};
 ghost use Rattle.stun_proto_server.specs.Server.{nonce_at, has_standing_nonce, outcome_at, words_drawn, with_new_nonce, with_outcome, refreshed, SameFor};
@@ -25,7 +26,7 @@ use std::net::SocketAddr;
 use std::time::Duration;
 use stun_proto_agent::instant::Instant;
 use stun_proto_auth::feature::Feature;
-use stun_proto_auth::nonce::{NonceFeatures, write_nonce};
+use stun_proto_auth::nonce::{NONCE_WORDS, NonceFeatures, ServerNonce, write_nonce};
 use stun_proto_auth::supported::SupportedIntegrity;
 use stun_proto_judge::user::ValidatedUser;
 use stun_types_base::memory::NoMemory;
@@ -36,20 +37,18 @@ use stun_types_wire::algorithm::IntegrityAlgorithm;
 /// The least time that a nonce stands, in seconds.
 pub const MIN_NONCE_EXPIRY: u64 = 30;
 
-/// How many random words a nonce is made of.
-const NONCE_WORDS: usize = 16;
-
 /// What a server keeps for one client address.
 #[derive(Debug, Drop)]
 struct ClientRecord {
-    nonce: String,
+    nonce: ServerNonce,
     drawn: Instant,
     outcome: Option<ValidatedUser>,
 }
 
 /// The server's side of long-term authentication: a realm, its users, and for each client address
-/// a record of its own, which the calls of other addresses don't touch. Contracts see the record
-/// `Server` of `specs/Server.antt`.
+/// a record of its own, which the calls of other addresses don't touch. The realm has at most 763
+/// bytes, as a nonce has (RFC 8489, sections 14.9 and 14.10). Contracts see the record `Server` of
+/// `specs/Server.antt`.
 #[derive(Debug, Drop)]
 pub struct LongTermServerAuth {
     alloc: Global,
@@ -71,6 +70,12 @@ impl Model for LongTermServerAuth {
     ghost use Rattle.stun_proto_server.specs.View.{server_of};
 
     ghost view = { server_of };
+
+    ghost use Rattle.std.specs.Prelude.{◌≤◌, length};
+    ghost use Rattle.std.specs.String.{string_bytes};
+    ghost use Rattle.stun_types_attribute.specs.Texts.{longest_text};
+
+    ghost invariant = { λ server. length (string_bytes server.realm) ≤ longest_text };
 }
 
 impl LongTermServerAuth {
@@ -78,7 +83,7 @@ impl LongTermServerAuth {
     /// nonces stand for an hour. The realm has at most 763 bytes (RFC 8489, section 14.9). It keeps
     /// the allocator, and holds no memory of its own yet.
     pub fn new(alloc: Global, realm: String) -> Self
-        requires { length (string_bytes realm) ≤ 763 }
+        requires { length (string_bytes realm) ≤ longest_text }
         ensures { result ≡ record {
           realm = string_bytes realm;
           users = map.empty;
@@ -101,7 +106,8 @@ impl LongTermServerAuth {
 
     /// The realm.
     pub fn realm(&self) -> &str
-        ensures { result.now ≡ self.now.realm }
+        ensures value { result.now ≡ self.now.realm }
+        ensures short { length result.now ≤ longest_text }
     {
         self.realm.as_str()
     }
@@ -179,7 +185,8 @@ impl LongTermServerAuth {
 
     /// The nonce that is kept for a client, of any age, or `None`.
     pub fn nonce_for_client(&self, client: SocketAddr) -> Option<&str>
-        ensures { option_copied result ≡ nonce_at self.now client }
+        ensures value { option_copied result ≡ nonce_at self.now client }
+        ensures short { IfSome result (λ nonce. length nonce.now ≤ longest_text) }
     {
         match kept_for(&self.clients, client) {
             Some(kept) => Some(kept.nonce.as_str()),
@@ -236,7 +243,7 @@ impl LongTermServerAuth {
         now: Instant,
         rng: &mut R,
     ) -> Result<(), NoMemory>
-        ensures stream { R.stream rng.new ≡ stream_after 16 (R.stream rng.old) }
+        ensures stream { R.stream rng.new ≡ stream_after NONCE_WORDS (R.stream rng.old) }
         ensures ok { OnOk result (self.new ≡ with_new_nonce self.old from now (R.stream rng.old)) }
         ensures err { OnErr result (self.new ≡ self.old) }
         ensures others { (other : SocketAddr) → other ≢ from → SameFor other self.old self.new }

@@ -1,6 +1,7 @@
 //! The signing of what goes out.
 
-ghost use Rattle.std.specs.Prelude.{◌≡◌, None, IsSome, IfOk, false};
+ghost use Rattle.std.specs.Prelude.{◌≡◌, ◌≢◌, Err, None, IsSome, IfOk, false};
+ghost use Rattle.std.specs.Result.{IsOk};
 ghost use Rattle.stun_types_base.specs.Refusals.{RefusesFor};
 ghost use Rattle.stun_types_wire.specs.Attributes.{kind_at};
 ghost use Rattle.stun_types_wire.specs.Types.{class_of};
@@ -36,8 +37,9 @@ impl LongTermServerAuth {
     /// validated is no user any more. Else the attributes are taken one after another, and the first
     /// cause counts: of a text `TooLarge`, for more than 513 bytes of a name or 763 of a realm or a
     /// nonce, and then the causes of `add_attribute`; of the integrity attribute those of
-    /// `add_message_integrity`. Where memory is refused, and nothing else is, `NoMemory`. A refusal
-    /// drops the writer. The server is as it was in each case.
+    /// `add_message_integrity`. Where memory is refused, and nothing else is, `NoMemory`, which a
+    /// writer with a greatest size never answers. A refusal drops the writer. The server is as it was
+    /// in each case.
     pub fn sign_outgoing_message<W: MessageWrite + Drop>(
         &self,
         writer: W,
@@ -50,9 +52,10 @@ impl LongTermServerAuth {
         ensures cause { RefusesFor StunWriteError.NoMemory (addition_refusal
             (addition_for self.now to (class_of (kind_at (W.draft writer).bytes)))
             (W.draft writer)) result }
+        ensures lent { IsSome (W.draft writer).limit → result ≢ Err StunWriteError.NoMemory }
     {
         match self.addressee(to) {
-            Some(addressee) => sign_outgoing(self.alloc(), writer, &addressee),
+            Some(addressee) => sign_outgoing(writer, &addressee),
             None => Err(StunWriteError::IntegrityFailed),
         }
     }
@@ -68,14 +71,16 @@ impl LongTermServerAuth {
         requires accepted { addition_refusal
             (addition_for self.now to (class_of (kind_at (W.draft writer).bytes)))
             (W.draft writer) ≡ None }
-        ensures { IfOk result (λ signed. IsMade
+        ensures ok { IfOk result (λ signed. IsMade
             (addition_for self.now to (class_of (kind_at (W.draft writer).bytes)))
             (W.draft writer) (W.draft signed)) }
+        ensures lent { IsSome (W.draft writer).limit → IsOk result }
     {
         match self.sign_outgoing_message(writer, to) {
             Ok(signed) => Ok(signed),
-            // What is required leaves want of memory alone.
-            Err(_) => Err(NoMemory),
+            Err(StunWriteError::NoMemory) => Err(NoMemory),
+            // What is required leaves no other cause.
+            Err(_) => unreachable!(),
         }
     }
 

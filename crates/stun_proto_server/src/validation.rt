@@ -4,9 +4,9 @@ ghost use Rattle.std.specs.Prelude.{◌≡◌, ◌≢◌, ℕ, List, None, IfOk,
 ghost use Rattle.std.specs.declared.net.socket_addr.SocketAddr.{SocketAddr};
 ghost use Rattle.stun_types_wire.specs.declared.algorithm.IntegrityAlgorithm.{IntegrityAlgorithm as Algorithm};
 ghost use Rattle.stun_types_base.specs.Words.{stream_after};
-ghost use Rattle.stun_proto_judge.specs.Judgement.{IsRefused, is_response};
+ghost use Rattle.stun_proto_judge.specs.Judgement.{IsAccepted, IsRefused, is_response};
 ghost use Rattle.stun_proto_server.specs.Server.{SameFor, refreshed, with_outcome};
-ghost use Rattle.stun_proto_server.specs.Validation.{Accepts, IsAfterNoMemory, IsValidated, after_refusal, known_of, words_of_validation};
+ghost use Rattle.stun_proto_server.specs.Validation.{Accepts, IsAfterNoMemory, IsValidated, WantsMemory, after_refusal, known_of, words_of_validation};
 
 use crate::long_term::LongTermServerAuth;
 use rand_core::Rng;
@@ -39,8 +39,9 @@ impl LongTermServerAuth {
     /// kind of attribute the last one shown decides, and a malformed one is as if there were none.
     ///
     /// The outcome is kept for the address: after a validation the user and the algorithm, after a
-    /// refusal none. Where memory is refused, with `NoMemory`, the server is as it was, or has the
-    /// nonce that was drawn and no outcome for the address.
+    /// refusal none. Memory is asked for where a nonce is due, and where the message is accepted. Where
+    /// it is refused, with `NoMemory`, the server is as it was, or has the nonce that was drawn and no
+    /// outcome for the address.
     pub fn validate_incoming_message<R: Rng>(
         &mut self,
         message: &Message<'_>,
@@ -51,7 +52,8 @@ impl LongTermServerAuth {
         ensures valid { IfOk result (λ answer. IsValidated
             (refreshed self.old from now (R.stream rng.old)) from message.now answer self.new) }
         ensures accepted { (algorithm : Algorithm) (name : List ℕ)
-            → Accepts (refreshed self.old from now (R.stream rng.old)) from message.now algorithm name
+            → Accepts (refreshed self.old from now (R.stream rng.old)) from message.now
+            algorithm name
             → MatchResult result
             (λ answer. answer ≡ LongTermServerValidation.Validated algorithm)
             (λ error. error ≡ LongTermServerAuthError.NoMemory) }
@@ -60,9 +62,9 @@ impl LongTermServerAuth {
             → IsRefused (known_of (refreshed self.old from now (R.stream rng.old)) from message.now)
             message.now error
             × (self.new ≡ after_refusal self.old from message.now now (R.stream rng.old))) }
-        // Memory is wanted for no response.
+        // Memory is wanted for a nonce that is due, or to keep the user of a message that is accepted.
         ensures memory { IfErr result (λ error. error ≡ LongTermServerAuthError.NoMemory
-            → (is_response message.now ≡ false)
+            → WantsMemory self.old from message.now now (R.stream rng.old)
             × IsAfterNoMemory self.old from now (R.stream rng.old) self.new) }
         ensures stream { R.stream rng.new ≡ stream_after
             (words_of_validation self.old from message.now now) (R.stream rng.old) }
@@ -89,8 +91,9 @@ impl LongTermServerAuth {
             → IsRefused (known_of self.old from message.now) message.now error) }
         ensures forgotten { IfErr result (λ error. error ≢ LongTermServerAuthError.NoMemory
             → self.new ≡ with_outcome self.old from None) }
-        ensures memory { IfErr result (λ error. error ≡ LongTermServerAuthError.NoMemory → self.new
-            ≡ self.old) }
+        ensures memory { IfErr result (λ error. error ≡ LongTermServerAuthError.NoMemory
+            → IsAccepted (known_of self.old from message.now) message.now
+            × (self.new ≡ self.old)) }
         ensures others { (other : SocketAddr) → other ≢ from → SameFor other self.old self.new }
     {
         match self.judge(message, from) {
@@ -119,6 +122,8 @@ impl LongTermServerAuth {
             Accepts self.now from message.now user.algorithm user.name) }
         ensures refused { IfErr result (λ error. error ≢ LongTermServerAuthError.NoMemory
             → IsRefused (known_of self.now from message.now) message.now error) }
+        ensures memory { IfErr result (λ error. error ≡ LongTermServerAuthError.NoMemory
+            → IsAccepted (known_of self.now from message.now) message.now) }
     {
         let claim = Claim::of(message);
         let known = Known::new(

@@ -1,5 +1,6 @@
 -- The steps of an addition, one after another.
-use Rattle.std.proofs.Common.{◌≡◌, ℕ, List, [], ◌∷◌, ◌++◌, Option, Some, None, refl, sym, ap, ◌∙◌}
+use Rattle.std.proofs.Common.{◌≡◌, ℕ, List, [], ◌∷◌, ◌++◌, Option, Some, None, refl, sym, ap, ◌∙◌, subst}
+use Rattle.std.specs.Prelude.{IsSome}
 use Rattle.std.specs.Option.{option_or}
 use Rattle.stun_types_base.specs.Refusals.{IsCause}
 use Rattle.stun_types_wire.specs.declared.error.StunWriteError.{StunWriteError}
@@ -66,6 +67,15 @@ all_added t rest old middle new first more = record {
 pub none_added : (draft : Draft) → IsBegun draft.bytes → AreAdded [] draft draft
 unfolding after_calls
 none_added draft begun = record { is = refl; begun = begun }
+
+after_limit : (texts : List TextOf) (draft : Draft) → (after_calls (calls_of_texts texts) draft).limit ≡ draft.limit
+unfolding after_calls
+after_limit [] draft = refl
+after_limit (t ∷ rest) draft = after_limit rest (added (attr_of_text t) draft)
+
+-- texts leave the room that there is in all
+pub kept_limit : (texts : List TextOf) (old new : Draft) → AreAdded texts old new → IsSome old.limit → IsSome new.limit
+kept_limit texts old new more has = subst (λ (l : Option ℕ). IsSome l) (sym (ap (λ (d : Draft). d.limit) more.is ∙ after_limit texts old)) has
 
 -- texts were added, and the message was not signed
 pub unsigned : (texts : List TextOf) (old new : Draft) → addition_refusal (Some (record { texts = texts; signer = None })) old ≡ None → AreAdded texts old new → IsMade (Some (record { texts = texts; signer = None })) old new

@@ -1,6 +1,7 @@
 -- What the steps of an addition find, and what they leave of a message.
-use Rattle.std.specs.Prelude.{◌≡◌, ◌≢◌, ℕ, ◌+◌, ◌≤◌, List, Option, Some, None}
+use Rattle.std.specs.Prelude.{◌≡◌, ℕ, ◌+◌, ◌≤◌, List, Option, Some, None}
 use Rattle.std.specs.Option.{option_or}
+use Rattle.stun_types_base.specs.Refusals.{IsNamed as IsNamedBut}
 use Rattle.stun_types_wire.specs.declared.algorithm.IntegrityAlgorithm.{IntegrityAlgorithm}
 use Rattle.stun_types_wire.specs.declared.error.StunWriteError.{StunWriteError}
 use Rattle.stun_types_wire.specs.declared.error.StunWriteError.TheVariants.{NoMemory}
@@ -35,9 +36,8 @@ pub record TextsFit (draft : Draft) (texts : List TextOf) (size : ℕ) : Type 0 
   pub short : size ≤ greatest_size
 
 -- the cause of a refusal, which is not want of memory
-pub record IsNamed (refusal : Option StunWriteError) (error : StunWriteError) : Type 0 where
-  pub cause : refusal ≡ Some error
-  pub named : error ≢ NoMemory
+abbrev pub IsNamed : Option StunWriteError → StunWriteError → Type 0
+IsNamed = IsNamedBut NoMemory
 
 -- ---- what is left
 

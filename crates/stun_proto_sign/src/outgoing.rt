@@ -1,6 +1,6 @@
 //! What goes out is signed.
 
-ghost use Rattle.std.specs.Prelude.{IfOk, OnOk, Some};
+ghost use Rattle.std.specs.Prelude.{◌≢◌, Err, IfOk, IsSome, OnOk, Some};
 ghost use Rattle.stun_types_base.specs.Refusals.{RefusesFor};
 ghost use Rattle.stun_types_wire.specs.Attributes.{kind_at};
 ghost use Rattle.stun_types_wire.specs.Types.{class_of};
@@ -13,7 +13,6 @@ use crate::addressee::{Addressee, SigningUser};
 use crate::integrity::add_integrity;
 use crate::room::{challenge_fits, claim_fits, signature_fits};
 use crate::texts::{add_challenge, add_claim};
-use std::alloc::Global;
 use stun_types_build::ext::MessageWriteExt;
 use stun_types_wire::class::MessageClass;
 use stun_types_wire::error::StunWriteError;
@@ -30,9 +29,9 @@ use stun_types_write::writer::MessageWrite;
 /// `TooLarge` where it has more bytes than its attribute may (513 for USERNAME, 763 for REALM and
 /// NONCE), and then the causes of `add_attribute`; of the integrity attribute those of
 /// `add_message_integrity`. Where there is no such cause, and memory is refused, `NoMemory`: all
-/// other causes are looked for before anything is added. A refusal drops the writer.
+/// other causes are looked for before anything is added, and a writer with a greatest size never answers
+/// `NoMemory`. A refusal drops the writer.
 pub fn sign_outgoing<W: MessageWrite + Drop>(
-    alloc: Global,
     writer: W,
     to: &Addressee<'_>,
 ) -> Result<W, StunWriteError>
@@ -42,16 +41,16 @@ pub fn sign_outgoing<W: MessageWrite + Drop>(
         (W.draft writer) (W.draft signed)) }
     ensures cause { RefusesFor StunWriteError.NoMemory (addition_refusal
         (addition to.now (class_of (kind_at (W.draft writer).bytes))) (W.draft writer)) result }
+    ensures lent { IsSome (W.draft writer).limit → result ≢ Err StunWriteError.NoMemory }
 {
     let mut writer = writer;
     let class = writer.class();
-    add_for(alloc, &mut writer, to, class)?;
+    add_for(&mut writer, to, class)?;
     Ok(writer)
 }
 
 /// Adds what a message of a class gets for its addressee. Refused as `sign_outgoing` is.
 fn add_for<W: MessageWrite>(
-    alloc: Global,
     writer: &mut W,
     to: &Addressee<'_>,
     class: MessageClass,
@@ -63,9 +62,10 @@ fn add_for<W: MessageWrite>(
     ensures cause { RefusesFor StunWriteError.NoMemory (addition_refusal
         (addition to.now class)
         (W.draft writer.old)) result }
+    ensures lent { IsSome (W.draft writer.old).limit → result ≢ Err StunWriteError.NoMemory }
 {
     match to.user() {
-        Some(user) => add_for_user(alloc, writer, to, user, class),
+        Some(user) => add_for_user(writer, to, user, class),
         None => add_unvalidated(writer, to, class),
     }
 }
@@ -73,7 +73,6 @@ fn add_for<W: MessageWrite>(
 /// Adds what a message of a class gets where its addressee was validated.
 #[tactic(auto, using(crate::proofs::Made::nothing), unfolding(crate::specs::Addition::texts_refusal))]
 fn add_for_user<W: MessageWrite>(
-    alloc: Global,
     writer: &mut W,
     to: &Addressee<'_>,
     user: &SigningUser<'_>,
@@ -86,17 +85,17 @@ fn add_for_user<W: MessageWrite>(
     ensures cause { RefusesFor StunWriteError.NoMemory (addition_refusal
         (Some (addition_for_user to.now.realm to.now.nonce user.now class))
         (W.draft writer.old)) result }
+    ensures lent { IsSome (W.draft writer.old).limit → result ≢ Err StunWriteError.NoMemory }
 {
     match class {
-        MessageClass::Request => add_to_request(alloc, writer, to, user),
+        MessageClass::Request => add_to_request(writer, to, user),
         MessageClass::Indication => Ok(()),
-        MessageClass::Success | MessageClass::Error => add_to_response(alloc, writer, to, user),
+        MessageClass::Success | MessageClass::Error => add_to_response(writer, to, user),
     }
 }
 
 /// Adds what a request gets where its addressee was validated.
 fn add_to_request<W: MessageWrite>(
-    alloc: Global,
     writer: &mut W,
     to: &Addressee<'_>,
     user: &SigningUser<'_>,
@@ -108,17 +107,17 @@ fn add_to_request<W: MessageWrite>(
     ensures cause { RefusesFor StunWriteError.NoMemory (addition_refusal
         (Some (addition_for_user to.now.realm to.now.nonce user.now Request))
         (W.draft writer.old)) result }
+    ensures lent { IsSome (W.draft writer.old).limit → result ≢ Err StunWriteError.NoMemory }
 {
     let size = claim_fits(&*writer, user.name(), to.realm(), to.nonce())?;
     signature_fits(&*writer, size, user.algorithm())?;
     add_claim(writer, user.name(), to.realm(), to.nonce())?;
-    add_integrity(alloc, writer, to.realm(), user)?;
+    add_integrity(writer, to.realm(), user)?;
     Ok(())
 }
 
 /// Adds what a response gets where its addressee was validated.
 fn add_to_response<W: MessageWrite>(
-    alloc: Global,
     writer: &mut W,
     to: &Addressee<'_>,
     user: &SigningUser<'_>,
@@ -130,9 +129,10 @@ fn add_to_response<W: MessageWrite>(
     ensures cause { RefusesFor StunWriteError.NoMemory (addition_refusal
         (Some (addition_for_user to.now.realm to.now.nonce user.now Success))
         (W.draft writer.old)) result }
+    ensures lent { IsSome (W.draft writer.old).limit → result ≢ Err StunWriteError.NoMemory }
 {
     signature_fits(&*writer, 0, user.algorithm())?;
-    add_integrity(alloc, writer, to.realm(), user)?;
+    add_integrity(writer, to.realm(), user)?;
     Ok(())
 }
 
@@ -149,6 +149,7 @@ fn add_unvalidated<W: MessageWrite>(
     ensures cause { RefusesFor StunWriteError.NoMemory (addition_refusal
         (addition_unvalidated to.now.realm to.now.nonce class)
         (W.draft writer.old)) result }
+    ensures lent { IsSome (W.draft writer.old).limit → result ≢ Err StunWriteError.NoMemory }
 {
     match class {
         MessageClass::Error => add_to_challenge(writer, to),
@@ -170,6 +171,7 @@ fn add_to_challenge<W: MessageWrite>(
     ensures cause { RefusesFor StunWriteError.NoMemory (addition_refusal
         (addition_unvalidated to.now.realm to.now.nonce Error)
         (W.draft writer.old)) result }
+    ensures lent { IsSome (W.draft writer.old).limit → result ≢ Err StunWriteError.NoMemory }
 {
     challenge_fits(&*writer, to.realm(), to.nonce())?;
     add_challenge(writer, to.realm(), to.nonce())?;

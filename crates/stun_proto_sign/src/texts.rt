@@ -1,6 +1,6 @@
 //! USERNAME, REALM and NONCE, added to a message.
 
-ghost use Rattle.std.specs.Prelude.{◌≡◌, ◌≤◌, ◌∷◌, [], length, None, OnOk};
+ghost use Rattle.std.specs.Prelude.{◌≡◌, ◌≢◌, ◌≤◌, ◌∷◌, [], length, Err, IsSome, None, OnOk};
 ghost use Rattle.stun_types_base.specs.Refusals.{RefusesFor};
 ghost use Rattle.stun_types_attribute.specs.Texts.{longest_text};
 ghost use Rattle.stun_types_write.specs.Adding.{IsBegun};
@@ -96,6 +96,7 @@ impl<'a> BorrowedText<'a> {
         ensures ok { OnOk result (IsAdded (attr_of_text self.now)
             (W.draft writer.old) (W.draft writer.new)) }
         ensures memory { RefusesFor StunWriteError.NoMemory None result }
+        ensures lent { IsSome (W.draft writer.old).limit → result ≢ Err StunWriteError.NoMemory }
     {
         let raw = RawAttribute::new(self.atype, self.text.as_bytes());
         add_as(writer, &raw, &raw)
@@ -114,6 +115,7 @@ pub(crate) fn add_challenge<W: MessageWrite>(
     ensures ok { OnOk result (AreAdded (realm_of realm.now ∷ nonce_of nonce.now ∷ [])
         (W.draft writer.old) (W.draft writer.new)) }
     ensures memory { RefusesFor StunWriteError.NoMemory None result }
+    ensures lent { IsSome (W.draft writer.old).limit → result ≢ Err StunWriteError.NoMemory }
 {
     BorrowedText::realm(realm).add_to(writer)?;
     BorrowedText::nonce(nonce).add_to(writer)?;
@@ -134,6 +136,7 @@ pub(crate) fn add_claim<W: MessageWrite>(
         (username_of name.now ∷ realm_of realm.now ∷ nonce_of nonce.now ∷ [])
         (W.draft writer.old) (W.draft writer.new)) }
     ensures memory { RefusesFor StunWriteError.NoMemory None result }
+    ensures lent { IsSome (W.draft writer.old).limit → result ≢ Err StunWriteError.NoMemory }
 {
     BorrowedText::username(name).add_to(writer)?;
     add_challenge(writer, realm, nonce)?;

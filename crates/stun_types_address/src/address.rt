@@ -184,7 +184,8 @@ impl XorSocketAddr {
     pub fn xor_addr(addr: SocketAddr, number: TransactionId) -> SocketAddr
         ensures told { Some result ≡ address_of (xored number (address_value addr)) }
         ensures value { address_value result ≡ xored number (address_value addr) }
-        ensures undone { address_of (xored number (address_value result)) ≡ Some (on_the_wire addr) }
+        ensures undone { address_of (xored number (address_value result))
+            ≡ Some (on_the_wire addr) }
     {
         value_is_told(addr);
         xor_is_undone(addr, number);

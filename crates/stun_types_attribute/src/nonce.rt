@@ -87,6 +87,10 @@ impl Attribute for Nonce {
 }
 
 impl AttributeWrite for Nonce {
+    ghost use Rattle.std.specs.Prelude.{false};
+
+    ghost giving_takes_memory = { false };
+
     fn write_into_unchecked(&self, dest: &mut [u8]) {
         write_attribute(Nonce::TYPE, self.nonce().as_bytes(), dest);
     }

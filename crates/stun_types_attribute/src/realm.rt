@@ -87,6 +87,10 @@ impl Attribute for Realm {
 }
 
 impl AttributeWrite for Realm {
+    ghost use Rattle.std.specs.Prelude.{false};
+
+    ghost giving_takes_memory = { false };
+
     fn write_into_unchecked(&self, dest: &mut [u8]) {
         write_attribute(Realm::TYPE, self.realm().as_bytes(), dest);
     }

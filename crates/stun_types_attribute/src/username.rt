@@ -86,6 +86,10 @@ impl Attribute for Username {
 }
 
 impl AttributeWrite for Username {
+    ghost use Rattle.std.specs.Prelude.{false};
+
+    ghost giving_takes_memory = { false };
+
     fn write_into_unchecked(&self, dest: &mut [u8]) {
         write_attribute(Username::TYPE, self.username().as_bytes(), dest);
     }

@@ -104,11 +104,14 @@ impl<'a, 'raw> TryFrom<&'raw RawAttribute<'a>> for XorMappedAddress {
 
 /// Refused as `try_from` is; no memory is taken.
 impl<'a> AttributeFromRaw<'a> for XorMappedAddress {
+    ghost use Rattle.std.specs.Prelude.{false};
     ghost use Rattle.stun_types_address.specs.Addresses.{address_again, address_read_refusal};
 
     ghost read_refusal = { address_read_refusal 0x0020 };
 
     ghost read_value = { address_again };
+
+    ghost reading_takes_memory = { false };
 
     fn from_raw_ref(
         _alloc: Global,

@@ -1,5 +1,4 @@
 pub mod Added
 pub mod Adds
 pub mod Begun
-pub mod Refused
 pub mod Taken

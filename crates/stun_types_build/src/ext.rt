@@ -13,10 +13,8 @@ ghost use Rattle.stun_types_integrity.specs.Keys.{key_of};
 ghost use Rattle.stun_types_integrity.specs.Signing.{signature, signing_refusal};
 
 use crate::fingerprint::mark;
-use crate::room::{end_of_add, may_sign};
+use crate::room::end_of_add;
 use crate::signing::sign;
-use std::alloc::Global;
-use stun_types_integrity::algorithm::hmac_length;
 use stun_types_integrity::credentials::MessageIntegrityCredentials;
 use stun_types_integrity::key::IntegrityKey;
 use stun_types_wire::algorithm::IntegrityAlgorithm;
@@ -87,7 +85,7 @@ pub trait MessageWriteExt: MessageWrite {
     /// add changes nothing.
     fn add_message_integrity_with_key(
         &mut self,
-        key: &IntegrityKey,
+        key: &IntegrityKey<'_>,
         algorithm: IntegrityAlgorithm,
     ) -> Result<(), StunWriteError>
         requires begun { IsBegun (Self.draft self.old).bytes }
@@ -100,10 +98,9 @@ pub trait MessageWriteExt: MessageWrite {
         ensures lent { IsSome (Self.draft self.old).limit → result ≢ Err StunWriteError.NoMemory };
 
     /// The same, under the key that credentials make for the algorithm. It is never refused with
-    /// `IntegrityFailed`; making the key may take memory, whatever the writer.
+    /// `IntegrityFailed`.
     fn add_message_integrity(
         &mut self,
-        alloc: Global,
         credentials: &MessageIntegrityCredentials,
         algorithm: IntegrityAlgorithm,
     ) -> Result<(), StunWriteError>
@@ -114,7 +111,8 @@ pub trait MessageWriteExt: MessageWrite {
             (Self.draft self.old) (Self.draft self.new)) }
         ensures err { OnErr result (Self.draft self.new ≡ Self.draft self.old) }
         ensures cause { RefusesFor StunWriteError.NoMemory
-            (signing_refusal (Self.draft self.old) algorithm algorithm) result };
+            (signing_refusal (Self.draft self.old) algorithm algorithm) result }
+        ensures lent { IsSome (Self.draft self.old).limit → result ≢ Err StunWriteError.NoMemory };
 
     /// Adds the FINGERPRINT of all that is written: its CRC-32, combined with `STUN` (RFC 8489, section
     /// 14.7). Nothing can be added behind it. Refused, in this order: `FingerprintExists`; `TooLarge`,
@@ -175,22 +173,19 @@ impl<W: MessageWrite> MessageWriteExt for W {
 
     fn add_message_integrity_with_key(
         &mut self,
-        key: &IntegrityKey,
+        key: &IntegrityKey<'_>,
         algorithm: IntegrityAlgorithm,
     ) -> Result<(), StunWriteError> {
         sign(self, key, algorithm)
     }
 
-    #[tactic(auto, unfolding(stun_types_integrity::specs::Signing::signing_refusal), using(crate::proofs::Refused::key_for, crate::proofs::Refused::order_first, crate::proofs::Refused::own_key))]
+    #[tactic(auto, using(stun_types_integrity::proofs::Keys::key_for))]
     fn add_message_integrity(
         &mut self,
-        alloc: Global,
         credentials: &MessageIntegrityCredentials,
         algorithm: IntegrityAlgorithm,
     ) -> Result<(), StunWriteError> {
-        may_sign(self.ended(), algorithm)?;
-        end_of_add(&*self, 4 + hmac_length(algorithm))?;
-        let key = credentials.make_key(alloc, algorithm)?;
+        let key = credentials.make_key(algorithm);
         sign(self, &key, algorithm)
     }
 

@@ -28,7 +28,7 @@ use stun_types_write::writer::MessageWrite;
 #[tactic(auto, unfolding(stun_types_integrity::specs::Signing::signing_refusal), using(crate::proofs::Adds::long_enough))]
 pub(crate) fn sign<W: MessageWrite>(
     writer: &mut W,
-    key: &IntegrityKey,
+    key: &IntegrityKey<'_>,
     algorithm: IntegrityAlgorithm,
 ) -> Result<(), StunWriteError>
     requires begun { IsBegun (W.draft writer.old).bytes }
@@ -54,7 +54,7 @@ pub(crate) fn sign<W: MessageWrite>(
 
 /// The HMAC of a message under a key, as if its header told this length.
 #[tactic(auto, unfolding(stun_types_wire::specs::Covered::with_length))]
-fn hmac_told(bytes: &[u8], len: u16, key: &IntegrityKey) -> IntegrityHmac
+fn hmac_told(bytes: &[u8], len: u16, key: &IntegrityKey<'_>) -> IntegrityHmac
     requires { 20 ≤ length bytes.now }
     ensures bytes { hmac_bytes result
         ≡ integrity_hmac key.now.algorithm key.now.bytes (with_length bytes.now len) }

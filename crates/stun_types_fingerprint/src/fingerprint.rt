@@ -173,11 +173,14 @@ impl<'a, 'raw> TryFrom<&'raw RawAttribute<'a>> for Fingerprint {
 
 /// Refused as `try_from` is; no memory is taken.
 impl<'a> AttributeFromRaw<'a> for Fingerprint {
+    ghost use Rattle.std.specs.Prelude.{false};
     ghost use Rattle.stun_types_write.specs.Reading.{value_refusal};
 
     ghost read_refusal = { value_refusal 0x8028 4 4 };
 
     ghost read_value = { λ value. value };
+
+    ghost reading_takes_memory = { false };
 
     fn from_raw_ref(_alloc: Global, raw: &RawAttribute<'_>) -> Result<Fingerprint, StunParseError> {
         let crc = crc_of(raw)?;

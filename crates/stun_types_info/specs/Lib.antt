@@ -1,2 +1,3 @@
+pub mod Marks
 pub mod Texts
 pub mod Types

@@ -88,6 +88,10 @@ impl Attribute for AlternateDomain {
 }
 
 impl AttributeWrite for AlternateDomain {
+    ghost use Rattle.std.specs.Prelude.{false};
+
+    ghost giving_takes_memory = { false };
+
     fn write_into_unchecked(&self, dest: &mut [u8]) {
         write_attribute(AlternateDomain::TYPE, self.domain().as_bytes(), dest);
     }

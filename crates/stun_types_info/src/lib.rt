@@ -5,4 +5,5 @@
 pub mod alternate_domain;
 pub mod alternate_server;
 pub mod software;
+mod type_index;
 pub mod unknown_attributes;

@@ -88,6 +88,10 @@ impl Attribute for Software {
 }
 
 impl AttributeWrite for Software {
+    ghost use Rattle.std.specs.Prelude.{false};
+
+    ghost giving_takes_memory = { false };
+
     fn write_into_unchecked(&self, dest: &mut [u8]) {
         write_attribute(Software::TYPE, self.software().as_bytes(), dest);
     }

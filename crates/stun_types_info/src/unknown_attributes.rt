@@ -1,12 +1,15 @@
 //! UNKNOWN-ATTRIBUTES (RFC 8489, section 14.13).
 
-ghost use Rattle.std.specs.Prelude.{◌≡◌, ◌+◌, ◌*◌, ◌%◌, ◌≤◌, ◌++◌, ◌∷◌, [], IfOk, OnOk, OnErr, MatchResult, None, Some, length, map};
+ghost use Rattle.std.specs.Prelude.{◌≡◌, ℕ, List, ◌+◌, ◌*◌, ◌%◌, ◌≤◌, ◌++◌, ◌∷◌, [], IfOk, OnOk, OnErr, MatchResult, None, Some, is_some, length, map};
 ghost use Rattle.stun_types_base.specs.Refusals.{RefusesFor};
 ghost use Rattle.stun_types_write.specs.Reading.{IsNamed};
 ghost use Rattle.stun_types_write.specs.Adding.{has_kind};
+ghost use Rattle.stun_types_info.specs.Marks.{IsIndexed};
 ghost use Rattle.stun_types_info.specs.Types.{longest_value, types_read_refusal, types_refusal, types_told, types_value, with_type};
 
+use crate::type_index::TypeIndex;
 use std::alloc::Global;
+use std::fmt;
 use std::marker::Model;
 use stun_types_base::memory::NoMemory;
 use stun_types_wire::attribute::{AttributeType, RawAttribute};
@@ -19,13 +22,16 @@ use stun_types_write::text::write_attribute;
 
 /// The types of attributes that a server had to understand and did not (RFC 8489, section 14.13): as
 /// many as a value of 65,535 bytes holds, at two bytes each. Contracts see the list of their numbers.
-#[derive(Debug, Drop)]
+#[derive(Drop)]
 pub struct UnknownAttributes {
     bytes: Vec<u8>,
+    // an index of the types that the bytes tell, made when one is added to many
+    index: Option<TypeIndex>,
 }
 
 impl Model for UnknownAttributes {
     ghost use Rattle.std.specs.Prelude.{◌≡◌, ℕ, ◌%◌, ◌≤◌, List, length};
+    ghost use Rattle.stun_types_info.specs.Marks.{IsIndexed};
     ghost use Rattle.stun_types_info.specs.Types.{longest_value, types_told};
 
     ghost Value = { List ℕ };
@@ -33,8 +39,12 @@ impl Model for UnknownAttributes {
     ghost view = { λ a. types_told a.bytes.items };
 
     ghost invariant = { λ a. (length a.bytes.items % 2 ≡ 0)
-        × (length a.bytes.items ≤ longest_value) };
+        × (length a.bytes.items ≤ longest_value)
+        × IsIndexed a.index (types_told a.bytes.items) };
 }
+
+/// From how many bytes of the value on an index is made, when a type is added: those of 32 types.
+const INDEXED_LEN: usize = 64;
 
 impl UnknownAttributes {
     /// How many bytes the value has at most.
@@ -57,19 +67,23 @@ impl UnknownAttributes {
             });
         }
         let bytes = bytes_of(alloc, types)?;
-        Ok(UnknownAttributes { bytes })
+        Ok(UnknownAttributes { bytes, index: None })
     }
 
     /// Whether a type is among them.
     pub fn has_attribute(&self, atype: AttributeType) -> bool
         ensures { result ≡ has_kind atype.0 self.now }
     {
-        tells_type(self.bytes.as_slice(), atype)
+        match &self.index {
+            Some(index) => index.has(atype),
+            None => tells_type(self.bytes.as_slice(), atype),
+        }
     }
 
     /// Adds a type at the end, if it is not there. Refused with `TooLarge` where the value would then
     /// have more than 65,535 bytes; where memory is refused, with `NoMemory`. Either refusal leaves
-    /// the types as they were.
+    /// the types as they were. Once there are many, a type is looked up in an index, and no longer by
+    /// going over all; where memory for the index is refused, they are gone over as before.
     #[tactic(auto, using(crate::proofs::TypeLists::told_length))]
     pub fn add_attribute(&mut self, atype: AttributeType) -> Result<(), StunWriteError>
         ensures added { OnOk result (self.new ≡ with_type atype.0 self.old) }
@@ -77,6 +91,7 @@ impl UnknownAttributes {
             (types_refusal (length (with_type atype.0 self.old))) result }
         ensures unchanged { OnErr result (self.new ≡ self.old) }
     {
+        self.index_types();
         if self.has_attribute(atype) {
             return Ok(());
         }
@@ -88,7 +103,17 @@ impl UnknownAttributes {
             });
         }
         push_type(&mut self.bytes, atype)?;
+        mark_type(&mut self.index, atype);
         Ok(())
+    }
+
+    /// Makes the index, if there are types enough for one. Where memory is refused there is none.
+    fn index_types(&mut self)
+        ensures { self.new ≡ self.old }
+    {
+        if self.index.is_none() && INDEXED_LEN <= self.bytes.len() {
+            self.index = index_of(*self.bytes.allocator(), self.bytes.as_slice()).ok();
+        }
     }
 
     /// The bytes of the value.
@@ -102,6 +127,15 @@ impl UnknownAttributes {
     {
         types_are_told(self.bytes.as_slice());
         self.bytes.as_slice()
+    }
+}
+
+impl fmt::Debug for UnknownAttributes {
+    /// Shows the bytes of the value, and nothing of how types are looked up in it.
+    fn fmt<W: fmt::Write>(&self, f: &mut fmt::Formatter<W>) -> fmt::Result {
+        f.debug_struct("UnknownAttributes")
+            .field("bytes", &self.bytes)
+            .finish()
     }
 }
 
@@ -128,6 +162,10 @@ impl Attribute for UnknownAttributes {
 }
 
 impl AttributeWrite for UnknownAttributes {
+    ghost use Rattle.std.specs.Prelude.{false};
+
+    ghost giving_takes_memory = { false };
+
     fn write_into_unchecked(&self, dest: &mut [u8]) {
         write_attribute(UnknownAttributes::TYPE, self.value(), dest);
     }
@@ -154,6 +192,7 @@ impl<'a> AttributeFromRaw<'a> for UnknownAttributes {
         let value = even_value_of(raw)?;
         Ok(UnknownAttributes {
             bytes: Vec::from_slice(alloc, value)?,
+            index: None,
         })
     }
 
@@ -215,6 +254,30 @@ fn push_type(bytes: &mut Vec<u8>, atype: AttributeType) -> Result<(), NoMemory>
 {
     bytes.extend_from_slice(&atype.value().to_be_bytes())?;
     Ok(())
+}
+
+/// An index of the types that a value tells. Where memory is refused, `NoMemory`.
+fn index_of(alloc: Global, bytes: &[u8]) -> Result<TypeIndex, NoMemory>
+    ensures { IfOk result (λ index. IsIndexed (Some index) (types_told bytes.now)) }
+{
+    let mut index = TypeIndex::new(alloc)?;
+    let mut left = bytes;
+    while let Some((pair, rest)) = left.split_first_chunk::<2>() {
+        index.mark(AttributeType(u16::from_be_bytes(*pair)));
+        left = rest;
+    }
+    Ok(index)
+}
+
+/// Marks one type more in an index, if there is one.
+fn mark_type(index: &mut Option<TypeIndex>, atype: AttributeType)
+    ensures marked { (kinds : List ℕ) → IsIndexed index.old kinds
+        → IsIndexed index.new (kinds ++ atype.0 ∷ []) }
+    ensures kept { is_some index.new ≡ is_some index.old }
+{
+    if let Some(index) = index {
+        index.mark(atype);
+    }
 }
 
 /// Whether a value tells a type.

@@ -1,2 +1,3 @@
 pub mod Fronts
+pub mod Keys
 pub mod Sha256Values

@@ -129,22 +129,11 @@ impl LongTermKeyCredentials {
     }
 
     /// The key for an algorithm: a digest of name, realm and password with colons between them, MD5
-    /// for `Sha1` and SHA-256 for `Sha256` (RFC 8489, sections 9.2.2 and 18.5.1). Where memory is
-    /// refused, `NoMemory`.
-    pub fn make_key(
-        &self,
-        alloc: Global,
-        algorithm: IntegrityAlgorithm,
-    ) -> Result<IntegrityKey, NoMemory>
-        ensures { IfOk result (λ key. key ≡ long_term_key self.now algorithm) }
+    /// for `Sha1` and SHA-256 for `Sha256` (RFC 8489, sections 9.2.2 and 18.5.1).
+    pub fn make_key(&self, algorithm: IntegrityAlgorithm) -> IntegrityKey<'_>
+        ensures { result ≡ long_term_key self.now algorithm }
     {
-        IntegrityKey::long_term(
-            alloc,
-            self.username(),
-            self.realm(),
-            self.password(),
-            algorithm,
-        )
+        IntegrityKey::long_term(self.username(), self.realm(), self.password(), algorithm)
     }
 }
 
@@ -178,16 +167,11 @@ impl ShortTermCredentials {
         self.password.as_str()
     }
 
-    /// The key for an algorithm: the bytes of the password (RFC 8489, section 9.1.1). Where memory
-    /// is refused, `NoMemory`.
-    pub fn make_key(
-        &self,
-        alloc: Global,
-        algorithm: IntegrityAlgorithm,
-    ) -> Result<IntegrityKey, NoMemory>
-        ensures { IfOk result (λ key. key ≡ short_term_key self.now algorithm) }
+    /// The key for an algorithm: the bytes of the password (RFC 8489, section 9.1.1), which it borrows.
+    pub fn make_key(&self, algorithm: IntegrityAlgorithm) -> IntegrityKey<'_>
+        ensures { result ≡ short_term_key self.now algorithm }
     {
-        IntegrityKey::new(alloc, self.password().as_bytes(), algorithm)
+        IntegrityKey::short_term(self.password(), algorithm)
     }
 }
 
@@ -203,21 +187,13 @@ pub enum MessageIntegrityCredentials {
 impl MessageIntegrityCredentials {
     ghost use Rattle.stun_types_integrity.specs.Keys.{key_of};
 
-    /// The key for an algorithm, as the credentials make it. Where memory is refused, `NoMemory`.
-    pub fn make_key(
-        &self,
-        alloc: Global,
-        algorithm: IntegrityAlgorithm,
-    ) -> Result<IntegrityKey, NoMemory>
-        ensures { IfOk result (λ key. key ≡ key_of self.now algorithm) }
+    /// The key for an algorithm, as the credentials make it. It takes no memory.
+    pub fn make_key(&self, algorithm: IntegrityAlgorithm) -> IntegrityKey<'_>
+        ensures { result ≡ key_of self.now algorithm }
     {
         match self {
-            MessageIntegrityCredentials::ShortTerm(credentials) => {
-                credentials.make_key(alloc, algorithm)
-            }
-            MessageIntegrityCredentials::LongTerm(credentials) => {
-                credentials.make_key(alloc, algorithm)
-            }
+            MessageIntegrityCredentials::ShortTerm(credentials) => credentials.make_key(algorithm),
+            MessageIntegrityCredentials::LongTerm(credentials) => credentials.make_key(algorithm),
         }
     }
 }

@@ -132,6 +132,10 @@ impl Attribute for MessageIntegrity {
 }
 
 impl AttributeWrite for MessageIntegrity {
+    ghost use Rattle.std.specs.Prelude.{false};
+
+    ghost giving_takes_memory = { false };
+
     fn write_into_unchecked(&self, dest: &mut [u8]) {
         write_attribute(MessageIntegrity::TYPE, self.hmac(), dest);
     }
@@ -164,11 +168,14 @@ impl<'a, 'raw> TryFrom<&'raw RawAttribute<'a>> for MessageIntegrity {
 
 /// Refused as `try_from` is; no memory is taken.
 impl<'a> AttributeFromRaw<'a> for MessageIntegrity {
+    ghost use Rattle.std.specs.Prelude.{false};
     ghost use Rattle.stun_types_write.specs.Reading.{value_refusal};
 
     ghost read_refusal = { value_refusal 0x0008 20 20 };
 
     ghost read_value = { λ value. value };
+
+    ghost reading_takes_memory = { false };
 
     fn from_raw_ref(
         _alloc: Global,

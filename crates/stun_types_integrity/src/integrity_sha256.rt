@@ -147,6 +147,10 @@ impl Attribute for MessageIntegritySha256 {
 }
 
 impl AttributeWrite for MessageIntegritySha256 {
+    ghost use Rattle.std.specs.Prelude.{false};
+
+    ghost giving_takes_memory = { false };
+
     fn write_into_unchecked(&self, dest: &mut [u8]) {
         write_attribute(MessageIntegritySha256::TYPE, self.hmac(), dest);
     }
@@ -178,11 +182,14 @@ impl<'a, 'raw> TryFrom<&'raw RawAttribute<'a>> for MessageIntegritySha256 {
 
 /// Refused as `try_from` is; no memory is taken.
 impl<'a> AttributeFromRaw<'a> for MessageIntegritySha256 {
+    ghost use Rattle.std.specs.Prelude.{false};
     ghost use Rattle.stun_types_integrity.specs.Sha256Values.{sha256_read_refusal};
 
     ghost read_refusal = { sha256_read_refusal };
 
     ghost read_value = { λ value. value };
+
+    ghost reading_takes_memory = { false };
 
     fn from_raw_ref(
         _alloc: Global,

@@ -1,9 +1,9 @@
 //! Keys of message integrity.
 
-ghost use Rattle.std.specs.Prelude.{◌≡◌, ◌↔◌, ◌++◌, length, IfOk, IsTrue, codes};
+ghost use Rattle.std.specs.Prelude.{◌≡◌, ◌↔◌, ◌++◌, length, IsTrue, codes};
 ghost use Rattle.md5.specs.Md5.{md5};
 ghost use Rattle.sha2.specs.Sha256.{sha256};
-ghost use Rattle.stun_types_integrity.specs.Credentials.{long_term_key};
+ghost use Rattle.stun_types_integrity.specs.Credentials.{long_term_key, short_term_key};
 ghost use Rattle.stun_types_integrity.specs.Hmacs.{hmac_bytes};
 ghost use Rattle.stun_types_integrity.specs.Integrity.{IsFront, integrity_hmac};
 ghost use Rattle.stun_types_integrity.specs.Signing.{hmac_length};
@@ -11,76 +11,81 @@ ghost use Rattle.stun_types_integrity.specs.Signing.{hmac_length};
 use crate::hmac::IntegrityHmac;
 use md5::{Digest, Md5};
 use sha2::Sha256;
-use std::alloc::Global;
 use std::fmt;
 use std::marker::Model;
-use stun_types_base::memory::NoMemory;
 use stun_types_digest::hmac::{BlockDigest, HmacSha1, HmacSha256};
 use stun_types_wire::algorithm::IntegrityAlgorithm;
 
-/// The key of an HMAC, and the algorithm for which it was made. Keys are equal where their bytes
-/// are: the algorithm isn't looked at. Contracts see the bytes and the algorithm.
+/// The bytes of a key: a digest, or the password itself.
 #[derive(Drop)]
-pub struct IntegrityKey {
-    bytes: Vec<u8>,
+enum KeyBytes<'a> {
+    Md5([u8; 16]),
+    Sha256([u8; 32]),
+    Password(&'a str),
+}
+
+/// The key of an HMAC, and the algorithm for which it was made. It holds a digest, or borrows the
+/// password: to make it takes no memory. Keys are equal where their bytes are: the algorithm isn't
+/// looked at. Contracts see the bytes and the algorithm.
+#[derive(Drop)]
+pub struct IntegrityKey<'a> {
+    bytes: KeyBytes<'a>,
     algorithm: IntegrityAlgorithm,
 }
 
-impl Model for IntegrityKey {
+impl<'a> Model for IntegrityKey<'a> {
     ghost use Rattle.stun_types_integrity.specs.Credentials.{Key};
+    ghost use Rattle.stun_types_integrity.specs.KeyBytes.{bytes_of};
 
     ghost Value = { Key };
 
-    ghost view = { λ key. record { bytes = key.bytes.items; algorithm = key.algorithm } };
+    ghost view = { λ key. record { bytes = bytes_of key.bytes; algorithm = key.algorithm } };
 }
 
-impl IntegrityKey {
-    /// The key of these bytes. Where memory is refused, `NoMemory`.
-    pub(crate) fn new(
-        alloc: Global,
-        bytes: &[u8],
-        algorithm: IntegrityAlgorithm,
-    ) -> Result<IntegrityKey, NoMemory>
-        ensures { IfOk result (λ key. key ≡ record { bytes = bytes.now; algorithm = algorithm }) }
+impl<'a> IntegrityKey<'a> {
+    /// The key of a password that counts in one session, for an algorithm: the bytes of the password
+    /// (RFC 8489, section 9.1.1).
+    pub fn short_term(password: &'a str, algorithm: IntegrityAlgorithm) -> IntegrityKey<'a>
+        ensures { result ≡ short_term_key (record { password = password.now }) algorithm }
     {
-        Ok(IntegrityKey {
-            bytes: Vec::from_slice(alloc, bytes)?,
+        IntegrityKey {
+            bytes: KeyBytes::Password(password),
             algorithm,
-        })
+        }
     }
 
     /// The key of a user in a realm, for an algorithm: a digest of name, realm and password with colons
-    /// between them, MD5 for `Sha1` and SHA-256 for `Sha256` (RFC 8489, sections 9.2.2 and 18.5.1).
-    /// The three texts are not copied. Where memory is refused, `NoMemory`.
+    /// between them, MD5 for `Sha1` and SHA-256 for `Sha256` (RFC 8489, sections 9.2.2 and 18.5.1). It
+    /// borrows none of the three texts.
     pub fn long_term(
-        alloc: Global,
         username: &str,
         realm: &str,
         password: &str,
         algorithm: IntegrityAlgorithm,
-    ) -> Result<IntegrityKey, NoMemory>
-        ensures { IfOk result (λ key. key ≡ long_term_key (record {
+    ) -> IntegrityKey<'a>
+        ensures { result ≡ long_term_key (record {
           username = username.now;
           password = password.now;
           realm = realm.now;
-        }) algorithm) }
+        }) algorithm }
     {
         let (name, realm, secret) = (username.as_bytes(), realm.as_bytes(), password.as_bytes());
-        match algorithm {
-            IntegrityAlgorithm::Sha1 => {
-                IntegrityKey::new(alloc, &md5_of_parts(name, realm, secret), algorithm)
-            }
-            IntegrityAlgorithm::Sha256 => {
-                IntegrityKey::new(alloc, &sha256_of_parts(name, realm, secret), algorithm)
-            }
-        }
+        let bytes = match algorithm {
+            IntegrityAlgorithm::Sha1 => KeyBytes::Md5(md5_of_parts(name, realm, secret)),
+            IntegrityAlgorithm::Sha256 => KeyBytes::Sha256(sha256_of_parts(name, realm, secret)),
+        };
+        IntegrityKey { bytes, algorithm }
     }
 
     /// The bytes of the key.
     pub(crate) fn bytes(&self) -> &[u8]
         ensures { result.now ≡ self.now.bytes }
     {
-        self.bytes.as_slice()
+        match &self.bytes {
+            KeyBytes::Md5(digest) => digest,
+            KeyBytes::Sha256(digest) => digest,
+            KeyBytes::Password(password) => password.as_bytes(),
+        }
     }
 
     /// The algorithm for which the key was made.
@@ -126,7 +131,7 @@ fn is_front(front: &[u8], whole: &[u8]) -> bool
     whole.starts_with(front)
 }
 
-impl PartialEq for IntegrityKey {
+impl<'a> PartialEq for IntegrityKey<'a> {
     ghost use Rattle.std.specs.Prelude.{nat_eq};
     ghost use Rattle.std.specs.Cmp.Lexicographic.{pointwise, nat_list_eq_equiv};
     ghost use Rattle.std.specs.Cmp.{on_per, partial_equiv_from_equiv};
@@ -141,7 +146,7 @@ impl PartialEq for IntegrityKey {
     }
 }
 
-impl Eq for IntegrityKey {
+impl<'a> Eq for IntegrityKey<'a> {
     ghost use Rattle.std.specs.Cmp.{on_equiv};
     ghost use Rattle.std.specs.Cmp.Lexicographic.{nat_list_eq_equiv};
     ghost use Rattle.stun_types_integrity.specs.Credentials.{key_bytes};
@@ -149,7 +154,7 @@ impl Eq for IntegrityKey {
     ghost laws = { on_equiv key_bytes nat_list_eq_equiv };
 }
 
-impl fmt::Debug for IntegrityKey {
+impl<'a> fmt::Debug for IntegrityKey<'a> {
     /// Shows no byte of the key.
     fn fmt<W: fmt::Write>(&self, f: &mut fmt::Formatter<W>) -> fmt::Result {
         f.write_str("IntegrityKey { .. }")

@@ -1,6 +1,6 @@
 -- The attribute that is validated: where it stands, and that it is the only one of its type.
 use Rattle.std.proofs.Common.{◌≡◌, ℕ, zero, suc, ◌+◌, ◌-◌, ◌<◌, ◌≤◌, Bool, true, ltb, eqb, cond, List, [], ◌∷◌, ◌++◌, length, take, drop, Option, Some, None, refl, sym, ap, subst, ◌∙◌, arith, inl, inr}
-use Rattle.std.specs.Prelude.{find, map, IsSomeAnd, IfOk, IfErr, OnOk, MatchResult, Result, Ok, Err}
+use Rattle.std.specs.Prelude.{find, map, IsSomeAnd, IfOk, IfErr, OnOk, Result, Ok, Err}
 use Rattle.std.proofs.lemmas.Bool.{cases_Bool, ltb-true, ltb-false, eqb-true, ne_eqb, eq-eqb}
 use Rattle.std.specs.Option.{option_or}
 use Rattle.std.proofs.lemmas.List.{length-drop, drop-drop}
@@ -19,12 +19,12 @@ use Rattle.stun_types_wire.specs.Covered.{covered_text, with_length}
 use Rattle.stun_types_wire.specs.declared.algorithm.IntegrityAlgorithm.TheVariants.{Sha1, Sha256}
 use Rattle.stun_types_wire.specs.declared.error.StunParseError.TheVariants.{MissingAttribute, InvalidAttributeData}
 use Rattle.stun_types_wire.specs.declared.error.ValidateError.{ValidateError}
-use Rattle.stun_types_wire.specs.declared.error.ValidateError.TheVariants.{Parse, IntegrityFailed, NoMemory}
+use Rattle.stun_types_wire.specs.declared.error.ValidateError.TheVariants.{Parse, IntegrityFailed}
 use Rattle.stun_types_integrity.specs.Integrity.{IsSigned, Validates, algorithm_of, attribute_kind, integrity_hmac}
 use Rattle.stun_types_integrity.specs.Credentials.{Key}
 use Rattle.stun_types_integrity.specs.Keys.{key_of}
+use Rattle.stun_types_integrity.proofs.Keys.{key_for}
 use Rattle.stun_types_integrity.specs.declared.credentials.MessageIntegrityCredentials.{MessageIntegrityCredentials}
-use Rattle.stun_types_integrity.specs.declared.credentials.MessageIntegrityCredentials.TheVariants.{ShortTerm, LongTerm}
 use Rattle.stun_types_message.specs.Parsed.{IsParsed}
 use Rattle.stun_types_message.specs.Validation.{HasDigest, IsLawful, IsRefused, IsRight, StandsAt, first_of_kind, last_algorithm}
 
@@ -309,31 +309,27 @@ validates_last bytes key algorithm text v =
 
 -- ---- what is answered under credentials
 
-algorithm_kept : (c : MessageIntegrityCredentials) (a : IntegrityAlgorithm) → (key_of c a).algorithm ≡ a
-algorithm_kept (ShortTerm s) a = refl
-algorithm_kept (LongTerm s) a = refl
-
 pub valid_by : (bytes : List ℕ) (credentials : MessageIntegrityCredentials) (key : Key) (algorithm : IntegrityAlgorithm) (result : Result IntegrityAlgorithm ValidateError) → last_algorithm (shown bytes) ≡ Some algorithm → key ≡ key_of credentials algorithm
     → IfOk result (λ answered. (answered ≡ key.algorithm) × ((text : List ℕ) × IsSigned bytes key.bytes answered text)) → IfOk result (λ answered. (text : List ℕ) × Validates bytes (key_of credentials answered).bytes answered text)
 valid_by bytes credentials key algorithm (Err error) last is h = tt
 valid_by bytes credentials key algorithm (Ok answered) last is h =
-    let own : key.algorithm ≡ algorithm = ap (λ (k : Key). k.algorithm) is ∙ algorithm_kept credentials algorithm in
+    let own : key.algorithm ≡ algorithm = ap (λ (k : Key). k.algorithm) is ∙ key_for credentials algorithm in
     let same : algorithm ≡ answered = sym own ∙ sym h.0 in
     let bytes-are : key.bytes ≡ (key_of credentials answered).bytes = ap (λ (k : Key). k.bytes) is ∙ ap (λ (a : IntegrityAlgorithm). (key_of credentials a).bytes) same in
     (h.1.0, signed_validates bytes (key_of credentials answered).bytes answered h.1.0 (last ∙ ap (λ (a : IntegrityAlgorithm). Some a) same) (subst (λ (k : List ℕ). IsSigned bytes k answered h.1.0) bytes-are h.1.1))
 
 pub accepted_by : (bytes : List ℕ) (credentials : MessageIntegrityCredentials) (key : Key) (algorithm : IntegrityAlgorithm) (result : Result IntegrityAlgorithm ValidateError) → last_algorithm (shown bytes) ≡ Some algorithm → key ≡ key_of credentials algorithm
     → ((text : List ℕ) → IsSigned bytes key.bytes key.algorithm text → result ≡ Ok key.algorithm)
-    → (a : IntegrityAlgorithm) (text : List ℕ) → Validates bytes (key_of credentials a).bytes a text → MatchResult result (λ answered. answered ≡ a) (λ error. error ≡ NoMemory)
+    → (a : IntegrityAlgorithm) (text : List ℕ) → Validates bytes (key_of credentials a).bytes a text → result ≡ Ok a
 accepted_by bytes credentials key algorithm result last is accepts a text v =
     let both : Some algorithm ≡ Some a = sym last ∙ validates_last bytes (key_of credentials a).bytes a text v in
     let same : algorithm ≡ a = cc in
     let key-is : key ≡ key_of credentials a = is ∙ ap (λ (b : IntegrityAlgorithm). key_of credentials b) same in
-    let own : key.algorithm ≡ a = ap (λ (k : Key). k.algorithm) key-is ∙ algorithm_kept credentials a in
+    let own : key.algorithm ≡ a = ap (λ (k : Key). k.algorithm) key-is ∙ key_for credentials a in
     let P : List ℕ → IntegrityAlgorithm → Type 0 = λ k b. IsSigned bytes k b text in
     let one = subst (λ (k : List ℕ). IsSigned bytes k a text) (sym (ap (λ (k : Key). k.bytes) key-is)) v.signed in
     let two = subst (λ (b : IntegrityAlgorithm). IsSigned bytes key.bytes b text) (sym own) one in
-    rw (accepts text two) own
+    accepts text two ∙ ap (λ (b : IntegrityAlgorithm). Ok b) own
 
 pub none_validates : (bytes key : List ℕ) (algorithm : IntegrityAlgorithm) (text : List ℕ) → last_algorithm (shown bytes) ≡ None → Validates bytes key algorithm text → ⊥
 none_validates bytes key algorithm text none v = let p = sym none ∙ validates_last bytes key algorithm text v in absurd cc

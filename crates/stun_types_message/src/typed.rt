@@ -1,6 +1,6 @@
 //! The attributes that a message shows, as values of their own types.
 
-ghost use Rattle.std.specs.Prelude.{◌≡◌, ◌==◌, IfOk, find};
+ghost use Rattle.std.specs.Prelude.{◌≡◌, ◌==◌, IfErr, IfOk, IsTrue, find};
 ghost use Rattle.stun_types_base.specs.Refusals.{RefusesFor};
 ghost use Rattle.stun_types_wire.specs.Grammar.{shown};
 ghost use Rattle.stun_types_message.specs.Reading.{IsReadOf, nth_of_kind, read_of_refusal};
@@ -13,7 +13,8 @@ use stun_types_write::attribute::{AttributeFromRaw, AttributeStaticType};
 
 impl<'a> Message<'a> {
     /// The first attribute of its type that the message shows. Refused with `MissingAttribute` of that
-    /// type where none is shown, else as `A::from_raw` refuses what is shown.
+    /// type where none is shown, else as `A::from_raw` refuses what is shown. Memory is wanted only
+    /// where `A::from_raw` takes some.
     pub fn attribute<A: AttributeFromRaw<'a> + AttributeStaticType>(
         &self,
         alloc: Global,
@@ -22,6 +23,8 @@ impl<'a> Message<'a> {
             (find (λ a. a.kind == A.TYPE.0) (shown self.now))) }
         ensures cause { RefusesFor StunParseError.NoMemory (read_of_refusal A.TYPE A.read_refusal
             (find (λ a. a.kind == A.TYPE.0) (shown self.now))) result }
+        ensures memory { IfErr result (λ error. error ≡ StunParseError.NoMemory
+            → IsTrue A.reading_takes_memory) }
     {
         match self.raw_attribute(A::TYPE) {
             None => Err(StunParseError::MissingAttribute(A::TYPE)),
@@ -40,6 +43,8 @@ impl<'a> Message<'a> {
             (nth_of_kind A.TYPE.0 n (shown self.now))) }
         ensures cause { RefusesFor StunParseError.NoMemory (read_of_refusal A.TYPE A.read_refusal
             (nth_of_kind A.TYPE.0 n (shown self.now))) result }
+        ensures memory { IfErr result (λ error. error ≡ StunParseError.NoMemory
+            → IsTrue A.reading_takes_memory) }
     {
         match self.nth_of_type(A::TYPE, n) {
             None => Err(StunParseError::MissingAttribute(A::TYPE)),

@@ -1,6 +1,6 @@
 //! Whether a message is what a holder of a key has sent.
 
-ghost use Rattle.std.specs.Prelude.{◌≡◌, ◌≢◌, ◌↔◌, ◌-◌, ℕ, List, Ok, Err, Some, None, IsSome, IsTrue, IsSomeAnd, IfOk, IfErr, IfSome, OnOk, MatchResult};
+ghost use Rattle.std.specs.Prelude.{◌≡◌, ◌↔◌, ◌-◌, ℕ, List, Ok, Some, None, IsTrue, IsSomeAnd, IfOk, IfErr, IfSome, OnOk};
 ghost use Rattle.stun_types_wire.specs.declared.algorithm.IntegrityAlgorithm.{IntegrityAlgorithm as Algorithm};
 ghost use Rattle.stun_types_wire.specs.Grammar.{IsMessage, shown};
 ghost use Rattle.stun_types_integrity.specs.Integrity.{IsSigned, Validates, attribute_kind};
@@ -9,7 +9,6 @@ ghost use Rattle.stun_types_message.specs.Validation.{HasDigest, IsNotValid, IsR
 
 use crate::iter::MessageAttributesIter;
 use crate::message::Message;
-use std::alloc::Global;
 use stun_types_integrity::algorithm::{algorithm_of, attribute_type, is_lawful_length};
 use stun_types_integrity::credentials::MessageIntegrityCredentials;
 use stun_types_integrity::key::IntegrityKey;
@@ -37,29 +36,22 @@ impl<'a> Message<'a> {
     /// Validates the message by the last integrity attribute that it shows, under the key that the
     /// credentials make for that attribute's algorithm, and answers the algorithm. Refused with
     /// `Parse(MissingAttribute)` of MESSAGE-INTEGRITY where the message shows no integrity
-    /// attribute, and else as `validate_integrity_with_key` is; where memory is refused for the key,
-    /// with `NoMemory`.
+    /// attribute, and else as `validate_integrity_with_key` is.
     pub fn validate_integrity(
         &self,
-        alloc: Global,
         credentials: &MessageIntegrityCredentials,
     ) -> Result<IntegrityAlgorithm, ValidateError>
         ensures valid { IfOk result (λ algorithm. (text : List ℕ)
             × Validates self.now (key_of credentials.now algorithm).bytes algorithm text) }
         ensures accepted { (algorithm : Algorithm) (text : List ℕ)
             → Validates self.now (key_of credentials.now algorithm).bytes algorithm text
-            → MatchResult result (λ answered. answered ≡ algorithm)
-            (λ error. error ≡ ValidateError.NoMemory) }
-        ensures refused { IfErr result (λ error. error ≢ ValidateError.NoMemory
-            → IsNotValid self.now credentials.now error) }
-        // Memory is asked for only where an integrity attribute is shown.
-        ensures memory { result ≡ Err ValidateError.NoMemory
-            → IsSome (last_algorithm (shown self.now)) }
+            → result ≡ Ok algorithm }
+        ensures refused { IfErr result (IsNotValid self.now credentials.now) }
     {
         let Some(algorithm) = self.last_integrity() else {
             return Err(ValidateError::Parse(StunParseError::MissingAttribute(MESSAGE_INTEGRITY)));
         };
-        let key = credentials.make_key(alloc, algorithm)?;
+        let key = credentials.make_key(algorithm);
         self.validate_integrity_with_key(&key)
     }
 
@@ -70,7 +62,7 @@ impl<'a> Message<'a> {
     /// covers (RFC 8489, sections 14.5 and 14.6).
     pub fn validate_integrity_with_key(
         &self,
-        key: &IntegrityKey,
+        key: &IntegrityKey<'_>,
     ) -> Result<IntegrityAlgorithm, ValidateError>
         ensures valid { IfOk result (λ algorithm. (algorithm ≡ key.now.algorithm)
             × ((text : List ℕ) × IsSigned self.now key.now.bytes algorithm text)) }
@@ -83,7 +75,7 @@ impl<'a> Message<'a> {
     }
 
     /// Whether the attribute of a key's algorithm is of a lawful length and has the right digest.
-    fn judge_by(&self, key: &IntegrityKey) -> Result<IntegrityAlgorithm, ValidateError>
+    fn judge_by(&self, key: &IntegrityKey<'_>) -> Result<IntegrityAlgorithm, ValidateError>
         ensures message { IsMessage self.now }
         ensures algorithm { IfOk result (λ algorithm. algorithm ≡ key.now.algorithm) }
         ensures passed { OnOk result (IsSomeAnd (first_of_kind
@@ -125,7 +117,7 @@ impl<'a> Message<'a> {
 
     /// Whether the value at an offset is the digest of what it covers, or a front of it.
     #[tactic(auto, using(crate::proofs::Validating::covered_pieces))]
-    fn has_digest(&self, offset: usize, value: &[u8], key: &IntegrityKey) -> bool
+    fn has_digest(&self, offset: usize, value: &[u8], key: &IntegrityKey<'_>) -> bool
         requires { StandsAt self.now offset value.now }
         ensures { IsTrue result
             ↔ HasDigest self.now key.now.bytes key.now.algorithm offset value.now }

@@ -107,11 +107,14 @@ impl<'a, 'raw> TryFrom<&'raw RawAttribute<'a>> for PasswordAlgorithm {
 
 /// Refused as `try_from` is; no memory is taken.
 impl<'a> AttributeFromRaw<'a> for PasswordAlgorithm {
+    ghost use Rattle.std.specs.Prelude.{false};
     ghost use Rattle.stun_types_password.specs.Entries.{algorithm_read_refusal, entry, number_told};
 
     ghost read_refusal = { algorithm_read_refusal };
 
     ghost read_value = { λ value. entry (number_told value) };
+
+    ghost reading_takes_memory = { false };
 
     fn from_raw_ref(
         _alloc: Global,

@@ -86,6 +86,10 @@ impl Attribute for Userhash {
 }
 
 impl AttributeWrite for Userhash {
+    ghost use Rattle.std.specs.Prelude.{false};
+
+    ghost giving_takes_memory = { false };
+
     fn write_into_unchecked(&self, dest: &mut [u8]) {
         write_attribute(Userhash::TYPE, self.hash(), dest);
     }
@@ -120,12 +124,15 @@ impl<'a, 'raw> TryFrom<&'raw RawAttribute<'a>> for Userhash {
 
 /// Refused as `try_from` is; no memory is taken.
 impl<'a> AttributeFromRaw<'a> for Userhash {
+    ghost use Rattle.std.specs.Prelude.{false};
     ghost use Rattle.stun_types_write.specs.Reading.{value_refusal};
     ghost use Rattle.stun_types_password.specs.Userhashes.{userhash_length};
 
     ghost read_refusal = { value_refusal 0x001E userhash_length userhash_length };
 
     ghost read_value = { λ value. value };
+
+    ghost reading_takes_memory = { false };
 
     fn from_raw_ref(_alloc: Global, raw: &RawAttribute<'_>) -> Result<Userhash, StunParseError> {
         Userhash::try_from(raw)

@@ -106,9 +106,6 @@ pub enum ValidateError {
     /// The digest is not that of the message under the key.
     #[error("The integrity of the message does not hold")]
     IntegrityFailed,
-    /// Memory was refused.
-    #[error("no memory")]
-    NoMemory,
 }
 
 impl From<AllocError> for StunParseError {
@@ -158,15 +155,5 @@ impl From<StunParseError> for ValidateError {
 
     fn from(error: StunParseError) -> ValidateError {
         ValidateError::Parse(error)
-    }
-}
-
-impl From<NoMemory> for ValidateError {
-    ghost use Rattle.stun_types_wire.specs.declared.error.ValidateError.TheVariants.{NoMemory};
-
-    ghost from_gives = { λ _ error. error ≡ NoMemory };
-
-    fn from(_error: NoMemory) -> ValidateError {
-        ValidateError::NoMemory
     }
 }

@@ -1,5 +1,6 @@
 -- What is left of a message that is begun, and of one that is added to.
-use Rattle.std.specs.Prelude.{◌≡◌, ◌≢◌, ℕ, ◌+◌, ◌≤◌, List, [], ◌∷◌, ◌++◌, length, drop, Some, None}
+use Rattle.std.specs.Prelude.{◌≡◌, ℕ, ◌+◌, ◌≤◌, List, [], ◌∷◌, ◌++◌, length, drop, None}
+use Rattle.stun_types_base.specs.Refusals.{IsNamed}
 use Rattle.stun_types_wire.specs.declared.error.StunWriteError.{StunWriteError}
 use Rattle.stun_types_wire.specs.declared.error.StunWriteError.TheVariants.{NoMemory}
 use Rattle.stun_types_wire.specs.Attributes.{Attr, attr_size}
@@ -46,6 +47,5 @@ pub record Fits (draft : Draft) (size end : ℕ) : Type 0 where
   pub accepted : growth_refusal draft size ≡ None
 
 -- so many bytes more don't fit, for this cause
-pub record IsTooLong (draft : Draft) (size : ℕ) (error : StunWriteError) : Type 0 where
-  pub cause : growth_refusal draft size ≡ Some error
-  pub named : error ≢ NoMemory
+abbrev pub IsTooLong : Draft → ℕ → StunWriteError → Type 0
+IsTooLong draft size = IsNamed NoMemory (growth_refusal draft size)

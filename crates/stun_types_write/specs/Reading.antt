@@ -1,7 +1,8 @@
 -- Which types and values are read as an attribute of one type.
-use Rattle.std.specs.Prelude.{◌≡◌, ◌≢◌, ℕ, List, Option, Some, None, if◌then◌else◌}
+use Rattle.std.specs.Prelude.{ℕ, List, Option, Some, None, if◌then◌else◌}
 use Rattle.std.specs.Str.{is_utf8}
 use Rattle.std.specs.declared.ops.Bound.TheVariants.{Included}
+use Rattle.stun_types_base.specs.Refusals.{IsNamed as IsNamedBut}
 use Rattle.stun_types_wire.specs.declared.error.StunParseError.{StunParseError}
 use Rattle.stun_types_wire.specs.declared.error.StunParseError.TheVariants.{InvalidAttributeData, NoMemory}
 use Rattle.stun_types_wire.specs.Attributes.{Attr}
@@ -13,9 +14,8 @@ abbrev pub value_refusal : ℕ → ℕ → ℕ → Attr → Option StunParseErro
 value_refusal kind least most a = type_and_len_refusal kind (Included least) (Included most) a
 
 -- an error is the cause, and tells no want of memory
-pub record IsNamed (refusal : Option StunParseError) (error : StunParseError) : Type 0 where
-  pub cause : refusal ≡ Some error
-  pub named : error ≢ NoMemory
+abbrev pub IsNamed : Option StunParseError → StunParseError → Type 0
+IsNamed = IsNamedBut NoMemory
 
 -- bytes that are no text in UTF-8
 unfoldable pub utf8_refusal : List ℕ → Option StunParseError

@@ -1,6 +1,6 @@
 //! What can be added to a message: a type and a value, however they are held.
 
-ghost use Rattle.std.specs.Prelude.{◌≡◌, ◌≢◌, ◌+◌, ◌<◌, ◌≤◌, ◌^◌, ◌++◌, length, drop, ℕ, List, Option, None, Some, IfOk, OnOk, IfErr};
+ghost use Rattle.std.specs.Prelude.{◌≡◌, ◌≢◌, ◌+◌, ◌<◌, ◌≤◌, ◌^◌, ◌++◌, ◌||◌, length, drop, true, Bool, ℕ, List, Option, None, Some, IfOk, OnOk, IfErr, OnErr, IsTrue};
 ghost use Rattle.byteorder.specs.Endian.{big_bytes};
 ghost use Rattle.stun_types_wire.specs.declared.attribute.AttributeType.{AttributeType};
 ghost use Rattle.stun_types_wire.specs.declared.error.StunWriteError.TheVariants.{TooSmall};
@@ -53,15 +53,20 @@ pub trait Attribute: Debug + Sync + Send {
 
 /// An attribute that can be written.
 pub trait AttributeWrite: Attribute {
+    // Whether `to_raw` takes memory: it does unless the attribute holds the bytes of its value.
+    ghost giving_takes_memory: { Bool } = { true };
+
     /// Writes header, value and padding to the front of bytes that are enough.
     fn write_into_unchecked(&self, dest: &mut [u8])
         requires { 4 + padded (length (Self.value self.now)) ≤ length dest.old }
         ensures { dest.new ≡ attribute_text (attr_of (Self.kind self.now) (Self.value self.now))
             ++ drop (4 + padded (length (Self.value self.now))) dest.old };
 
-    /// The attribute as type and bytes. Where memory is refused, `NoMemory`.
+    /// The attribute as type and bytes. Where memory is refused, `NoMemory`. Memory is wanted where
+    /// the bytes of the value are made here, and not where the attribute holds them.
     fn to_raw(&self, alloc: Global) -> Result<RawAttribute<'_>, NoMemory>
-        ensures { IfOk result (λ raw. raw ≡ attr_of (Self.kind self.now) (Self.value self.now)) };
+        ensures ok { IfOk result (λ raw. raw ≡ attr_of (Self.kind self.now) (Self.value self.now)) }
+        ensures memory { OnErr result (IsTrue giving_takes_memory) };
 
     /// Writes type and length to the front of at least four bytes, and answers four.
     fn write_header_unchecked(&self, dest: &mut [u8]) -> usize
@@ -129,20 +134,28 @@ pub trait AttributeFromRaw<'a>: Attribute {
     // is not read.
     ghost written_refusal: { Self → Option ParseError } = { λ _. None };
 
+    // Whether memory is taken to read this attribute: it is of a text or a list.
+    ghost reading_takes_memory: { Bool } = { true };
+
     /// The attribute of a type and a value. Refused, in this order: `WrongAttributeImplementation`
     /// where it is another type, `Truncated` where the value is too short, `TooLarge` where it is too
     /// long, `InvalidAttributeData` where it is no value of this type; where memory is refused,
-    /// `NoMemory`.
+    /// `NoMemory`. Memory is wanted for a text or a list, and not for a value of a few bytes that the
+    /// attribute holds itself.
     fn from_raw_ref(alloc: Global, raw: &RawAttribute<'_>) -> Result<Self, StunParseError>
         ensures ok { IfOk result (λ read. (Self.kind read ≡ raw.now.kind)
             × (Self.value read ≡ read_value raw.now.value)) }
-        ensures cause { RefusesFor StunParseError.NoMemory (read_refusal raw.now) result };
+        ensures cause { RefusesFor StunParseError.NoMemory (read_refusal raw.now) result }
+        ensures memory { IfErr result (λ error. error ≡ StunParseError.NoMemory
+            → IsTrue reading_takes_memory) };
 
     /// The same, of an attribute that is given away.
     fn from_raw(alloc: Global, raw: RawAttribute<'a>) -> Result<Self, StunParseError>
         ensures ok { IfOk result (λ read. (Self.kind read ≡ raw.entry.kind)
             × (Self.value read ≡ read_value raw.entry.value)) }
-        ensures cause { RefusesFor StunParseError.NoMemory (read_refusal raw.entry) result };
+        ensures cause { RefusesFor StunParseError.NoMemory (read_refusal raw.entry) result }
+        ensures memory { IfErr result (λ error. error ≡ StunParseError.NoMemory
+            → IsTrue reading_takes_memory) };
 
     /// Says whether what an attribute writes is read, and that what is read of it is that attribute. It
     /// does nothing.
@@ -154,7 +167,8 @@ pub trait AttributeFromRaw<'a>: Attribute {
 }
 
 /// What an attribute writes, read again: the same attribute. Refused where memory is, with `NoMemory`,
-/// and for no other cause, but where the attribute itself is one that is made and not read.
+/// and for no other cause, but where the attribute itself is one that is made and not read. Memory is
+/// wanted where `to_raw` or `from_raw_ref` takes some.
 pub fn written_and_read<'a, A: AttributeWrite + AttributeFromRaw<'a>>(
     alloc: Global,
     attribute: &A,
@@ -163,6 +177,8 @@ pub fn written_and_read<'a, A: AttributeWrite + AttributeFromRaw<'a>>(
         × (A.written_refusal attribute.now ≡ None)) }
     ensures refused { IfErr result (λ error. error ≢ StunParseError.NoMemory
         → A.written_refusal attribute.now ≡ Some error) }
+    ensures memory { IfErr result (λ error. error ≡ StunParseError.NoMemory
+        → IsTrue (A.giving_takes_memory || A.reading_takes_memory)) }
 {
     attribute.is_read_back(attribute);
     let raw = attribute.to_raw(alloc)?;
@@ -186,6 +202,10 @@ impl<'a> Attribute for RawAttribute<'a> {
 }
 
 impl<'a> AttributeWrite for RawAttribute<'a> {
+    ghost use Rattle.std.specs.Prelude.{false};
+
+    ghost giving_takes_memory = { false };
+
     fn write_into_unchecked(&self, dest: &mut [u8]) {
         write_attribute(RawAttribute::get_type(self), self.value(), dest);
     }

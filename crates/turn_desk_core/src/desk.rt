@@ -1,6 +1,6 @@
 //! The desk: requests in, replies out.
 
-ghost use Rattle.std.specs.Prelude.{◌≡◌, ◌≢◌, ◌↔◌, ◌++◌, ◌∷◌, IfOk, OnErr, IsSome, None, MatchOption, MatchResult, [], ℕ, List, true};
+ghost use Rattle.std.specs.Prelude.{◌≡◌, ◌≢◌, ◌↔◌, ◌≤◌, ◌++◌, ◌∷◌, IfOk, OnErr, IsSome, None, MatchOption, MatchResult, [], ℕ, List, length, true};
 ghost use Rattle.std.specs.Borrow.{sem};
 ghost use Rattle.std.specs.declared.net.socket_addr.SocketAddr.{SocketAddr};
 ghost use Rattle.stun_types_base.specs.Words.{stream_after};
@@ -10,6 +10,7 @@ ghost use Rattle.stun_types_wire.specs.declared.algorithm.IntegrityAlgorithm.{In
 ghost use Rattle.stun_types_write.specs.Adding.{IsBegun};
 ghost use Rattle.stun_types_write.specs.Lent.{own_draft};
 ghost use Rattle.stun_types_integrity.specs.Signing.{signing_refusal};
+ghost use Rattle.stun_types_attribute.specs.Texts.{longest_text};
 ghost use Rattle.stun_proto_judge.specs.Judgement.{is_response};
 ghost use Rattle.stun_proto_server.specs.Server.{SameFor, nonce_at, words_drawn};
 ghost use Rattle.turn_desk_reply.specs.Replies.{IsReply, error_type};
@@ -241,7 +242,7 @@ impl Desk {
 }
 
 /// The error response to a request that was refused, of a server's realm, with the nonce that is kept
-/// for the address. Where memory is refused, `NoMemory`.
+/// for the address. A server's realm and nonces are short. Where memory is refused, `NoMemory`.
 fn refusal(
     alloc: Global,
     request: &Message,
@@ -249,7 +250,9 @@ fn refusal(
     realm: &str,
     nonce: &str,
 ) -> Result<MessageWriteVec, NoMemory>
-    requires { IsServed request.now }
+    requires request { IsServed request.now }
+    requires realm { length realm.now ≤ longest_text }
+    requires nonce { length nonce.now ≤ longest_text }
     ensures { IfOk result (λ reply. IsReply (error_type request.now) (number_at request.now)
         (refusal_attributes error realm.now nonce.now) (own_draft reply)) }
 {

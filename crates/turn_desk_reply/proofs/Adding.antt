@@ -24,7 +24,7 @@ first_and_second number (a ∷ b ∷ []) few = refl
 first_and_second number (a ∷ b ∷ c ∷ rest) few = absurd (omega (arith, few))
 
 -- the addresses under the number of the request
-relayed-parts : (kind m n : ℕ) (relayed : List SocketAddr) (first second : Option SocketAddr) (old reply : Draft) → m ≡ n → length relayed ≤ 2 → first ≡ slice_get relayed 0 → second ≡ slice_get relayed 1
+pub relayed-parts : (kind m n : ℕ) (relayed : List SocketAddr) (first second : Option SocketAddr) (old reply : Draft) → m ≡ n → length relayed ≤ 2 → first ≡ slice_get relayed 0 → second ≡ slice_get relayed 1
     → IsComposed kind m (relayed_attributes m (option_to_list first) ++ relayed_attributes m (option_to_list second)) old reply → IsComposed kind n (relayed_attributes n relayed) old reply
 relayed-parts kind m n relayed first second old reply number few one two is =
     let same : relayed_attributes m (option_to_list first) ++ relayed_attributes m (option_to_list second) ≡ relayed_attributes n relayed = rw (number, one, two) (first_and_second n relayed few) in

@@ -1,5 +1,5 @@
 -- How long a reply is: it can always be signed.
-use Rattle.std.specs.Prelude.{◌≡◌, ℕ, ◌+◌, ◌≤◌, List, [], ◌∷◌, length, None}
+use Rattle.std.specs.Prelude.{◌≡◌, ℕ, ◌+◌, ◌≤◌, ◌==◌, Bool, true, false, if◌then◌else◌, List, [], ◌∷◌, length, None}
 use Rattle.std.specs.declared.net.socket_addr.SocketAddr.{SocketAddr}
 use Rattle.std.proofs.Common.{refl, sym, ap, subst, ◌∙◌, arith}
 use Rattle.std.specs.List.{AllByRecursion}
@@ -16,6 +16,7 @@ use Rattle.stun_types_build.proofs.Adds.{length-attribute_text}
 use Rattle.stun_types_address.specs.Addresses.{address_value}
 use Rattle.stun_types_address.specs.Xor.{xor_bytes, xored, octets_mask}
 use Rattle.stun_types_attribute.specs.Errors.{CodeAndOther, reason_for, reason_of}
+use Rattle.stun_types_attribute.specs.Texts.{longest_text}
 use Rattle.stun_types_integrity.specs.Signing.{order_refusal, signing_refusal}
 use Rattle.turn_desk_reply.specs.Replies.{IsReply, allocated_attributes, challenge_attributes, error_attribute, failure_attributes, relayed_attribute}
 
@@ -30,9 +31,37 @@ pub xored_short : (number : ℕ) (value : List ℕ) → length (xored number val
 unfolding octets_mask
 xored_short number value = let short = xor_short value (0 ∷ 0 ∷ 0x21 ∷ 0x12 ∷ octets_mask number) in omega (arith, short)
 
+-- ---- reasons
+
+either-short : (choice : Bool) (one other : List ℕ) → length one ≤ longest_text → length other ≤ longest_text → length (if choice then one else other) ≤ longest_text
+either-short true one other h k = h
+either-short false one other h k = k
+
+-- the reason that goes with a code is short
+pub reason-short : (code : ℕ) → length (reason_for code) ≤ longest_text
+reason-short code =
+    either-short (code == 300) _ _ (omega arith) (
+    either-short (code == 400) _ _ (omega arith) (
+    either-short (code == 401) _ _ (omega arith) (
+    either-short (code == 403) _ _ (omega arith) (
+    either-short (code == 420) _ _ (omega arith) (
+    either-short (code == 437) _ _ (omega arith) (
+    either-short (code == 438) _ _ (omega arith) (
+    either-short (code == 440) _ _ (omega arith) (
+    either-short (code == 441) _ _ (omega arith) (
+    either-short (code == 442) _ _ (omega arith) (
+    either-short (code == 443) _ _ (omega arith) (
+    either-short (code == 446) _ _ (omega arith) (
+    either-short (code == 447) _ _ (omega arith) (
+    either-short (code == 486) _ _ (omega arith) (
+    either-short (code == 487) _ _ (omega arith) (
+    either-short (code == 500) _ _ (omega arith) (
+    either-short (code == 508) _ _ (omega arith) (
+    omega arith)))))))))))))))))
+
 -- ---- the length of a message's text
 
-text-length : (kind number : ℕ) (all : List Attr) → length (message_text kind number all) ≡ 20 + length (body_text all)
+pub text-length : (kind number : ℕ) (all : List Attr) → length (message_text kind number all) ≡ 20 + length (body_text all)
 unfolding message_text header_text
 text-length kind number all = omega arith
 
@@ -73,7 +102,7 @@ relayed-length number relayed rest =
     let short = xored_short number (address_value relayed) in
     omega (arith, one, short)
 
-allocated-length : (kind number lifetime : ℕ) (from : SocketAddr) (relayed : List SocketAddr) → length relayed ≤ 2 → length (message_text kind number (allocated_attributes number relayed lifetime from)) ≤ 4096
+pub allocated-length : (kind number lifetime : ℕ) (from : SocketAddr) (relayed : List SocketAddr) → length relayed ≤ 2 → length (message_text kind number (allocated_attributes number relayed lifetime from)) ≤ 4096
 allocated-length kind number lifetime from [] few =
     let text = text-length kind number (allocated_attributes number [] lifetime from) in
     let end = end-length number lifetime from in
@@ -91,15 +120,17 @@ allocated-length kind number lifetime from (a ∷ b ∷ []) few =
     omega (arith, text, end, one, two)
 allocated-length kind number lifetime from (a ∷ b ∷ c ∷ rest) few = absurd (omega (arith, few))
 
-failure-length : (kind number code : ℕ) → length (reason_for code) ≤ 763 → length (message_text kind number (failure_attributes code)) ≤ 4096
-failure-length kind number code reason =
+pub failure-length : (kind number code : ℕ) → length (message_text kind number (failure_attributes code)) ≤ 4096
+failure-length kind number code =
+    let reason = reason-short code in
     let text = text-length kind number (failure_attributes code) in
     let body = body-length [] (error_attribute code) in
     let none = no_body in
     omega (arith, text, body, none, reason)
 
-challenge-length : (kind number code : ℕ) (realm nonce : List ℕ) → length (reason_for code) ≤ 763 → length realm ≤ 763 → length nonce ≤ 763 → length (message_text kind number (challenge_attributes code realm nonce)) ≤ 4096
-challenge-length kind number code realm nonce reason r m =
+pub challenge-length : (kind number code : ℕ) (realm nonce : List ℕ) → length realm ≤ longest_text → length nonce ≤ longest_text → length (message_text kind number (challenge_attributes code realm nonce)) ≤ 4096
+challenge-length kind number code realm nonce r m =
+    let reason = reason-short code in
     let a : Attr = record { kind = 0x0014; value = realm } in
     let b : Attr = record { kind = 0x0015; value = nonce } in
     let text = text-length kind number (challenge_attributes code realm nonce) in
@@ -111,8 +142,8 @@ challenge-length kind number code realm nonce reason r m =
 
 -- ---- ordinary attributes
 
-error_ordinary : (code : ℕ) → length (reason_for code) ≤ 763 → IsOrdinary (error_attribute code)
-error_ordinary code reason = record { fits = record { kind = omega arith; value = omega (arith, reason) }; ordinary = refl }
+error_ordinary : (code : ℕ) → IsOrdinary (error_attribute code)
+error_ordinary code = let reason = reason-short code in record { fits = record { kind = omega arith; value = omega (arith, reason) }; ordinary = refl }
 
 relayed_ordinary : (number : ℕ) (addr : SocketAddr) → IsOrdinary (relayed_attribute number addr)
 relayed_ordinary number addr = let short = xored_short number (address_value addr) in record { fits = record { kind = omega arith; value = omega (arith, short) }; ordinary = refl }
@@ -138,14 +169,14 @@ reply_of kind number attributes old reply new composed lawful short = record {
   signable = signable reply composed.ended (composed.limit ∙ ap (λ (d : Draft). d.limit) new) (subst (λ (n : ℕ). n ≤ 4096) (sym (ap length composed.text)) short);
 }
 
-pub failure_reply : (kind number code : ℕ) (old reply : Draft) → old ≡ empty [] None → length (reason_for code) ≤ 763 → IsComposed kind number (failure_attributes code) old reply → IsReply kind number (failure_attributes code) reply
-failure_reply kind number code old reply new reason composed = reply_of kind number (failure_attributes code) old reply new composed (error_ordinary code reason, tt) (failure-length kind number code reason)
+pub failure_reply : (kind number code : ℕ) (old reply : Draft) → old ≡ empty [] None → IsComposed kind number (failure_attributes code) old reply → IsReply kind number (failure_attributes code) reply
+failure_reply kind number code old reply new composed = reply_of kind number (failure_attributes code) old reply new composed (error_ordinary code, tt) (failure-length kind number code)
 
-pub challenge_reply : (kind number code : ℕ) (realm nonce : List ℕ) (reply : Draft) → length (reason_for code) ≤ 763 → length realm ≤ 763 → length nonce ≤ 763 → IsComposed kind number (challenge_attributes code realm nonce) (empty [] None) reply → IsReply kind number (challenge_attributes code realm nonce) reply
-challenge_reply kind number code realm nonce reply reason r m composed =
+pub challenge_reply : (kind number code : ℕ) (realm nonce : List ℕ) (reply : Draft) → length realm ≤ longest_text → length nonce ≤ longest_text → IsComposed kind number (challenge_attributes code realm nonce) (empty [] None) reply → IsReply kind number (challenge_attributes code realm nonce) reply
+challenge_reply kind number code realm nonce reply r m composed =
     reply_of kind number (challenge_attributes code realm nonce) (empty [] None) reply refl composed
-    (error_ordinary code reason, (record { fits = record { kind = omega arith; value = omega (arith, r) }; ordinary = refl }, (record { fits = record { kind = omega arith; value = omega (arith, m) }; ordinary = refl }, tt)))
-    (challenge-length kind number code realm nonce reason r m)
+    (error_ordinary code, (record { fits = record { kind = omega arith; value = omega (arith, r) }; ordinary = refl }, (record { fits = record { kind = omega arith; value = omega (arith, m) }; ordinary = refl }, tt)))
+    (challenge-length kind number code realm nonce r m)
 
 pub allocated_reply : (kind number lifetime : ℕ) (from : SocketAddr) (relayed : List SocketAddr) (old reply : Draft) → old ≡ empty [] None → length relayed ≤ 2 → IsComposed kind number (allocated_attributes number relayed lifetime from) old reply → IsReply kind number (allocated_attributes number relayed lifetime from) reply
 allocated_reply kind number lifetime from relayed old reply new few composed = reply_of kind number (allocated_attributes number relayed lifetime from) old reply new composed (allocated_ordinary number lifetime from relayed few) (allocated-length kind number lifetime from relayed few)

@@ -1,16 +1,16 @@
 //! The success response to an ALLOCATE (RFC 8656, section 7.3).
 
-ghost use Rattle.std.specs.Prelude.{◌≡◌, ◌≤◌, ◌++◌, length, ℕ, List, IfOk, OnOk, option_to_list};
+ghost use Rattle.std.specs.Prelude.{◌≡◌, ◌≤◌, ◌++◌, length, ℕ, List, None, IfOk, IfErr, OnOk, option_to_list};
 ghost use Rattle.std.specs.Option.{option_copied};
-ghost use Rattle.stun_types_wire.specs.Attributes.{Attr, kind_at};
+ghost use Rattle.stun_types_wire.specs.Attributes.{Attr, attr_size, kind_at};
 ghost use Rattle.stun_types_wire.specs.Types.{class_of};
 ghost use Rattle.stun_types_wire.specs.Grammar.{number_at};
 ghost use Rattle.stun_types_wire.specs.declared.class.MessageClass.TheVariants.{Request};
-ghost use Rattle.stun_types_write.specs.Adding.{IsBegun};
+ghost use Rattle.stun_types_write.specs.Adding.{IsBegun, add_refusal};
 ghost use Rattle.stun_types_write.specs.Drafts.{Draft};
 ghost use Rattle.stun_types_write.specs.Lent.{own_draft};
 ghost use Rattle.stun_types_build.specs.Calls.{IsComposed};
-ghost use Rattle.turn_desk_reply.specs.Replies.{IsReply, allocated_attributes, relayed_attributes, success_type};
+ghost use Rattle.turn_desk_reply.specs.Replies.{IsReply, allocated_attributes, relayed_attribute, relayed_attributes, success_type};
 
 use std::alloc::Global;
 use std::net::SocketAddr;
@@ -38,12 +38,12 @@ pub fn allocated(
 {
     match write_allocated(alloc, request, relayed, lifetime, from) {
         Ok(reply) => Ok(reply),
-        // So short a message fits.
-        Err(_) => Err(NoMemory),
+        Err(StunWriteError::NoMemory) => Err(NoMemory),
+        Err(_) => unreachable!(),
     }
 }
 
-/// `allocated`, with the errors of the writer.
+/// `allocated`, with the writer's error, which is want of memory alone.
 fn write_allocated(
     alloc: Global,
     request: &Message,
@@ -53,9 +53,11 @@ fn write_allocated(
 ) -> Result<MessageWriteVec, StunWriteError>
     requires request { class_of (kind_at request.now) ≡ Request }
     requires few { length relayed.now ≤ 2 }
-    ensures { IfOk result (λ reply. IsReply (success_type request.now) (number_at request.now)
+    ensures reply { IfOk result (λ reply. IsReply (success_type request.now)
+        (number_at request.now)
         (allocated_attributes (number_at request.now) relayed.now lifetime from)
         (own_draft reply)) }
+    ensures memory { IfErr result (λ error. error ≡ StunWriteError.NoMemory) }
 {
     let number = request.transaction_id();
     let lifetime = Lifetime::new(lifetime);
@@ -68,19 +70,23 @@ fn write_allocated(
     Ok(reply)
 }
 
-/// Adds XOR-RELAYED-ADDRESS to a reply of this number, where there is an address.
+/// Adds XOR-RELAYED-ADDRESS to a reply of this number, where there is an address. The reply has room
+/// for that of any address: want of memory alone is an error.
 fn add_relayed(
     reply: &mut MessageWriteVec,
     relayed: Option<&SocketAddr>,
     number: TransactionId,
 ) -> Result<(), StunWriteError>
-    requires { IsBegun (own_draft reply.old).bytes }
+    requires begun { IsBegun (own_draft reply.old).bytes }
+    requires room { (addr : SocketAddr) → add_refusal (own_draft reply.old)
+        (attr_size (relayed_attribute number addr)) ≡ None }
     ensures composed { OnOk result ((kind : ℕ) (attributes : List Attr) (old : Draft)
         → IsComposed kind number attributes old (own_draft reply.old)
         → IsComposed kind number
         (attributes ++ relayed_attributes number (option_to_list (option_copied relayed.entry)))
         old (own_draft reply.new)) }
     ensures begun { IsBegun (own_draft reply.new).bytes }
+    ensures memory { IfErr result (λ error. error ≡ StunWriteError.NoMemory) }
 {
     if let Some(addr) = relayed {
         let relayed = XorRelayedAddress::new(*addr, number);

@@ -1,11 +1,11 @@
 //! Error responses (RFC 8489, section 6.3.4).
 
-ghost use Rattle.std.specs.Prelude.{◌≡◌, ◌≤◌, IfOk, length};
+ghost use Rattle.std.specs.Prelude.{◌≡◌, ◌≤◌, IfOk, IfErr, length};
 ghost use Rattle.stun_types_wire.specs.Attributes.{kind_at};
 ghost use Rattle.stun_types_wire.specs.Types.{class_of};
 ghost use Rattle.stun_types_wire.specs.Grammar.{number_at};
 ghost use Rattle.stun_types_wire.specs.declared.class.MessageClass.TheVariants.{Request};
-ghost use Rattle.stun_types_attribute.specs.Errors.{reason_for};
+ghost use Rattle.stun_types_attribute.specs.Texts.{longest_text};
 ghost use Rattle.stun_types_write.specs.Lent.{own_draft};
 ghost use Rattle.turn_desk_reply.specs.Replies.{IsReply, challenge_attributes, error_type, failure_attributes};
 
@@ -25,14 +25,14 @@ pub fn failure(alloc: Global, request: &Message, code: u16) -> Result<MessageWri
 {
     match write_failure(alloc, request, code) {
         Ok(reply) => Ok(reply),
-        // The code is lawful, and so short a message fits.
-        Err(_) => Err(NoMemory),
+        Err(StunWriteError::NoMemory) => Err(NoMemory),
+        Err(_) => unreachable!(),
     }
 }
 
 /// The error response to a request that shows the code, REALM and NONCE: a challenge (RFC 8489,
-/// section 9.2.4). Where memory is refused, `NoMemory`; so too where a realm or a nonce has more than
-/// 763 bytes, as those of a server have not.
+/// section 9.2.4). The realm and the nonce have at most 763 bytes each, as those of a server have.
+/// Where memory is refused, `NoMemory`.
 pub fn challenge(
     alloc: Global,
     request: &Message,
@@ -43,26 +43,30 @@ pub fn challenge(
     requires request { class_of (kind_at request.now) ≡ Request }
     requires least { 300 ≤ code }
     requires most { code ≤ 699 }
+    requires realm { length realm.now ≤ longest_text }
+    requires nonce { length nonce.now ≤ longest_text }
     ensures { IfOk result (λ reply. IsReply (error_type request.now) (number_at request.now)
         (challenge_attributes code realm.now nonce.now) (own_draft reply)) }
 {
     match write_challenge(alloc, request, code, realm, nonce) {
         Ok(reply) => Ok(reply),
-        // The code is lawful, and so short a message fits, where realm and nonce are a server's.
-        Err(_) => Err(NoMemory),
+        Err(StunWriteError::NoMemory) => Err(NoMemory),
+        Err(_) => unreachable!(),
     }
 }
 
-/// `failure`, with the errors of the writer.
+/// `failure`, with the writer's error, which is want of memory alone.
 fn write_failure(
     alloc: Global,
     request: &Message,
     code: u16,
 ) -> Result<MessageWriteVec, StunWriteError>
     requires request { class_of (kind_at request.now) ≡ Request }
+    requires least { 300 ≤ code }
+    requires most { code ≤ 699 }
     ensures reply { IfOk result (λ reply. IsReply (error_type request.now) (number_at request.now)
         (failure_attributes code) (own_draft reply)) }
-    ensures reason { IfOk result (λ _. length (reason_for code) ≤ 763) }
+    ensures memory { IfErr result (λ error. error ≡ StunWriteError.NoMemory) }
 {
     let code = ErrorCode::builder(code).build(alloc)?;
     let mut reply = Message::builder_error(request, MessageWriteVec::new(alloc))?;
@@ -70,7 +74,7 @@ fn write_failure(
     Ok(reply)
 }
 
-/// `challenge`, with the errors of the writer.
+/// `challenge`, with the writer's error, which is want of memory alone.
 fn write_challenge(
     alloc: Global,
     request: &Message,
@@ -79,8 +83,13 @@ fn write_challenge(
     nonce: &str,
 ) -> Result<MessageWriteVec, StunWriteError>
     requires request { class_of (kind_at request.now) ≡ Request }
-    ensures { IfOk result (λ reply. IsReply (error_type request.now) (number_at request.now)
+    requires least { 300 ≤ code }
+    requires most { code ≤ 699 }
+    requires realm { length realm.now ≤ longest_text }
+    requires nonce { length nonce.now ≤ longest_text }
+    ensures reply { IfOk result (λ reply. IsReply (error_type request.now) (number_at request.now)
         (challenge_attributes code realm.now nonce.now) (own_draft reply)) }
+    ensures memory { IfErr result (λ error. error ≡ StunWriteError.NoMemory) }
 {
     let realm = Realm::new(alloc, realm)?;
     let nonce = Nonce::new(alloc, nonce)?;

@@ -308,15 +308,16 @@ fn make_add<W: MessageWrite>(
         }
         Add::Sign(algorithm) => {
             let credentials = credentials_of_user(alloc, "pass")?;
-            writer.add_message_integrity(alloc, &credentials, algorithm)
+            writer.add_message_integrity(&credentials, algorithm)
         }
         Add::SignByKey(made_for, algorithm) => {
-            let key = credentials_of_user(alloc, "pass")?.make_key(alloc, made_for)?;
+            let credentials = credentials_of_user(alloc, "pass")?;
+            let key = credentials.make_key(made_for);
             writer.add_message_integrity_with_key(&key, algorithm)
         }
         Add::SignAsSample => {
             let credentials = credentials_of_samples(alloc)?;
-            writer.add_message_integrity(alloc, &credentials, IntegrityAlgorithm::Sha1)
+            writer.add_message_integrity(&credentials, IntegrityAlgorithm::Sha1)
         }
         Add::Fingerprint => writer.add_fingerprint(),
     };

@@ -59,12 +59,12 @@ fn is_judged(
     expected: [Judgement; 3],
 ) -> Result<(), Fail> {
     let credentials = credentials_of_user(rt.alloc(), password)?;
-    let sha1 = credentials.make_key(rt.alloc(), IntegrityAlgorithm::Sha1)?;
-    let sha256 = credentials.make_key(rt.alloc(), IntegrityAlgorithm::Sha256)?;
+    let sha1 = credentials.make_key(IntegrityAlgorithm::Sha1);
+    let sha256 = credentials.make_key(IntegrityAlgorithm::Sha256);
     let bytes = hex::decode(rt.alloc(), text)?;
     let message = Message::from_bytes(bytes.as_slice())?;
     let answers = [
-        message.validate_integrity(rt.alloc(), &credentials),
+        message.validate_integrity(&credentials),
         message.validate_integrity_with_key(&sha1),
         message.validate_integrity_with_key(&sha256),
     ];
@@ -126,7 +126,7 @@ fn is_accepted_turned(
     }
     let answer = match Message::from_bytes(changed.as_slice()) {
         Err(error) => Err(error),
-        Ok(message) => Ok(message.validate_integrity(alloc, credentials).is_ok()),
+        Ok(message) => Ok(message.validate_integrity(credentials).is_ok()),
     };
     Ok(answer)
 }

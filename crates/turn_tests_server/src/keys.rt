@@ -61,7 +61,7 @@ fn tells(
 /// refused under the key that was made for the other algorithm.
 fn are_hmacs(
     rt: &impl Abort,
-    keys: [&IntegrityKey; 2],
+    keys: &[IntegrityKey<'_>; 2],
     text: &[u8],
     sha1: [u8; 20],
     sha256: [u8; 32],
@@ -104,7 +104,7 @@ fn are_hmacs(
 /// of 16, 20, 24, 28 and 32 bytes are verified too (RFC 8489, section 14.6), where no bit is another one.
 fn are_verified(
     rt: &impl Abort,
-    keys: [&IntegrityKey; 2],
+    keys: &[IntegrityKey<'_>; 2],
     text: &[u8],
     sha1: [u8; 20],
     sha256: [u8; 32],
@@ -113,17 +113,19 @@ fn are_verified(
     let (_, rest) = text.split_at(text.len() / 3);
     let mut turned = sha256;
     turned[15] ^= 1;
+    let (turned_front, _) = turned.as_slice().split_at(16);
     let verified = [
         MessageIntegrity::verify(text, short, &sha1).is_ok(),
         MessageIntegrity::verify(rest, short, &sha1).is_ok(),
         MessageIntegrity::verify(text, long, &sha1).is_ok(),
         MessageIntegritySha256::verify(rest, long, &sha256).is_ok(),
         MessageIntegritySha256::verify(text, short, &sha256).is_ok(),
-        MessageIntegritySha256::verify(text, long, &turned[..16]).is_ok(),
+        MessageIntegritySha256::verify(text, long, turned_front).is_ok(),
     ];
     assert_eq!(rt; verified, [true, false, false, false, false, false]);
     for len in 0..=32 {
-        let verified = MessageIntegritySha256::verify(text, long, &sha256[..len]);
+        let (front, _) = sha256.as_slice().split_at(len);
+        let verified = MessageIntegritySha256::verify(text, long, front);
         let lawful = [16, 20, 24, 28, 32].contains(&len);
         assert!(rt; verified.is_ok() == lawful, "{len}");
     }
@@ -135,6 +137,14 @@ fn are_verified(
     );
 }
 
+/// The keys of credentials for HMAC-SHA1 and for HMAC-SHA256.
+fn keys_of(credentials: &MessageIntegrityCredentials) -> [IntegrityKey<'_>; 2] {
+    [
+        credentials.make_key(IntegrityAlgorithm::Sha1),
+        credentials.make_key(IntegrityAlgorithm::Sha256),
+    ]
+}
+
 /// The HMACs of a row hold.
 fn row_holds(rt: &(impl Abort + AllocGlobal), row: &str) -> Result<(), Fail> {
     match words(rt.alloc(), row)?.as_slice() {
@@ -143,24 +153,13 @@ fn row_holds(rt: &(impl Abort + AllocGlobal), row: &str) -> Result<(), Fail> {
             let (sha1, sha256) = (<[u8; 20]>::from_hex(*sha1)?, <[u8; 32]>::from_hex(*sha256)?);
             let text = hex::decode(rt.alloc(), *text)?;
             let credentials = credentials_of(rt, password, name, realm)?;
-            let short = credentials.make_key(rt.alloc(), IntegrityAlgorithm::Sha1)?;
-            let long = credentials.make_key(rt.alloc(), IntegrityAlgorithm::Sha256)?;
-            are_hmacs(rt, [&short, &long], text.as_slice(), sha1, sha256);
-            are_verified(rt, [&short, &long], text.as_slice(), sha1, sha256);
+            let keys = keys_of(&credentials);
+            are_hmacs(rt, &keys, text.as_slice(), sha1, sha256);
+            are_verified(rt, &keys, text.as_slice(), sha1, sha256);
         }
         _ => return Err(Fail::from(row)),
     }
     Ok(())
-}
-
-/// The key of a short-term password.
-fn key_of(
-    rt: &(impl Abort + AllocGlobal),
-    password: &str,
-    algorithm: IntegrityAlgorithm,
-) -> Result<IntegrityKey, Fail> {
-    let credentials = credentials_of(rt, password, "-", "-")?;
-    Ok(credentials.make_key(rt.alloc(), algorithm)?)
 }
 
 #[test]
@@ -175,10 +174,8 @@ fn keys_of_credentials(rt: HostRuntime) -> Result<(), Fail> {
         ("pass", sha256, true),
         ("past", sha1, false),
     ] {
-        let (key, other) = (
-            key_of(&rt, "pass", sha1)?,
-            key_of(&rt, password, algorithm)?,
-        );
+        let key = IntegrityKey::short_term("pass", sha1);
+        let other = IntegrityKey::short_term(password, algorithm);
         assert!(rt;
             (key == other) == equal && other.algorithm() == algorithm,
             "{password}"

@@ -1,13 +1,10 @@
 //! Tests that cross crates, as tables, of what stands on the STUN types or beside them: digests, keys,
-//! values of attributes, texts of errors, nonces, the authenticator, the desk, and the trace with
-//! readers and writers that fail. Expected values come from outside. What traces show stands in the
+//! nonces, the authenticator, the desk, and the trace with readers and writers that fail. Expected values come from outside. What traces show stands in the
 //! stored run of `turn_traces`.
 #![tactic(auto)]
 
 #[cfg(test)]
 mod agent;
-#[cfg(test)]
-mod attribute_values;
 #[cfg(test)]
 mod digests;
 #[cfg(test)]
@@ -22,5 +19,3 @@ mod replaying;
 mod rows;
 #[cfg(test)]
 mod server;
-#[cfg(test)]
-mod texts;

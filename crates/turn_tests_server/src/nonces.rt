@@ -8,7 +8,7 @@ use std::test::Fail;
 use std::time::Duration;
 use stun_proto_agent::instant::Instant;
 use stun_proto_auth::feature::Feature;
-use stun_proto_auth::nonce::{NonceFeatures, write_nonce};
+use stun_proto_auth::nonce::{NONCE_WORDS, NonceFeatures, write_nonce};
 use stun_proto_auth::supported::SupportedIntegrity;
 use stun_proto_server::long_term::LongTermServerAuth;
 use stun_types::message::IntegrityAlgorithm;
@@ -24,10 +24,17 @@ const fn features(password_algorithms: bool, anonymous_username: bool) -> NonceF
 }
 
 #[test]
-fn features_of_nonces(rt: HostRuntime) -> Result<(), Fail> {
-    let words = [0, 25, 26, 51, 52, 61, 62, 4_294_967_295];
+fn characters_of_words(rt: HostRuntime) -> Result<(), Fail> {
+    let mut words = [61; NONCE_WORDS];
+    let first = [0, 25, 26, 51, 52, 61, 62, 123, 124, 4_294_967_295];
+    words[..first.len()].copy_from_slice(&first);
     let nonce = write_nonce(rt.alloc(), features(true, true), &words)?;
-    assert_eq!(rt; nonce.as_str(), "obMatJos2wAAAAZaz09AD");
+    assert_eq!(rt; nonce.as_str(), "obMatJos2wAAAAZaz09A9AD999999");
+    Ok(())
+}
+
+#[test]
+fn features_of_nonces(rt: HostRuntime) -> Result<(), Fail> {
     let sha1 = SupportedIntegrity::only(IntegrityAlgorithm::Sha1);
     let both = sha1.with(IntegrityAlgorithm::Sha256);
     for (supported, anonymity, offered) in [

@@ -104,11 +104,14 @@ impl<'a, 'raw> TryFrom<&'raw RawAttribute<'a>> for Lifetime {
 
 /// Refused as `try_from` is; no memory is taken.
 impl<'a> AttributeFromRaw<'a> for Lifetime {
+    ghost use Rattle.std.specs.Prelude.{false};
     ghost use Rattle.stun_types_write.specs.Reading.{value_refusal};
 
     ghost read_refusal = { value_refusal 0x000D 4 4 };
 
     ghost read_value = { λ value. value };
+
+    ghost reading_takes_memory = { false };
 
     fn from_raw_ref(_alloc: Global, raw: &RawAttribute<'_>) -> Result<Lifetime, StunParseError> {
         let seconds = seconds_of(raw)?;

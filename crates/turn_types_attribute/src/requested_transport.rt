@@ -115,13 +115,15 @@ impl<'a, 'raw> TryFrom<&'raw RawAttribute<'a>> for RequestedTransport {
 
 /// Refused as `try_from` is; no memory is taken.
 impl<'a> AttributeFromRaw<'a> for RequestedTransport {
-    ghost use Rattle.std.specs.Prelude.{slice_index};
+    ghost use Rattle.std.specs.Prelude.{false, slice_index};
     ghost use Rattle.stun_types_write.specs.Reading.{value_refusal};
     ghost use Rattle.turn_types_attribute.specs.Transports.{transport_value};
 
     ghost read_refusal = { value_refusal 0x0019 4 4 };
 
     ghost read_value = { λ value. transport_value (slice_index value 0) };
+
+    ghost reading_takes_memory = { false };
 
     fn from_raw_ref(
         _alloc: Global,

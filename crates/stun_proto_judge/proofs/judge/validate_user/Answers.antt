@@ -3,12 +3,12 @@ use Rattle.stun_proto_judge.proofs.judge.validate_user.Goals as goal
 
 pub returns-in-Ok-clause-valid : goal.returns-in-Ok-clause-valid
 returns-in-Ok-clause-valid c =
-    valid_by c.args.message.now c.in_ok-key.key c.args.realm.now c.args.pending.now.name.now c.args.pending.now.password.now c.args.pending.now.algorithm c.in-Ok.field-0
-    c.in_ok-key.ensures
+    valid_by c.args.message.now c.key_in-key.result c.args.realm.now c.args.pending.now.name.now c.args.pending.now.password.now c.args.pending.now.algorithm c.in-Ok.field-0
+    c.key_in-key.ensures
     c.requires c.in-Ok.ensures.valid
 
-pub returns-clause-refused : goal.returns-clause-refused
-returns-clause-refused c =
-    wrong_by c.args.message.now c.in_ok-key.key c.args.realm.now c.args.pending.now.name.now c.args.pending.now.password.now c.args.pending.now.algorithm c.in-Err.error c.of_digest.result c.of_digest.ensures
-    c.in_ok-key.ensures
+pub returns-in-Err-clause-refused : goal.returns-in-Err-clause-refused
+returns-in-Err-clause-refused c =
+    wrong_by c.args.message.now c.key_in-key.result c.args.realm.now c.args.pending.now.name.now c.args.pending.now.password.now c.args.pending.now.algorithm c.in-Err.error c.of_digest.result c.of_digest.ensures
+    c.key_in-key.ensures
     (λ text s. absurd (Prim.cc (c.in-Err.ensures.accepted text s)))

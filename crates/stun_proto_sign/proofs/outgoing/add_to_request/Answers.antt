@@ -1,6 +1,6 @@
 use Rattle.std.proofs.Common.{rules, None}
 use Rattle.stun_proto_sign.specs.Addition.{key_in}
-use Rattle.stun_proto_sign.proofs.Made.{claim_decides, claim_refused, is_cause, memory_left, signed, signer_left}
+use Rattle.stun_proto_sign.proofs.Made.{claim_decides, claim_refused, is_cause, kept_limit, memory_left, signed, signer_left}
 use Rattle.stun_proto_sign.proofs.outgoing.add_to_request.Goals as goal
 
 pub returns-in_err-signature_fits-clause-cause : goal.returns-in_err-signature_fits-clause-cause
@@ -48,3 +48,9 @@ returns-clause-cause g c =
     let fits = rw (c.name.ensures, c.realm.ensures, c.nonce.ensures) at c.in_ok-size.ensures in
     let room = rw c.algorithm.ensures at c.in_ok-signature_fits.ensures in
     claim_decides _ _ _ _ (key_in c.args.to.now.realm c.args.user.now) _ None c.requires fits room
+
+pub returns-in_err-add_integrity-clause-lent : goal.returns-in_err-add_integrity-clause-lent
+returns-in_err-add_integrity-clause-lent g c = λ has.
+    let added = rw (c.name-2.ensures, c.realm-2.ensures, c.nonce-2.ensures) at c.in_ok-add_claim.ensures.ok in
+    let lent = c.in_err-add_integrity.ensures.lent (kept_limit _ _ _ added has) in
+    search rules

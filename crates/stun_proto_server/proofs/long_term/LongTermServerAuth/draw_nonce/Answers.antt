@@ -1,7 +1,7 @@
 use Rattle.std.proofs.Common.{◌≡◌, ℕ, List, None, ap, ◌∙◌}
 use Rattle.std.specs.FinMap as map
-use Rattle.std.specs.String.{string_bytes}
 use Rattle.stun_types_base.specs.Words.{words_of}
+use Rattle.stun_proto_auth.specs.declared.nonce.TheConstants.{NONCE_WORDS}
 use Rattle.stun_proto_auth.specs.Nonce.{nonce_text, features_offered}
 use Rattle.stun_proto_server.specs.Server.{Server}
 use Rattle.stun_proto_server.proofs.Apart.{drawn_others}
@@ -11,7 +11,7 @@ use Rattle.stun_proto_server.proofs.long_term.LongTermServerAuth.draw_nonce.Goal
 pub returns-clause-ok : goal.returns-clause-ok
 returns-clause-ok g c =
     let features = c.offered-features.ensures ∙ ap (λ (s : Server). features_offered s.algorithms s.anonymous_username) c.self.view_is in
-    let text : string_bytes c.in_ok-nonce.nonce ≡ nonce_text (features_offered c.args.self.now.algorithms c.args.self.now.anonymous_username) (words_of 16 (g.R.Rng.stream c.args.rng.now)) =
+    let text : c.in_ok-nonce.nonce ≡ nonce_text (features_offered c.args.self.now.algorithms c.args.self.now.anonymous_username) (words_of NONCE_WORDS (g.R.Rng.stream c.args.rng.now)) =
     c.in_ok-nonce.ensures ∙ (λ i. nonce_text (features i) (c.draw_words-words.ensures.words i)) in
     insert-clients c.self.inside c.insert.new.self c.args.self.now c.args.from _ c.self.view_is c.in_ok-insert.ensures.updates
     ∙ ap {A = List ℕ} {B = Server} (λ nonce. record c.args.self.now { clients = map.insert c.args.self.now.clients c.args.from (record { nonce = nonce; drawn = c.args.now; outcome = None }) }) text

@@ -14,4 +14,4 @@ pub returns : goal.returns
 returns c kind number attributes reply =
     let has : IsSome (key_at c.self.inside.auth c.args.from) = search rules in
     subst (λ (s : State). IsSignedFor s.auth c.args.from kind number attributes c.finish.result.items) c.self.view_is
-    (signed_for c.self.inside.auth c.args.from _ (own_draft c.args.reply) (own_draft c.in_ok-signed.signed) c.finish.result.items c.requires.response has c.finish.ensures c.in_ok-signed.ensures kind number attributes reply)
+    (signed_for c.self.inside.auth c.args.from _ (own_draft c.args.reply) (own_draft c.in_ok-signed.signed) c.finish.result.items c.requires.response has c.finish.ensures c.in_ok-signed.ensures.ok kind number attributes reply)

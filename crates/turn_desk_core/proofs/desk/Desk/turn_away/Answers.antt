@@ -10,4 +10,4 @@ pub returns : goal.returns
 returns c =
     let kept : nonce_at c.self.inside.auth c.args.from ≡ Some c.unwrap-nonce.result.now = search rules in
     subst (λ (s : State). IsTurnedReply s.auth c.args.from c.args.request.now c.args.error c.finish.result.items) c.self.view_is
-    (turned c.self.inside.auth c.args.from c.args.request.now c.args.error c.realm.result.now c.unwrap-nonce.result.now (own_draft c.in_ok-reply.reply) c.finish.result.items c.realm.ensures kept c.finish.ensures c.in_ok-reply.ensures)
+    (turned c.self.inside.auth c.args.from c.args.request.now c.args.error c.realm.result.now c.unwrap-nonce.result.now (own_draft c.in_ok-reply.reply) c.finish.result.items c.realm.ensures.value kept c.finish.ensures c.in_ok-reply.ensures)

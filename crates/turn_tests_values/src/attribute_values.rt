@@ -13,6 +13,7 @@ use stun_types::attribute::{
 };
 use stun_types::laws::written_and_read;
 use stun_types::message::{IntegrityAlgorithm, StunParseError, StunWriteError, TransactionId};
+use stun_types::prelude::Attribute;
 use turn_types_attribute::lifetime::Lifetime;
 use turn_types_attribute::requested_transport::RequestedTransport;
 use turn_types_attribute::xor_relayed_address::XorRelayedAddress;
@@ -245,8 +246,8 @@ fn raw_attributes_are_of_one_type(rt: HostRuntime) -> Result<(), Fail> {
         let bytes = hex::decode(rt.alloc(), *row)?;
         let raw = RawAttribute::from_bytes(bytes.as_slice())?;
         let mut expected = [WRONG; 13];
-        if let Some(own) = expected.get_mut(place) {
-            *own = None;
+        if let Some(of_this_type) = expected.get_mut(place) {
+            *of_this_type = None;
         }
         assert_eq!(rt; refusals(rt.alloc(), &raw), expected, "{row}");
     }
@@ -256,6 +257,24 @@ fn raw_attributes_are_of_one_type(rt: HostRuntime) -> Result<(), Fail> {
 const fn over(expected: usize, actual: usize) -> Option<StunWriteError> {
     Some(StunWriteError::TooLarge { expected, actual })
 }
+
+#[test]
+fn types_are_added_once(rt: HostRuntime) -> Result<(), Fail> {
+    let mut types = UnknownAttributes::new(rt.alloc(), &[])?;
+    for value in (0..100).chain(0..100) {
+        types.add_attribute(AttributeType(value))?;
+    }
+    assert_eq!(rt;
+        (types.length(), has(&types, [99, 100])),
+        (200, [true, false])
+    );
+    Ok(())
+}
+
+const TOO_SMALL: StunWriteError = StunWriteError::TooSmall {
+    expected: 16,
+    actual: 15,
+};
 
 #[test]
 fn values_over_their_limits(rt: HostRuntime) -> Result<(), Fail> {
@@ -271,10 +290,6 @@ fn values_over_their_limits(rt: HostRuntime) -> Result<(), Fail> {
     types.push(AttributeType(1))?;
     let letters = [b'a'; 764];
     let text = str::from_utf8(&letters)?;
-    let too_small = StunWriteError::TooSmall {
-        expected: 16,
-        actual: 15,
-    };
     let refused = [
         UnknownAttributes::new(rt.alloc(), types.as_slice()).err(),
         Software::new(rt.alloc(), text).err(),
@@ -291,7 +306,7 @@ fn values_over_their_limits(rt: HostRuntime) -> Result<(), Fail> {
         over(32, 36),
         over(32, 36),
         Some(StunWriteError::IntegrityFailed),
-        Some(too_small),
+        Some(TOO_SMALL),
     ];
     assert_eq!(rt; refused, expected);
     // a list of no algorithms is made and written, and is not read

@@ -81,6 +81,26 @@ fn numbers_transports_and_families(rt: HostRuntime) -> Result<(), Fail> {
     Ok(())
 }
 
+// what RFC 8489, section 18.3, calls the types, and PRIORITY, which the test adds
+const NAMED: [(u16, &str); 16] = [
+    (0x0006, "USERNAME"),
+    (0x0008, "MESSAGE-INTEGRITY"),
+    (0x0009, "ERROR-CODE"),
+    (0x000A, "UNKNOWN-ATTRIBUTES"),
+    (0x0014, "REALM"),
+    (0x0015, "NONCE"),
+    (0x001C, "MESSAGE-INTEGRITY-SHA256"),
+    (0x001D, "PASSWORD-ALGORITHM"),
+    (0x001E, "USERHASH"),
+    (0x0020, "XOR-MAPPED-ADDRESS"),
+    (0x0024, "PRIORITY"),
+    (0x8002, "PASSWORD-ALGORITHMS"),
+    (0x8003, "ALTERNATE-DOMAIN"),
+    (0x8022, "SOFTWARE"),
+    (0x8023, "ALTERNATE-SERVER"),
+    (0x8028, "FINGERPRINT"),
+];
+
 #[test]
 fn names_of_methods_and_types(rt: HostRuntime) -> Result<(), Fail> {
     let mut names = Names::new(rt.alloc());
@@ -103,24 +123,7 @@ fn names_of_methods_and_types(rt: HostRuntime) -> Result<(), Fail> {
         [BINDING.name(&names), allocate.name(&names)],
         ["BINDING", "ALLOCATE"]
     );
-    for (value, name) in [
-        (0x0006, "USERNAME"),
-        (0x0008, "MESSAGE-INTEGRITY"),
-        (0x0009, "ERROR-CODE"),
-        (0x000A, "UNKNOWN-ATTRIBUTES"),
-        (0x0014, "REALM"),
-        (0x0015, "NONCE"),
-        (0x001C, "MESSAGE-INTEGRITY-SHA256"),
-        (0x001D, "PASSWORD-ALGORITHM"),
-        (0x001E, "USERHASH"),
-        (0x0020, "XOR-MAPPED-ADDRESS"),
-        (0x0024, "PRIORITY"),
-        (0x8002, "PASSWORD-ALGORITHMS"),
-        (0x8003, "ALTERNATE-DOMAIN"),
-        (0x8022, "SOFTWARE"),
-        (0x8023, "ALTERNATE-SERVER"),
-        (0x8028, "FINGERPRINT"),
-    ] {
+    for (value, name) in NAMED {
         assert_eq!(rt; AttributeType::new(value).name(&names), name);
     }
     Ok(())

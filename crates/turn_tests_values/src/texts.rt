@@ -33,7 +33,6 @@ no memory
 const VALIDATE_ERRORS: &str = "\
 Missing attribute of type 8
 The integrity of the message does not hold
-no memory
 ";
 
 /// Values are printed as these lines.
@@ -100,7 +99,6 @@ fn errors_are_printed(rt: &(impl Abort + AllocGlobal)) -> Result<(), Fail> {
     let errors = [
         ValidateError::Parse(missing),
         ValidateError::IntegrityFailed,
-        ValidateError::NoMemory,
     ];
     are_printed(rt, &errors, VALIDATE_ERRORS)
 }
