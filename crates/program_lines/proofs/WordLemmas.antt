@@ -2,7 +2,7 @@
 use Rattle.std.proofs.Common.{ℕ, ◌≡◌, List, [], ◌∷◌, length, sym, refl, ◌∙◌, ap, Bor}
 use Rattle.std.specs.Prelude.{map, ◌==◌, ◌||◌}
 use Rattle.std.specs.List.{list_any}
-use Rattle.program_lines.specs.Words.{AreWords}
+use Rattle.program_lines.specs.LineWords.{AreWords}
 
 -- a test of words is a test of what they point to
 pub any_now : (words : List (Bor (List ℕ)))

@@ -4,4 +4,4 @@ pub mod LowerHex
 pub mod Refusal
 pub mod Status
 pub mod Stop
-pub mod Words
+pub mod LineWords

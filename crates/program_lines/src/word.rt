@@ -2,7 +2,7 @@
 
 ghost use Rattle.std.specs.Prelude.{◌≡◌, ◌==◌, ◌<◌, Err, IfOk, List, length, map, ℕ};
 ghost use Rattle.std.specs.List.{list_any, slice_split};
-ghost use Rattle.program_lines.specs.Words.{AreWords};
+ghost use Rattle.program_lines.specs.LineWords.{AreWords};
 
 use crate::refusal::LineError;
 use std::alloc::{AllocError, Global};

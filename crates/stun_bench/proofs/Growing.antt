@@ -1,10 +1,10 @@
 -- A message that grows by one LIFETIME at a time.
 use Rattle.std.proofs.Common.{◌≡◌, ℕ, List, [], ◌∷◌, ◌++◌, map, sym, ap, ◌∙◌, append_assoc}
 use Rattle.std.proofs.lemmas.List.{append-nil, map_push}
-use Rattle.stun_types_wire.specs.Attributes.{Attr}
-use Rattle.stun_types_wire.specs.Text.{message_text}
-use Rattle.stun_types_write.specs.Drafts.{Draft}
-use Rattle.stun_types_write.specs.Outcomes.{IsAdded}
+use Rattle.stun_types.specs.Attributes.{Attr}
+use Rattle.stun_types.specs.Text.{message_text}
+use Rattle.stun_types.specs.Drafts.{Draft}
+use Rattle.stun_types.specs.Outcomes.{IsAdded}
 use Rattle.stun_bench.specs.Lifetimes.{GrowsBy, lifetime}
 
 -- by none

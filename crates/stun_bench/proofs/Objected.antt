@@ -1,8 +1,8 @@
 -- The response that lists unknown types.
 use Rattle.std.specs.Prelude.{◌≡◌, ℕ, false, List, [], ◌∷◌, Some}
-use Rattle.stun_types_wire.specs.Text.{message_text}
-use Rattle.stun_types_write.specs.Drafts.{Draft}
-use Rattle.stun_types_message.specs.Objections.{IsObjected, objection_to, unknown_response_attributes}
+use Rattle.stun_types.specs.Text.{message_text}
+use Rattle.stun_types.specs.Drafts.{Draft}
+use Rattle.stun_types.specs.Objections.{IsObjected, objection_to, unknown_response_attributes}
 
 -- where something is answered and no type is required, it lists the unknown types
 pub is_unknown_text : (kinds : List ℕ) (mtype number : ℕ) (old new : Draft)

@@ -1,10 +1,10 @@
 -- A validation's answer as a yes or no.
 use Rattle.std.specs.Prelude.{◌≡◌, ◌↔◌, ℕ, Bool, IsTrue, List, Result, Ok, Err, IfOk, is_ok}
 use Rattle.std.proofs.Common.{refl, sym, subst}
-use Rattle.stun_types_wire.specs.declared.algorithm.IntegrityAlgorithm.{IntegrityAlgorithm}
-use Rattle.stun_types_wire.specs.declared.error.ValidateError.{ValidateError}
-use Rattle.stun_types_integrity.specs.Credentials.{Key}
-use Rattle.stun_types_integrity.specs.Integrity.{IsSigned}
+use Rattle.stun_types.specs.IntegrityAlgorithms.{IntegrityAlgorithm}
+use Rattle.stun_types.specs.ValidateErrors.{ValidateError}
+use Rattle.stun_types.specs.Credentials.{Key}
+use Rattle.stun_types.specs.Integrity.{IsSigned}
 
 -- a text under which a message is signed
 abbrev Signed : List ℕ → List ℕ → IntegrityAlgorithm → Type 0

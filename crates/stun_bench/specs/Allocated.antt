@@ -5,17 +5,25 @@ use Rattle.std.specs.declared.net.socket_addr.SocketAddrV4.{SocketAddrV4}
 use Rattle.std.specs.Net.Addr.{ipv4_bits}
 use Rattle.std.specs.Net.Socket.{v4_ip, v4_port}
 use Rattle.byteorder.specs.Endian.{big_bytes, big_number}
-use Rattle.stun_types_wire.specs.declared.algorithm.IntegrityAlgorithm.{IntegrityAlgorithm}
-use Rattle.stun_types_wire.specs.Attributes.{Attr}
-use Rattle.stun_types_wire.specs.Fingerprints.{fingerprint_of}
-use Rattle.stun_types_wire.specs.Grammar.{number_at, shown}
-use Rattle.stun_types_wire.specs.Text.{message_text}
-use Rattle.stun_types_write.specs.Adding.{IsBegun}
-use Rattle.stun_types_write.specs.Reading.{value_refusal}
-use Rattle.stun_types_address.specs.Addresses.{address_again, address_of, address_read_refusal, value_of_parts}
-use Rattle.stun_types_address.specs.Xor.{xored}
-use Rattle.stun_types_integrity.specs.Signing.{signature}
+use Rattle.stun_types.specs.IntegrityAlgorithms.{IntegrityAlgorithm}
+use Rattle.stun_types.specs.Attributes.{Attr}
+use Rattle.stun_types.specs.Fingerprints.{fingerprint_of}
+use Rattle.stun_types.specs.Grammar.{number_at, shown}
+use Rattle.stun_types.specs.MessageClasses.{Success}
+use Rattle.stun_types.specs.Text.{message_text}
+use Rattle.stun_types.specs.Types.{type_of}
+use Rattle.stun_types.specs.Adding.{IsBegun}
+use Rattle.stun_types.specs.ValueReading.{value_refusal}
+use Rattle.stun_types.specs.Addresses.{address_again, address_of, address_read_refusal, value_of_parts}
+use Rattle.stun_types.specs.Xor.{xored}
+use Rattle.stun_types.specs.Signing.{signature}
 use Rattle.stun_bench.specs.declared.allocation.Allocation.{Allocation}
+use Rattle.stun_types.specs.Registry.{fingerprint_kind, integrity_kind, software_kind, xor_mapped_address_kind}
+use Rattle.turn_types.specs.TurnRegistry.{allocate_method, lifetime_kind, xor_relayed_address_kind}
+
+-- the type of the success response to an ALLOCATE
+abbrev pub granted_type : ℕ
+granted_type = type_of Success allocate_method
 
 -- ---- what is read
 
@@ -25,12 +33,13 @@ shows_kind kind bytes = is_some (find (λ a. a.kind == kind) (shown bytes))
 
 -- a message shows the two addresses and the LIFETIME of an allocation
 abbrev pub ShowsAllocated : List ℕ → Type 0
-ShowsAllocated bytes = IsTrue (shows_kind 0x0016 bytes) × IsTrue (shows_kind 0x000D bytes)
-    × IsTrue (shows_kind 0x0020 bytes)
+ShowsAllocated bytes = IsTrue (shows_kind xor_relayed_address_kind bytes) × IsTrue (shows_kind lifetime_kind bytes)
+    × IsTrue (shows_kind xor_mapped_address_kind bytes)
 
 -- a message shows SOFTWARE, MESSAGE-INTEGRITY and FINGERPRINT
 abbrev pub ShowsEnd : List ℕ → Type 0
-ShowsEnd bytes = IsTrue (shows_kind 0x8022 bytes) × IsTrue (shows_kind 0x0008 bytes) × IsTrue (shows_kind 0x8028 bytes)
+ShowsEnd bytes = IsTrue (shows_kind software_kind bytes) × IsTrue (shows_kind integrity_kind bytes)
+    × IsTrue (shows_kind fingerprint_kind bytes)
 
 -- the first attribute of this type that a message shows tells this address of IPv4
 abbrev pub TellsAddress : ℕ → List ℕ → SocketAddrV4 → Type 0
@@ -42,8 +51,8 @@ TellsAddress kind bytes addr =
 -- the first LIFETIME that a message shows tells so many seconds
 abbrev pub TellsLifetime : List ℕ → ℕ → Type 0
 TellsLifetime bytes seconds =
-    IsSomeAnd (find (λ a. a.kind == 0x000D) (shown bytes))
-    (λ a. (value_refusal 0x000D 4 4 a ≡ None) × (seconds ≡ big_number 4 a.value))
+    IsSomeAnd (find (λ a. a.kind == lifetime_kind) (shown bytes))
+    (λ a. (value_refusal lifetime_kind 4 4 a ≡ None) × (seconds ≡ big_number 4 a.value))
 
 -- an address, as its number and its port
 pub record IsPlace (ip port : ℕ) (addr : SocketAddrV4) : Type 0 where
@@ -53,14 +62,14 @@ pub record IsPlace (ip port : ℕ) (addr : SocketAddrV4) : Type 0 where
 -- a message shows the attributes of an allocation, and SOFTWARE and MESSAGE-INTEGRITY
 pub record Tells (bytes : List ℕ) (told : Allocation) : Type 0 where
   pub relayed : SocketAddrV4
-  pub is_relayed : TellsAddress 0x0016 bytes relayed
+  pub is_relayed : TellsAddress xor_relayed_address_kind bytes relayed
   pub relayed_place : IsPlace told.relayed_ip told.relayed_port relayed
   pub mapped : SocketAddrV4
-  pub is_mapped : TellsAddress 0x0020 bytes mapped
+  pub is_mapped : TellsAddress xor_mapped_address_kind bytes mapped
   pub mapped_place : IsPlace told.mapped_ip told.mapped_port mapped
   pub lifetime : TellsLifetime bytes told.lifetime
-  pub software : IsTrue (shows_kind 0x8022 bytes)
-  pub integrity : IsTrue (shows_kind 0x0008 bytes)
+  pub software : IsTrue (shows_kind software_kind bytes)
+  pub integrity : IsTrue (shows_kind integrity_kind bytes)
 
 -- ---- what is written
 
@@ -71,15 +80,15 @@ place_value ip port = value_of_parts 1 port (big_bytes 4 ip)
 -- XOR-RELAYED-ADDRESS, LIFETIME, XOR-MAPPED-ADDRESS, SOFTWARE
 abbrev pub allocated : Allocation → ℕ → List ℕ → List Attr
 allocated told number software =
-    record { kind = 0x0016; value = xored number (place_value told.relayed_ip told.relayed_port) }
-    ∷ record { kind = 0x000D; value = big_bytes 4 told.lifetime }
-    ∷ record { kind = 0x0020; value = xored number (place_value told.mapped_ip told.mapped_port) }
-    ∷ record { kind = 0x8022; value = software }
+    record { kind = xor_relayed_address_kind; value = xored number (place_value told.relayed_ip told.relayed_port) }
+    ∷ record { kind = lifetime_kind; value = big_bytes 4 told.lifetime }
+    ∷ record { kind = xor_mapped_address_kind; value = xored number (place_value told.mapped_ip told.mapped_port) }
+    ∷ record { kind = software_kind; value = software }
     ∷ []
 
 -- the text of the response
 abbrev pub allocated_text : Allocation → ℕ → List ℕ → List ℕ
-allocated_text told number software = message_text 0x0103 number (allocated told number software)
+allocated_text told number software = message_text granted_type number (allocated told number software)
 
 -- the attributes of a message, and behind them the integrity attribute that signs it under a key
 abbrev pub signed : IntegrityAlgorithm → List ℕ → ℕ → ℕ → List Attr → List Attr
@@ -94,12 +103,12 @@ marked algorithm key mtype number adds =
 -- the text of the response, signed under a key
 abbrev pub signed_text : IntegrityAlgorithm → List ℕ → Allocation → ℕ → List ℕ → List ℕ
 signed_text algorithm key told number software =
-    message_text 0x0103 number (signed algorithm key 0x0103 number (allocated told number software))
+    message_text granted_type number (signed algorithm key granted_type number (allocated told number software))
 
 -- the text of the response, signed under a key and with its FINGERPRINT
 abbrev pub marked_text : IntegrityAlgorithm → List ℕ → Allocation → ℕ → List ℕ → List ℕ
 marked_text algorithm key told number software =
-    message_text 0x0103 number (marked algorithm key 0x0103 number (allocated told number software))
+    message_text granted_type number (marked algorithm key granted_type number (allocated told number software))
 
 -- the text of a message became that of the same message, signed under a key and with its FINGERPRINT
 abbrev pub IsMarked : IntegrityAlgorithm → List ℕ → List ℕ → List ℕ → Type 0
@@ -109,7 +118,7 @@ IsMarked algorithm key old new =
 
 -- the response of a number was begun, and shows nothing yet
 pub record BeginsResponse (number : ℕ) (bytes : List ℕ) : Type 0 where
-  pub text : bytes ≡ message_text 0x0103 number []
+  pub text : bytes ≡ message_text granted_type number []
   pub begun : IsBegun bytes
 
 -- a text stands at the front of bytes, and the rest is as it was

@@ -1,17 +1,19 @@
 -- A message that shows LIFETIME many times.
 use Rattle.std.specs.Prelude.{◌≡◌, ℕ, List, ◌++◌, map}
 use Rattle.byteorder.specs.Endian.{big_bytes}
-use Rattle.stun_types_wire.specs.Attributes.{Attr}
-use Rattle.stun_types_wire.specs.Text.{message_text}
-use Rattle.stun_types_write.specs.Adding.{attr_of}
+use Rattle.stun_types.specs.Attributes.{Attr}
+use Rattle.stun_types.specs.Text.{message_text}
+use Rattle.stun_types.specs.Adding.{attr_of}
+use Rattle.turn_types.specs.TurnRegistry.{lifetime_kind}
+use Rattle.stun_bench.specs.Allocated.{granted_type}
 
 -- the LIFETIME of so many seconds
 abbrev pub lifetime : ℕ → Attr
-lifetime seconds = attr_of 0x000D (big_bytes 4 seconds)
+lifetime seconds = attr_of lifetime_kind (big_bytes 4 seconds)
 
 -- the text of the response that shows these alone
 abbrev pub lifetimes_text : List ℕ → ℕ → List ℕ
-lifetimes_text each number = message_text 0x0103 number (map lifetime each)
+lifetimes_text each number = message_text granted_type number (map lifetime each)
 
 -- the text of a message became the text of that message with these LIFETIMEs at its end
 abbrev pub GrowsBy : List ℕ → List ℕ → List ℕ → Type 0

@@ -1,15 +1,15 @@
 //! Many adds to one message.
 
 ghost use Rattle.std.specs.Prelude.{OnOk};
-ghost use Rattle.stun_types_write.specs.Adding.{IsBegun};
-ghost use Rattle.stun_types_write.specs.Outcomes.{IsAdded};
+ghost use Rattle.stun_types.specs.Adding.{IsBegun};
+ghost use Rattle.stun_types.specs.Outcomes.{IsAdded};
 ghost use Rattle.stun_bench.specs.Allocated.{IsSizeOf};
 ghost use Rattle.stun_bench.specs.Lifetimes.{GrowsBy, lifetime, lifetimes_text};
 
 use crate::lent::{begin_into, size_of_front};
 use stun_types::message::{StunWriteError, add_as};
 use stun_types::prelude::MessageWrite;
-use turn_types_attribute::lifetime::Lifetime;
+use turn_types::attribute::Lifetime;
 
 /// Writes the success response to an ALLOCATE of this number that shows a LIFETIME of each of these
 /// numbers of seconds, and nothing else, to the front of `out`, by a writer into these very bytes.

@@ -1,8 +1,8 @@
 //! The building and the signing of a response into memory of its own.
 
 ghost use Rattle.std.specs.Prelude.{◌≡◌, IfOk, IfSome};
-ghost use Rattle.stun_types_wire.specs.declared.algorithm.IntegrityAlgorithm.TheVariants.{Sha1, Sha256};
-ghost use Rattle.stun_types_write.specs.Adding.{IsBegun};
+ghost use Rattle.stun_types.specs.IntegrityAlgorithms.{Sha1, Sha256};
+ghost use Rattle.stun_types.specs.Adding.{IsBegun};
 ghost use Rattle.stun_bench.specs.Allocated.{WritesOut, allocated_text, marked_text, signed_text};
 
 use crate::allocation::Allocation;

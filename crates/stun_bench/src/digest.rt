@@ -4,8 +4,8 @@ ghost use Rattle.std.specs.Prelude.{◌≡◌};
 ghost use Rattle.sha1.specs.Sha1.{sha1};
 ghost use Rattle.sha2.specs.Sha256.{sha256};
 ghost use Rattle.byteorder.specs.Endian.{big_number};
-ghost use Rattle.stun_types_digest.specs.Crc.{crc32};
-ghost use Rattle.stun_types_wire.specs.Fingerprints.{fingerprint_value};
+ghost use Rattle.stun_types.specs.Crc.{crc32};
+ghost use Rattle.stun_types.specs.Fingerprints.{fingerprint_value};
 
 use byteorder::{BigEndian, ByteOrder};
 use sha1::Sha1;

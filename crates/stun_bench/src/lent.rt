@@ -1,8 +1,8 @@
 //! The building and the signing of a response into lent bytes, by a writer that takes no memory.
 
 ghost use Rattle.std.specs.Prelude.{◌≡◌, IfSome, length};
-ghost use Rattle.stun_types_wire.specs.declared.algorithm.IntegrityAlgorithm.TheVariants.{Sha1};
-ghost use Rattle.stun_types_write.specs.Lent.{lent_draft};
+ghost use Rattle.stun_types.specs.IntegrityAlgorithms.{Sha1};
+ghost use Rattle.stun_types.specs.Lent.{lent_draft};
 ghost use Rattle.stun_bench.specs.Allocated.{BeginsResponse, IsSizeOf, allocated_text, marked_text};
 
 use crate::allocation::Allocation;

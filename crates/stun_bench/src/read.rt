@@ -4,9 +4,11 @@ ghost use Rattle.std.specs.Prelude.{◌≡◌, ◌≢◌, ◌↔◌, ℕ, IsTrue
 ghost use Rattle.std.specs.List.{list_all};
 ghost use Rattle.std.specs.declared.net.socket_addr.SocketAddr.TheVariants.{V4};
 ghost use Rattle.std.specs.declared.net.socket_addr.SocketAddrV4.{SocketAddrV4 as AddrV4};
-ghost use Rattle.stun_types_wire.specs.Grammar.{IsMessage};
+ghost use Rattle.stun_types.specs.Grammar.{IsMessage};
 ghost use Rattle.stun_bench.specs.declared.allocation.Allocation.{Allocation as Told};
 ghost use Rattle.stun_bench.specs.Allocated.{Tells, TellsAddress, ShowsAllocated, ShowsEnd, TellsLifetime, shows_kind};
+ghost use Rattle.stun_types.specs.Registry.{fingerprint_kind, xor_mapped_address_kind};
+ghost use Rattle.turn_types.specs.TurnRegistry.{xor_relayed_address_kind};
 
 use crate::allocation::Allocation;
 use std::convert::TryFrom;
@@ -14,12 +16,8 @@ use std::net::{SocketAddr, SocketAddrV4};
 use stun_types::attribute::{AttributeType, MessageIntegrity, XorMappedAddress};
 use stun_types::message::Message;
 use stun_types::prelude::AttributeStaticType;
-use stun_types_wire::attribute::FINGERPRINT;
-use turn_types_attribute::lifetime::Lifetime;
-use turn_types_attribute::xor_relayed_address::XorRelayedAddress;
-
-/// The type of SOFTWARE (RFC 8489, section 14.14).
-pub(crate) const SOFTWARE: AttributeType = AttributeType(0x8022);
+use stun_types::registry::{FINGERPRINT, SOFTWARE};
+use turn_types::attribute::{Lifetime, XorRelayedAddress};
 
 /// Whether bytes are a message.
 #[unsafe(no_mangle)]
@@ -83,7 +81,8 @@ pub extern "C" fn stun_bench_read(
     has_fingerprint: &mut bool,
 ) -> bool
     ensures read { result ≡ true → IsMessage bytes.now × Tells bytes.now told.new }
-    ensures fingerprint { result ≡ true → has_fingerprint.new ≡ shows_kind 0x8028 bytes.now }
+    ensures fingerprint { result ≡ true → has_fingerprint.new
+        ≡ shows_kind fingerprint_kind bytes.now }
     ensures refused { result ≡ false → IsMessage bytes.now → (other : Told)
         → ¬ Tells bytes.now other }
     ensures unchanged { result ≡ false → (told.new ≡ told.old)
@@ -130,8 +129,9 @@ fn allocation_of(message: &Message) -> Option<Allocation>
 
 /// The relayed address, where it is one of IPv4.
 fn relayed_of(message: &Message) -> Option<SocketAddrV4>
-    ensures { MatchOption result ((addr : AddrV4) → ¬ TellsAddress 0x0016 message.now addr)
-        (TellsAddress 0x0016 message.now) }
+    ensures { MatchOption result ((addr : AddrV4)
+        → ¬ TellsAddress xor_relayed_address_kind message.now addr)
+        (TellsAddress xor_relayed_address_kind message.now) }
 {
     let raw = message.raw_attribute(XorRelayedAddress::TYPE)?;
     match XorRelayedAddress::try_from(&raw) {
@@ -142,8 +142,9 @@ fn relayed_of(message: &Message) -> Option<SocketAddrV4>
 
 /// The address from which the request came, where it is one of IPv4.
 fn mapped_of(message: &Message) -> Option<SocketAddrV4>
-    ensures { MatchOption result ((addr : AddrV4) → ¬ TellsAddress 0x0020 message.now addr)
-        (TellsAddress 0x0020 message.now) }
+    ensures { MatchOption result ((addr : AddrV4)
+        → ¬ TellsAddress xor_mapped_address_kind message.now addr)
+        (TellsAddress xor_mapped_address_kind message.now) }
 {
     let raw = message.raw_attribute(XorMappedAddress::TYPE)?;
     match XorMappedAddress::try_from(&raw) {

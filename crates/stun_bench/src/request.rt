@@ -1,17 +1,16 @@
 //! The building and the signing of an ALLOCATE request.
 
 ghost use Rattle.std.specs.Prelude.{◌≡◌, ◌<◌, ◌++◌, ◌∷◌, [], ℕ, List, IfOk, IfSome};
-ghost use Rattle.stun_types_wire.specs.declared.algorithm.IntegrityAlgorithm.TheVariants.{Sha1, Sha256};
-ghost use Rattle.stun_types_wire.specs.Attributes.{Attr};
-ghost use Rattle.stun_types_wire.specs.Text.{message_text};
-ghost use Rattle.stun_types_write.specs.Adding.{IsBegun, attr_of};
-ghost use Rattle.stun_types_integrity.specs.Signing.{signature};
+ghost use Rattle.stun_types.specs.IntegrityAlgorithms.{Sha1, Sha256};
+ghost use Rattle.stun_types.specs.Attributes.{Attr};
+ghost use Rattle.stun_types.specs.Text.{message_text};
+ghost use Rattle.stun_types.specs.Adding.{IsBegun, attr_of};
+ghost use Rattle.stun_types.specs.Signing.{signature};
 ghost use Rattle.stun_bench.specs.Allocated.{WritesOut};
 ghost use Rattle.stun_bench.specs.Asked.{asked_text, signed_asked_text};
 
 use crate::build::{ROOM, copy_out};
 use crate::key::key_of_password;
-use crate::response::ALLOCATE;
 use std::alloc::Global;
 use stun_types::attribute::{AttributeType, RawAttribute};
 use stun_types::message::{
@@ -19,23 +18,12 @@ use stun_types::message::{
     TransactionId, add_as,
 };
 use stun_types::prelude::MessageWriteExt;
-use turn_types_attribute::lifetime::Lifetime;
-use turn_types_attribute::requested_transport::RequestedTransport;
-
-/// The type of USERNAME (RFC 8489, section 14.3).
-const USERNAME: AttributeType = AttributeType(0x0006);
-
-/// The type of REALM (RFC 8489, section 14.9).
-const REALM: AttributeType = AttributeType(0x0014);
-
-/// The type of NONCE (RFC 8489, section 14.10).
-const NONCE: AttributeType = AttributeType(0x0015);
-
-/// How many bytes each text has at most (RFC 8489, sections 14.9 and 14.10).
-const MAX_TEXT: usize = 763;
+use stun_types::registry;
+use turn_types::attribute::{Lifetime, RequestedTransport};
+use turn_types::message::ALLOCATE;
 
 /// Writes the ALLOCATE request of this number to the front of `out`: REQUESTED-TRANSPORT of UDP,
-/// LIFETIME, USERNAME, REALM and NONCE. Answers how many bytes it has; 0, with nothing written, where a
+/// LIFETIME, registry::USERNAME, REALM and NONCE. Answers how many bytes it has; 0, with nothing written, where a
 /// text has more than 763 bytes, where `out` has not the room, and where memory is refused.
 #[unsafe(no_mangle)]
 pub extern "C" fn stun_bench_build_request(
@@ -144,9 +132,9 @@ fn ask(
     let number = TransactionId::from(u128::from(number));
     let transport = RequestedTransport::new(RequestedTransport::UDP);
     let lifetime = Lifetime::new(lifetime);
-    let user = text_of(USERNAME, user)?;
-    let realm = text_of(REALM, realm)?;
-    let nonce = text_of(NONCE, nonce)?;
+    let user = text_of(registry::USERNAME, user)?;
+    let realm = text_of(registry::REALM, realm)?;
+    let nonce = text_of(registry::NONCE, nonce)?;
     let mtype = MessageType::from_class_method(MessageClass::Request, ALLOCATE);
     let writer = MessageWriteVec::with_capacity(alloc, ROOM)?;
     let mut writer = Message::builder(mtype, number, writer)?;
@@ -162,9 +150,9 @@ fn ask(
 fn text_of(atype: AttributeType, text: &[u8]) -> Result<RawAttribute<'_>, StunWriteError>
     ensures { IfOk result (λ raw. raw ≡ attr_of atype.0 text.now) }
 {
-    if text.len() > MAX_TEXT {
+    if text.len() > registry::MAX_TEXT_LENGTH {
         return Err(StunWriteError::TooLarge {
-            expected: MAX_TEXT,
+            expected: registry::MAX_TEXT_LENGTH,
             actual: text.len(),
         });
     }

@@ -1,31 +1,25 @@
 //! The success response to an ALLOCATE, written into any writer.
 
 ghost use Rattle.std.specs.Prelude.{◌≡◌, [], OnOk};
-ghost use Rattle.stun_types_wire.specs.Text.{message_text};
-ghost use Rattle.stun_types_write.specs.Adding.{IsBegun};
-ghost use Rattle.stun_types_address.specs.Addresses.{address_value};
-ghost use Rattle.stun_bench.specs.Allocated.{IsMarked, allocated_text, place_value};
+ghost use Rattle.stun_types.specs.Text.{message_text};
+ghost use Rattle.stun_types.specs.Adding.{IsBegun};
+ghost use Rattle.stun_types.specs.Addresses.{address_value};
+ghost use Rattle.stun_bench.specs.Allocated.{granted_type, IsMarked, allocated_text, place_value};
 
 use crate::allocation::Allocation;
-use crate::read::SOFTWARE;
 use std::net::{Ipv4Addr, SocketAddr, SocketAddrV4};
 use stun_types::attribute::{RawAttribute, XorMappedAddress};
 use stun_types::message::{
     IntegrityKey, MessageClass, MessageType, Method, StunWriteError, TransactionId, add_as,
 };
 use stun_types::prelude::{MessageWrite, MessageWriteExt};
-use turn_types_attribute::lifetime::Lifetime;
-use turn_types_attribute::xor_relayed_address::XorRelayedAddress;
-
-/// ALLOCATE (RFC 8656, section 17).
-pub(crate) const ALLOCATE: Method = Method(0x003);
-
-/// How many bytes SOFTWARE has at most (RFC 8489, section 14.14).
-const MAX_SOFTWARE: usize = 763;
+use stun_types::registry;
+use turn_types::attribute::{Lifetime, XorRelayedAddress};
+use turn_types::message::ALLOCATE;
 
 /// The type of the response.
 pub(crate) fn response_type() -> MessageType
-    ensures { result ≡ 0x0103 }
+    ensures { result ≡ granted_type }
 {
     MessageType::from_class_method(MessageClass::Success, ALLOCATE)
 }
@@ -40,13 +34,13 @@ pub(crate) fn add_response<W: MessageWrite>(
     software: &[u8],
 ) -> Result<(), StunWriteError>
     requires begun { IsBegun (W.draft writer.old).bytes }
-    ensures text { OnOk result ((W.draft writer.old).bytes ≡ message_text 0x0103 number []
+    ensures text { OnOk result ((W.draft writer.old).bytes ≡ message_text granted_type number []
         → (W.draft writer.new).bytes ≡ allocated_text told.now number software.now) }
     ensures begun { OnOk result (IsBegun (W.draft writer.new).bytes) }
 {
-    if software.len() > MAX_SOFTWARE {
+    if software.len() > registry::MAX_SOFTWARE_LENGTH {
         return Err(StunWriteError::TooLarge {
-            expected: MAX_SOFTWARE,
+            expected: registry::MAX_SOFTWARE_LENGTH,
             actual: software.len(),
         });
     }
@@ -54,7 +48,7 @@ pub(crate) fn add_response<W: MessageWrite>(
     let relayed = XorRelayedAddress::new(address(told.relayed_ip, told.relayed_port), number);
     let lifetime = Lifetime::new(told.lifetime);
     let mapped = XorMappedAddress::new(address(told.mapped_ip, told.mapped_port), number);
-    let software = RawAttribute::new(SOFTWARE, software);
+    let software = RawAttribute::new(registry::SOFTWARE, software);
     add_as(writer, &relayed, &relayed)?;
     add_as(writer, &lifetime, &lifetime)?;
     add_as(writer, &mapped, &mapped)?;

@@ -2,8 +2,8 @@
 
 ghost use Rattle.std.specs.Prelude.{◌≡◌, ◌↔◌, ℕ, List, IsTrue, MatchOption, false};
 ghost use Rattle.std.specs.Str.{IsUtf8};
-ghost use Rattle.stun_types_wire.specs.declared.algorithm.IntegrityAlgorithm.TheVariants.{Sha1, Sha256};
-ghost use Rattle.stun_types_integrity.specs.Integrity.{IsSigned};
+ghost use Rattle.stun_types.specs.IntegrityAlgorithms.{Sha1, Sha256};
+ghost use Rattle.stun_types.specs.Integrity.{IsSigned};
 
 use crate::key::key_of_password;
 use stun_types::message::{IntegrityAlgorithm, Message};

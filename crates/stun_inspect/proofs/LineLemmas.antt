@@ -2,8 +2,8 @@
 use Rattle.std.proofs.Common.{ℕ, List, subst}
 use Rattle.std.specs.Prelude.{Result, Ok, Err, IfOk}
 use Rattle.stun_inspect.specs.declared.line.Line.{Line}
-use Rattle.stun_inspect.specs.Line.{IsLine, IsLineOf}
-use Rattle.program_lines.specs.Words.{AreWords}
+use Rattle.stun_inspect.specs.InspectLines.{IsLine, IsLineOf}
+use Rattle.program_lines.specs.LineWords.{AreWords}
 use Rattle.program_lines.proofs.WordLemmas.{same_words}
 
 -- the words of a line spell it

@@ -12,9 +12,7 @@ use stun_types::attribute::{
 };
 use stun_types::message::{StunParseError, TransactionId};
 use stun_types::{Names, NoMemory};
-use turn_types_attribute::lifetime::Lifetime;
-use turn_types_attribute::requested_transport::RequestedTransport;
-use turn_types_attribute::xor_relayed_address::XorRelayedAddress;
+use turn_types::attribute::{Lifetime, RequestedTransport, XorRelayedAddress};
 
 /// Appends the line of an attribute that a message of this number shows: its type, its name, and its
 /// value in words; or why it is no value of that type, and its bytes.

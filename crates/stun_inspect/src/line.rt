@@ -2,7 +2,7 @@
 
 ghost use Rattle.std.specs.Prelude.{◌≡◌, Err, IfOk, List, codes, map, ℕ};
 ghost use Rattle.stun_inspect.specs.declared.line.Line.{Line};
-ghost use Rattle.stun_inspect.specs.Line.{IsLine, IsLineOf, IsNamed, SpellBytes};
+ghost use Rattle.stun_inspect.specs.InspectLines.{IsLine, IsLineOf, IsNamed, SpellBytes};
 
 use program_lines::lower_hex::read_hex;
 use program_lines::refusal::LineError;

@@ -6,13 +6,13 @@
 #![tactic(auto)]
 
 mod attribute;
-mod inspect;
 mod line;
 mod message;
 mod names;
 mod refusal;
+mod report;
 
-use crate::inspect::inspect;
+use crate::report::inspect;
 use std::io;
 use std::process::ExitCode;
 

@@ -4,10 +4,8 @@ use std::alloc::Global;
 use stun_types::attribute::AttributeStaticType;
 use stun_types::message::{IntegrityAlgorithm, MessageClass};
 use stun_types::{Names, NoMemory};
-use turn_types_attribute::lifetime::Lifetime;
-use turn_types_attribute::method;
-use turn_types_attribute::requested_transport::RequestedTransport;
-use turn_types_attribute::xor_relayed_address::XorRelayedAddress;
+use turn_types::attribute::{Lifetime, RequestedTransport, XorRelayedAddress};
+use turn_types::message as method;
 
 /// The names of RFC 8489, and those of the methods and attributes of TURN that this repository has.
 pub(crate) fn names(alloc: Global) -> Result<Names, NoMemory> {

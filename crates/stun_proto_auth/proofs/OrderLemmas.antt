@@ -1,7 +1,7 @@
 -- Lemmas on the lists of supported algorithms.
 use Rattle.std.proofs.Common.{refl}
 use Rattle.std.specs.List.{IsDistinct}
-use Rattle.stun_proto_auth.specs.Algorithms.{is_same_algorithm}
+use Rattle.stun_proto_auth.specs.SupportedAlgorithms.{is_same_algorithm}
 use Rattle.stun_proto_auth.specs.Orders.{algorithms_in}
 use Rattle.stun_proto_auth.specs.declared.supported.Order.{Order}
 use Rattle.stun_proto_auth.specs.declared.supported.Order.TheVariants.{OnlySha1, OnlySha256, Sha1First, Sha256First}

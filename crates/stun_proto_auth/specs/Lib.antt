@@ -1,3 +1,3 @@
-pub mod Algorithms
+pub mod SupportedAlgorithms
 pub mod Nonce
 pub mod Orders

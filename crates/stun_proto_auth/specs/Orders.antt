@@ -1,7 +1,6 @@
 -- The lists of supported algorithms, as they are kept.
 use Rattle.std.specs.Prelude.{◌≡◌, List, [], ◌∷◌, refl}
-use Rattle.stun_types_wire.specs.declared.algorithm.IntegrityAlgorithm.{IntegrityAlgorithm}
-use Rattle.stun_types_wire.specs.declared.algorithm.IntegrityAlgorithm.TheVariants.{Sha1, Sha256}
+use Rattle.stun_types.specs.IntegrityAlgorithms.{IntegrityAlgorithm, Sha1, Sha256}
 use Rattle.stun_proto_auth.specs.declared.supported.Order.{Order}
 use Rattle.stun_proto_auth.specs.declared.supported.Order.TheVariants.{OnlySha1, OnlySha256, Sha1First, Sha256First}
 

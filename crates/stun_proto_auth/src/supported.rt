@@ -2,10 +2,10 @@
 
 ghost use Rattle.std.specs.Prelude.{◌≡◌, ◌≢◌, [], ◌∷◌};
 ghost use Rattle.std.specs.List.{IsDistinct};
-ghost use Rattle.stun_proto_auth.specs.Algorithms.{is_same_algorithm, with_algorithm};
+ghost use Rattle.stun_proto_auth.specs.SupportedAlgorithms.{is_same_algorithm, with_algorithm};
 
 use std::marker::Model;
-use stun_types_wire::algorithm::IntegrityAlgorithm;
+use stun_types::message::IntegrityAlgorithm;
 
 /// Which algorithms, the first one first.
 #[derive(Clone, Copy, Debug, PartialEq, Eq)]
@@ -25,7 +25,7 @@ pub struct SupportedIntegrity {
 
 impl Model for SupportedIntegrity {
     ghost use Rattle.std.specs.Prelude.{List};
-    ghost use Rattle.stun_types_wire.specs.declared.algorithm.IntegrityAlgorithm.{IntegrityAlgorithm};
+    ghost use Rattle.stun_types.specs.IntegrityAlgorithms.{IntegrityAlgorithm};
 
     ghost Value = { List IntegrityAlgorithm };
 

@@ -1,33 +1,13 @@
 -- What a message claims: who sent it, and by which nonce (RFC 8489, sections 9.2.4, 14.3, 14.4 and 14.9 to 14.12).
 use Rattle.std.specs.Prelude.{ℕ, Bool, ◌==◌, ◌||◌, false, if◌then◌else◌, List, [], ◌∷◌, length, find, Option, Some, None, is_some}
 use Rattle.std.specs.Option.{option_or}
-use Rattle.stun_types_wire.specs.declared.algorithm.IntegrityAlgorithm.{IntegrityAlgorithm}
-use Rattle.stun_types_wire.specs.declared.error.StunParseError.{StunParseError}
-use Rattle.stun_types_wire.specs.Attributes.{Attr}
-use Rattle.stun_types_wire.specs.Grammar.{shown}
-use Rattle.stun_types_write.specs.Reading.{text_read_refusal}
-use Rattle.stun_types_attribute.specs.Texts.{longest_text, longest_username}
-use Rattle.stun_types_message.specs.Validation.{last_algorithm}
-
--- the types of USERNAME, USERHASH, REALM and NONCE
-abbrev pub username_kind : ℕ
-username_kind = 0x0006
-
-abbrev pub user_hash_kind : ℕ
-user_hash_kind = 0x001E
-
-abbrev pub realm_kind : ℕ
-realm_kind = 0x0014
-
-abbrev pub nonce_kind : ℕ
-nonce_kind = 0x0015
-
--- the types of PASSWORD-ALGORITHM and PASSWORD-ALGORITHMS
-abbrev pub password_algorithm_kind : ℕ
-password_algorithm_kind = 0x001D
-
-abbrev pub password_algorithms_kind : ℕ
-password_algorithms_kind = 0x8002
+use Rattle.stun_types.specs.IntegrityAlgorithms.{IntegrityAlgorithm}
+use Rattle.stun_types.specs.ParseErrors.{StunParseError}
+use Rattle.stun_types.specs.Attributes.{Attr}
+use Rattle.stun_types.specs.Grammar.{shown}
+use Rattle.stun_types.specs.ValueReading.{text_read_refusal}
+use Rattle.stun_types.specs.Registry.{longest_text, longest_username, nonce_kind, password_algorithm_kind, password_algorithms_kind, realm_kind, userhash_kind, userhash_length, username_kind}
+use Rattle.stun_types.specs.MessageValidation.{last_algorithm}
 
 -- the last attribute of a type
 unfoldable pub last_of_kind : ℕ → List Attr → Option Attr
@@ -47,7 +27,7 @@ text_told kind most (Some a) = unless_refused (text_read_refusal kind most a) a.
 -- whether there is a USERHASH of 32 bytes
 abbrev pub is_user_hash : Option Attr → Bool
 is_user_hash None = false
-is_user_hash (Some a) = length a.value == 32
+is_user_hash (Some a) = length a.value == userhash_length
 
 -- whether an attribute of a type is there
 abbrev pub has_shown : ℕ → List Attr → Bool
@@ -67,7 +47,7 @@ abbrev pub claim_of : List Attr → Claimed
 claim_of all = record {
   integrity = last_algorithm all;
   username = text_told username_kind longest_username (last_of_kind username_kind all);
-  has_user_hash = is_user_hash (last_of_kind user_hash_kind all);
+  has_user_hash = is_user_hash (last_of_kind userhash_kind all);
   realm = text_told realm_kind longest_text (last_of_kind realm_kind all);
   nonce = text_told nonce_kind longest_text (last_of_kind nonce_kind all);
   has_password_algorithms = has_shown password_algorithm_kind all || has_shown password_algorithms_kind all;

@@ -1,3 +1,3 @@
 pub mod Claims
-pub mod Errors
+pub mod AuthErrors
 pub mod Judgement

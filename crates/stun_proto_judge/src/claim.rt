@@ -2,30 +2,18 @@
 
 ghost use Rattle.std.specs.Prelude.{◌≡◌, Some, None, MatchResult, is_some};
 ghost use Rattle.std.specs.Option.{option_copied};
-ghost use Rattle.stun_types_wire.specs.Grammar.{shown};
+ghost use Rattle.stun_types.specs.Grammar.{shown};
 ghost use Rattle.stun_proto_judge.specs.Claims.{claimed, is_user_hash, last_of_kind, text_told};
 ghost use Rattle.stun_proto_judge.specs.Judgement.{algorithms_refusal, integrity_refusal, nonce_refusal, parts_refusal};
 
 use crate::error::LongTermServerAuthError;
 use crate::known::Known;
 use std::marker::Model;
-use stun_types_attribute::nonce::Nonce;
-use stun_types_attribute::realm::Realm;
-use stun_types_attribute::username::Username;
-use stun_types_message::message::Message;
-use stun_types_wire::algorithm::IntegrityAlgorithm;
-use stun_types_wire::attribute::{AttributeType, RawAttribute};
-use stun_types_write::attribute::AttributeStaticType;
-use stun_types_write::reading::text_of;
-
-/// The type of USERHASH (RFC 8489, section 14.4).
-const USER_HASH: AttributeType = AttributeType(0x001E);
-
-/// The type of PASSWORD-ALGORITHM (RFC 8489, section 14.12).
-const PASSWORD_ALGORITHM: AttributeType = AttributeType(0x001D);
-
-/// The type of PASSWORD-ALGORITHMS (RFC 8489, section 14.11).
-const PASSWORD_ALGORITHMS: AttributeType = AttributeType(0x8002);
+use stun_types::attribute::{
+    AttributeStaticType, AttributeType, Nonce, RawAttribute, Realm, Username, text_of,
+};
+use stun_types::message::{IntegrityAlgorithm, Message};
+use stun_types::registry;
 
 /// What a message shows of who sent it. Of each kind of attribute the last one decides, and a
 /// malformed one is as if there were none. Contracts see the record `Claimed` of
@@ -41,8 +29,9 @@ pub struct Claim<'a> {
 }
 
 impl<'a> Model for Claim<'a> {
-    ghost use Rattle.stun_types_attribute.specs.Texts.{longest_text, longest_username};
-    ghost use Rattle.stun_proto_judge.specs.Claims.{Claimed, is_user_hash, nonce_kind, realm_kind, text_told, username_kind};
+    ghost use Rattle.stun_types.specs.Registry.{longest_text, longest_username};
+    ghost use Rattle.stun_proto_judge.specs.Claims.{Claimed, is_user_hash, text_told};
+    ghost use Rattle.stun_types.specs.Registry.{nonce_kind, realm_kind, username_kind};
 
     ghost Value = { Claimed };
 
@@ -61,12 +50,12 @@ impl<'a> Claim<'a> {
     pub fn of(message: &Message<'a>) -> Claim<'a>
         ensures { result ≡ claimed message.now }
     {
-        let has_password_algorithms = message.has_attribute(PASSWORD_ALGORITHM)
-            || message.has_attribute(PASSWORD_ALGORITHMS);
+        let has_password_algorithms = message.has_attribute(registry::PASSWORD_ALGORITHM)
+            || message.has_attribute(registry::PASSWORD_ALGORITHMS);
         Claim {
             integrity: message.last_integrity(),
             username: last_attribute(message, Username::TYPE),
-            user_hash: last_attribute(message, USER_HASH),
+            user_hash: last_attribute(message, registry::USERHASH),
             realm: last_attribute(message, Realm::TYPE),
             nonce: last_attribute(message, Nonce::TYPE),
             has_password_algorithms,
@@ -92,7 +81,7 @@ impl<'a> Claim<'a> {
         ensures { result ≡ self.now.has_user_hash }
     {
         match &self.user_hash {
-            Some(hash) => hash.value().len() == 32,
+            Some(hash) => hash.value().len() == registry::USERHASH_LENGTH,
             None => false,
         }
     }
@@ -155,7 +144,7 @@ impl<'a> Claim<'a> {
 }
 
 /// The last attribute of a type that a message shows.
-#[tactic(auto, using(stun_types_grammar::proofs::Left::map_numbered, crate::proofs::Lasts::last_step), unfolding(crate::specs::Claims::last_of_kind))]
+#[tactic(auto, using(stun_types_grammar_laws::proofs::Left::map_numbered, crate::proofs::Lasts::last_step), unfolding(crate::specs::Claims::last_of_kind))]
 fn last_attribute<'a>(message: &Message<'a>, atype: AttributeType) -> Option<RawAttribute<'a>>
     ensures { result ≡ last_of_kind atype.0 (shown message.now) }
 {

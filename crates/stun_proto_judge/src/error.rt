@@ -1,12 +1,11 @@
 //! Why a server does not take a message for one of a user.
 
 ghost use Rattle.std.specs.Prelude.{◌≡◌};
-ghost use Rattle.stun_proto_judge.specs.Errors.{digest_error, integrity_of, reason_of};
+ghost use Rattle.stun_proto_judge.specs.AuthErrors.{digest_error, integrity_of, reason_of};
 
 use std::alloc::AllocError;
-use stun_types_base::memory::NoMemory;
-use stun_types_wire::algorithm::IntegrityAlgorithm;
-use stun_types_wire::error::ValidateError;
+use stun_types::NoMemory;
+use stun_types::message::{IntegrityAlgorithm, ValidateError};
 use thiserror::Error;
 
 /// Why a message is not validated, without what goes with it.

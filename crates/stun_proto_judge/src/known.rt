@@ -5,7 +5,7 @@ ghost use Rattle.std.specs.Option.{option_copied};
 ghost use Rattle.stun_proto_judge.specs.Judgement.{supports_sha1};
 
 use std::marker::Model;
-use stun_types_wire::algorithm::IntegrityAlgorithm;
+use stun_types::message::IntegrityAlgorithm;
 
 /// What a server knows of itself, of an address and of a user: its realm, the algorithms that it
 /// supports, the nonce that stands for the address, and the password of the user of the name that

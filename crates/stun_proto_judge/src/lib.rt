@@ -4,6 +4,6 @@
 
 pub mod claim;
 pub mod error;
-pub mod judge;
+pub mod judgement;
 pub mod known;
 pub mod user;

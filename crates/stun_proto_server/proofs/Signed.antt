@@ -3,11 +3,11 @@ use Rattle.std.proofs.Common.{◌≡◌, List, ℕ, false, true, Option, Some, N
 use Rattle.std.specs.Prelude.{IsSome}
 use Rattle.std.specs.Option.{option_and_then}
 use Rattle.std.specs.declared.net.socket_addr.SocketAddr.{SocketAddr}
-use Rattle.stun_types_wire.specs.declared.class.MessageClass.TheVariants.{Success, Error}
+use Rattle.stun_types.specs.MessageClasses.{Success, Error}
 use Rattle.stun_proto_sign.specs.Addition.{Party, Signer, addition, addition_by}
 use Rattle.stun_proto_sign.specs.Sizes.{size_of_addition}
 use Rattle.stun_proto_server.specs.Server.{Server}
-use Rattle.stun_proto_server.specs.Signing.{addition_for, party_at}
+use Rattle.stun_proto_server.specs.ServerSigning.{addition_for, party_at}
 
 same_by : (realm nonce : List ℕ) (user : Option Signer) → IsSome (addition_by realm nonce user Success) → size_of_addition (addition_by realm nonce user Error) ≡ size_of_addition (addition_by realm nonce user Success)
 same_by realm nonce None some = absurd (let p : false ≡ true = some in cc)

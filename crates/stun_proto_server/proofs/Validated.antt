@@ -5,8 +5,8 @@ use Rattle.std.specs.Option.{option_or}
 use Rattle.std.specs.declared.net.socket_addr.SocketAddr.{SocketAddr}
 use Rattle.rand_core.specs.Stream.{Stream}
 use Rattle.stun_types_base.proofs.WordLemmas.{stream_after-zero}
-use Rattle.stun_types_base.specs.Words.{stream_after}
-use Rattle.stun_types_wire.specs.declared.algorithm.IntegrityAlgorithm.{IntegrityAlgorithm}
+use Rattle.stun_types.specs.GeneratorWords.{stream_after}
+use Rattle.stun_types.specs.IntegrityAlgorithms.{IntegrityAlgorithm}
 use Rattle.stun_proto_judge.specs.declared.error.LongTermServerAuthError.{LongTermServerAuthError}
 use Rattle.stun_proto_judge.specs.declared.error.LongTermServerAuthError.TheVariants.{Unauthorized, IntegrityFailed, BadRequest, StaleNonce, NoMemory}
 use Rattle.stun_proto_judge.specs.Claims.{claimed}
@@ -15,7 +15,7 @@ use Rattle.stun_proto_judge.proofs.Judging.{not_both, same_outcome}
 use Rattle.stun_proto_server.specs.declared.validation.LongTermServerValidation.{LongTermServerValidation}
 use Rattle.stun_proto_server.specs.declared.validation.LongTermServerValidation.TheVariants.{Validated}
 use Rattle.stun_proto_server.specs.Server.{Server, words_drawn}
-use Rattle.stun_proto_server.specs.Validation.{Accepts, IsValidated, known_of, words_of_validation}
+use Rattle.stun_proto_server.specs.ServerValidation.{Accepts, IsValidated, known_of, words_of_validation}
 
 -- a response is refused first
 judged_response : (known : Knowledge) (bytes : List ℕ) → is_response bytes ≡ true → judgement known bytes ≡ Some BadRequest

@@ -1,4 +1,4 @@
 pub mod Server
-pub mod Signing
-pub mod Validation
+pub mod ServerSigning
+pub mod ServerValidation
 pub mod View

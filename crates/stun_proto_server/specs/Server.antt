@@ -14,10 +14,10 @@ use Rattle.stun_proto_auth.specs.declared.feature.Feature.{Feature}
 use Rattle.stun_proto_auth.specs.Nonce.{features_offered, nonce_text}
 use Rattle.stun_proto_auth.specs.declared.nonce.TheConstants.{NONCE_WORDS}
 use Rattle.stun_proto_judge.specs.Judgement.{Outcome}
-use Rattle.stun_types_base.specs.SocketAddrs.{socket_addr_cmp}
-use Rattle.stun_types_base.specs.Words.{words_of}
+use Rattle.stun_types.specs.SocketAddrs.{socket_addr_cmp}
+use Rattle.stun_types.specs.GeneratorWords.{words_of}
 use Rattle.stun_types_wire.specs.contracts.algorithm.IntegrityAlgorithm as algorithm
-use Rattle.stun_types_wire.specs.declared.algorithm.IntegrityAlgorithm.{IntegrityAlgorithm}
+use Rattle.stun_types.specs.IntegrityAlgorithms.{IntegrityAlgorithm}
 
 -- what is kept for one address: the nonce's text, the moment of its drawing, and the last outcome
 -- under it, where that was a validation

@@ -9,14 +9,14 @@ ghost use Rattle.std.specs.Option.{option_copied};
 ghost use Rattle.std.specs.String.{string_bytes};
 ghost use Rattle.std.specs.declared.net.socket_addr.SocketAddr.{SocketAddr};
 ghost use Rattle.stun_proto_agent.specs.Moments.{moment_after};
-ghost use Rattle.stun_proto_auth.specs.Algorithms.{is_same_algorithm, with_algorithm};
-ghost use Rattle.stun_types_base.specs.SocketAddrs.{socket_addr_cmp};
-ghost use Rattle.stun_types_base.specs.Words.{stream_after};
-ghost use Rattle.stun_types_attribute.specs.Texts.{longest_text};
-ghost use Rattle.stun_types_wire.specs.declared.algorithm.IntegrityAlgorithm.TheVariants.{Sha1};
+ghost use Rattle.stun_proto_auth.specs.SupportedAlgorithms.{is_same_algorithm, with_algorithm};
+ghost use Rattle.stun_types.specs.SocketAddrs.{socket_addr_cmp};
+ghost use Rattle.stun_types.specs.GeneratorWords.{stream_after};
+ghost use Rattle.stun_types.specs.Registry.{longest_text};
+ghost use Rattle.stun_types.specs.IntegrityAlgorithms.{Sha1};
 ghost use Rattle.stun_proto_auth.specs.declared.feature.Feature.TheVariants.{Auto};
 ghost use Rattle.stun_proto_server.specs.Server.{nonce_at, has_standing_nonce, outcome_at, words_drawn, with_new_nonce, with_outcome, refreshed, SameFor};
-ghost use Rattle.stun_proto_server.specs.Validation.{password_at};
+ghost use Rattle.stun_proto_server.specs.ServerValidation.{password_at};
 
 use rand_core::Rng;
 use std::alloc::Global;
@@ -29,10 +29,8 @@ use stun_proto_auth::feature::Feature;
 use stun_proto_auth::nonce::{NONCE_WORDS, NonceFeatures, ServerNonce, write_nonce};
 use stun_proto_auth::supported::SupportedIntegrity;
 use stun_proto_judge::user::ValidatedUser;
-use stun_types_base::memory::NoMemory;
-use stun_types_base::words::draw_words;
-use stun_types_integrity::credentials::LongTermCredentials;
-use stun_types_wire::algorithm::IntegrityAlgorithm;
+use stun_types::message::{IntegrityAlgorithm, LongTermCredentials};
+use stun_types::{NoMemory, draw_words};
 
 /// The least time that a nonce stands, in seconds.
 pub const MIN_NONCE_EXPIRY: u64 = 30;
@@ -73,7 +71,7 @@ impl Model for LongTermServerAuth {
 
     ghost use Rattle.std.specs.Prelude.{◌≤◌, length};
     ghost use Rattle.std.specs.String.{string_bytes};
-    ghost use Rattle.stun_types_attribute.specs.Texts.{longest_text};
+    ghost use Rattle.stun_types.specs.Registry.{longest_text};
 
     ghost invariant = { λ server. length (string_bytes server.realm) ≤ longest_text };
 }

@@ -1,26 +1,25 @@
 //! The signing of what goes out.
 
-ghost use Rattle.std.specs.Prelude.{◌≡◌, ◌≢◌, Err, None, IsSome, IfOk, false};
+ghost use Rattle.std.specs.Prelude.{◌≡◌, None, IsSome, IfOk, false};
 ghost use Rattle.std.specs.Result.{IsOk};
-ghost use Rattle.stun_types_base.specs.Refusals.{RefusesFor};
-ghost use Rattle.stun_types_wire.specs.Attributes.{kind_at};
-ghost use Rattle.stun_types_wire.specs.Types.{class_of};
-ghost use Rattle.stun_types_write.specs.Adding.{IsBegun};
+ghost use Rattle.stun_types.specs.Refusals.{RefusesFor};
+ghost use Rattle.stun_types.specs.Attributes.{kind_at};
+ghost use Rattle.stun_types.specs.Types.{class_of};
+ghost use Rattle.stun_types.specs.Adding.{IsBegun};
 ghost use Rattle.stun_proto_sign.specs.Addition.{addition_refusal};
-ghost use Rattle.stun_proto_sign.specs.Stages.{IsMade};
+ghost use Rattle.stun_proto_sign.specs.AdditionStages.{IsMade};
 ghost use Rattle.stun_proto_sign.specs.Sizes.{size_of_addition};
-ghost use Rattle.stun_types_wire.specs.declared.class.MessageClass.TheVariants.{Success};
-ghost use Rattle.stun_proto_server.specs.Signing.{addition_for, class_asked as class_of_size, party_at};
+ghost use Rattle.stun_types.specs.MessageClasses.{Success};
+ghost use Rattle.stun_proto_server.specs.ServerSigning.{addition_for, class_asked as class_of_size, party_at};
+ghost use Rattle.stun_types.specs.Outcomes.{TakesNoMemory};
 
 use crate::long_term::LongTermServerAuth;
 use std::net::SocketAddr;
 use stun_proto_sign::addressee::{Addressee, SigningUser};
 use stun_proto_sign::outgoing::sign_outgoing;
 use stun_proto_sign::size::signature_bytes;
-use stun_types_base::memory::NoMemory;
-use stun_types_wire::class::MessageClass;
-use stun_types_wire::error::StunWriteError;
-use stun_types_write::writer::MessageWrite;
+use stun_types::NoMemory;
+use stun_types::message::{MessageClass, MessageWrite, StunWriteError};
 
 impl LongTermServerAuth {
     /// Signs a message that goes to an address, by what is kept for the address, and gives the writer
@@ -52,7 +51,7 @@ impl LongTermServerAuth {
         ensures cause { RefusesFor StunWriteError.NoMemory (addition_refusal
             (addition_for self.now to (class_of (kind_at (W.draft writer).bytes)))
             (W.draft writer)) result }
-        ensures lent { IsSome (W.draft writer).limit → result ≢ Err StunWriteError.NoMemory }
+        ensures lent { TakesNoMemory (W.draft writer) result }
     {
         match self.addressee(to) {
             Some(addressee) => sign_outgoing(writer, &addressee),

@@ -2,11 +2,11 @@
 
 ghost use Rattle.std.specs.Prelude.{◌≡◌, ◌≢◌, ℕ, List, None, IfOk, IfErr, MatchResult, false};
 ghost use Rattle.std.specs.declared.net.socket_addr.SocketAddr.{SocketAddr};
-ghost use Rattle.stun_types_wire.specs.declared.algorithm.IntegrityAlgorithm.{IntegrityAlgorithm as Algorithm};
-ghost use Rattle.stun_types_base.specs.Words.{stream_after};
+ghost use Rattle.stun_types.specs.IntegrityAlgorithms.{IntegrityAlgorithm as Algorithm};
+ghost use Rattle.stun_types.specs.GeneratorWords.{stream_after};
 ghost use Rattle.stun_proto_judge.specs.Judgement.{IsAccepted, IsRefused, is_response};
 ghost use Rattle.stun_proto_server.specs.Server.{SameFor, refreshed, with_outcome};
-ghost use Rattle.stun_proto_server.specs.Validation.{Accepts, IsAfterNoMemory, IsValidated, WantsMemory, after_refusal, known_of, words_of_validation};
+ghost use Rattle.stun_proto_server.specs.ServerValidation.{Accepts, IsAfterNoMemory, IsValidated, WantsMemory, after_refusal, known_of, words_of_validation};
 
 use crate::long_term::LongTermServerAuth;
 use rand_core::Rng;
@@ -14,11 +14,10 @@ use std::net::SocketAddr;
 use stun_proto_agent::instant::Instant;
 use stun_proto_judge::claim::Claim;
 use stun_proto_judge::error::LongTermServerAuthError;
-use stun_proto_judge::judge::judge;
+use stun_proto_judge::judgement::judge_message;
 use stun_proto_judge::known::Known;
 use stun_proto_judge::user::ValidatedUser;
-use stun_types_message::message::Message;
-use stun_types_wire::algorithm::IntegrityAlgorithm;
+use stun_types::message::{IntegrityAlgorithm, Message};
 
 /// What a server answers to a message that it takes.
 #[derive(Clone, Copy, Debug, PartialEq, Eq)]
@@ -96,7 +95,7 @@ impl LongTermServerAuth {
             × (self.new ≡ self.old)) }
         ensures others { (other : SocketAddr) → other ≢ from → SameFor other self.old self.new }
     {
-        match self.judge(message, from) {
+        match self.judge_sender(message, from) {
             Ok(user) => {
                 let algorithm = user.algorithm();
                 self.keep_outcome(from, Some(user));
@@ -112,7 +111,7 @@ impl LongTermServerAuth {
 
     /// The judgement of a message that is no response, by what is kept for its address. It changes
     /// nothing.
-    fn judge(
+    fn judge_sender(
         &self,
         message: &Message<'_>,
         from: SocketAddr,
@@ -132,6 +131,6 @@ impl LongTermServerAuth {
             self.nonce_for_client(from),
             self.password_of(claim.username()),
         );
-        judge(self.alloc(), message, &claim, &known)
+        judge_message(self.alloc(), message, &claim, &known)
     }
 }

@@ -3,23 +3,21 @@ use Rattle.std.proofs.Common.{◌≡◌, ℕ, ◌+◌, ◌-◌, ◌≤◌, List,
 use Rattle.std.specs.Prelude.{◌||◌}
 use Rattle.std.specs.Option.{option_or}
 use Rattle.std.proofs.lemmas.List.{length-append}
-use Rattle.stun_types_wire.specs.declared.algorithm.IntegrityAlgorithm.{IntegrityAlgorithm}
-use Rattle.stun_types_wire.specs.declared.algorithm.IntegrityAlgorithm.TheVariants.{Sha1, Sha256}
-use Rattle.stun_types_wire.specs.declared.error.StunWriteError.{StunWriteError}
-use Rattle.stun_types_wire.specs.declared.error.StunWriteError.TheVariants.{FingerprintExists, MessageIntegrityExists}
-use Rattle.stun_types_wire.specs.Attributes.{Attr, attr_size}
-use Rattle.stun_types_wire.specs.Covered.{with_length}
-use Rattle.stun_types_wire.specs.Text.{attribute_text}
-use Rattle.stun_types_write.specs.declared.ended.Ended.{Ended}
-use Rattle.stun_types_write.specs.Adding.{add_refusal, after_add, growth_refusal, IsBegun, size_refusal}
-use Rattle.stun_types_write.specs.Drafts.{Draft, ended_by}
-use Rattle.stun_types_write.specs.Outcomes.{added}
-use Rattle.stun_types_attribute.specs.Texts.{text_refusal}
-use Rattle.stun_types_integrity.specs.Signing.{hmac_length, key_refusal, order_refusal, signing_refusal}
+use Rattle.stun_types.specs.IntegrityAlgorithms.{IntegrityAlgorithm, Sha1, Sha256}
+use Rattle.stun_types.specs.WriteErrors.{StunWriteError, FingerprintExists, MessageIntegrityExists}
+use Rattle.stun_types.specs.Attributes.{Attr, attr_size}
+use Rattle.stun_types.specs.Covered.{with_length}
+use Rattle.stun_types.specs.Text.{attribute_text}
+use Rattle.stun_types.specs.EndedAttributes.{Ended}
+use Rattle.stun_types.specs.Adding.{add_refusal, after_add, growth_refusal, IsBegun, size_refusal}
+use Rattle.stun_types.specs.Drafts.{Draft, ended_by}
+use Rattle.stun_types.specs.Outcomes.{added}
+use Rattle.stun_types.specs.Texts.{text_refusal}
+use Rattle.stun_types.specs.Signing.{hmac_length, key_refusal, order_refusal, signing_refusal}
 use Rattle.stun_types_build.proofs.Adds.{length-attribute_text, long_enough}
-use Rattle.stun_types_build.specs.Calls.{after_calls}
+use Rattle.stun_types.specs.Calls.{after_calls}
 use Rattle.stun_proto_sign.specs.Addition.{TextOf, attr_of_text, calls_of_texts, nonce_of, one_refusal, realm_of, size_of_text, texts_refusal, username_of}
-use Rattle.stun_proto_sign.specs.Stages.{FitsBehind, IsNamed, TextsFit, refusal_behind, signing_refusal_behind}
+use Rattle.stun_proto_sign.specs.AdditionStages.{FitsBehind, IsNamed, TextsFit, refusal_behind, signing_refusal_behind}
 
 -- ---- a draft that grows
 

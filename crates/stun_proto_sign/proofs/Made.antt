@@ -2,18 +2,17 @@
 use Rattle.std.proofs.Common.{◌≡◌, ℕ, List, [], ◌∷◌, ◌++◌, Option, Some, None, refl, sym, ap, ◌∙◌, subst}
 use Rattle.std.specs.Prelude.{IsSome}
 use Rattle.std.specs.Option.{option_or}
-use Rattle.stun_types_base.specs.Refusals.{IsCause}
-use Rattle.stun_types_wire.specs.declared.error.StunWriteError.{StunWriteError}
-use Rattle.stun_types_wire.specs.declared.error.StunWriteError.TheVariants.{NoMemory}
-use Rattle.stun_types_write.specs.Adding.{IsBegun}
-use Rattle.stun_types_write.specs.Drafts.{Draft}
-use Rattle.stun_types_write.specs.Outcomes.{added, IsAdded}
-use Rattle.stun_types_integrity.specs.Credentials.{Key}
-use Rattle.stun_types_integrity.specs.Signing.{signature}
+use Rattle.stun_types.specs.Refusals.{IsCause}
+use Rattle.stun_types.specs.WriteErrors.{StunWriteError, NoMemory}
+use Rattle.stun_types.specs.Adding.{IsBegun}
+use Rattle.stun_types.specs.Drafts.{Draft}
+use Rattle.stun_types.specs.Outcomes.{added, IsAdded}
+use Rattle.stun_types.specs.Credentials.{Key}
+use Rattle.stun_types.specs.Signing.{signature}
 use Rattle.stun_types_build.proofs.Taken.{after_both, both_accepted, written_more}
-use Rattle.stun_types_build.specs.Calls.{Add, AreAccepted, IsWritten, after_calls}
+use Rattle.stun_types.specs.Calls.{Add, AreAccepted, IsWritten, after_calls}
 use Rattle.stun_proto_sign.specs.Addition.{Addition, TextOf, addition_refusal, attr_of_text, calls_of, calls_of_signer, calls_of_texts, nonce_of, one_refusal, realm_of, signer_refusal, texts_refusal, username_of}
-use Rattle.stun_proto_sign.specs.Stages.{AreAdded, IsMade, IsNamed, TextsFit, signing_refusal_behind}
+use Rattle.stun_proto_sign.specs.AdditionStages.{AreAdded, IsMade, IsNamed, TextsFit, signing_refusal_behind}
 use Rattle.stun_proto_sign.proofs.Fitting.{IsGrown, claim_grown, signing_behind}
 
 -- ---- what is accepted

@@ -2,19 +2,18 @@
 -- sections 9.2 and 14).
 use Rattle.std.specs.Prelude.{ℕ, ◌+◌, List, [], ◌∷◌, ◌++◌, map, Option, Some, None}
 use Rattle.std.specs.Option.{option_or}
-use Rattle.stun_types_wire.specs.declared.algorithm.IntegrityAlgorithm.{IntegrityAlgorithm}
-use Rattle.stun_types_wire.specs.declared.class.MessageClass.{MessageClass}
-use Rattle.stun_types_wire.specs.declared.class.MessageClass.TheVariants.{Request, Indication, Success, Error}
-use Rattle.stun_types_wire.specs.declared.error.StunWriteError.{StunWriteError}
-use Rattle.stun_types_wire.specs.declared.error.StunWriteError.TheVariants.{IntegrityFailed}
-use Rattle.stun_types_wire.specs.Attributes.{Attr, attr_size}
-use Rattle.stun_types_write.specs.Adding.{attr_of, add_refusal}
-use Rattle.stun_types_write.specs.Drafts.{Draft}
-use Rattle.stun_types_write.specs.Outcomes.{added}
-use Rattle.stun_types_attribute.specs.Texts.{longest_text, longest_username, text_refusal}
-use Rattle.stun_types_integrity.specs.Credentials.{Key, long_term_key}
-use Rattle.stun_types_integrity.specs.Signing.{signing_refusal}
-use Rattle.stun_types_build.specs.Calls.{Add, Ordinary, Integrity, after_calls}
+use Rattle.stun_types.specs.IntegrityAlgorithms.{IntegrityAlgorithm}
+use Rattle.stun_types.specs.MessageClasses.{MessageClass, Request, Indication, Success, Error}
+use Rattle.stun_types.specs.WriteErrors.{StunWriteError, IntegrityFailed}
+use Rattle.stun_types.specs.Attributes.{Attr, attr_size}
+use Rattle.stun_types.specs.Adding.{attr_of, add_refusal}
+use Rattle.stun_types.specs.Drafts.{Draft}
+use Rattle.stun_types.specs.Outcomes.{added}
+use Rattle.stun_types.specs.Texts.{text_refusal}
+use Rattle.stun_types.specs.Registry.{longest_text, longest_username, nonce_kind, realm_kind, username_kind}
+use Rattle.stun_types.specs.Credentials.{Key, long_term_key}
+use Rattle.stun_types.specs.Signing.{signing_refusal}
+use Rattle.stun_types.specs.Calls.{Add, Ordinary, Integrity, after_calls}
 
 -- ---- what is added
 
@@ -44,15 +43,15 @@ pub record Party : Type 0 where
 
 -- USERNAME (RFC 8489, section 14.3)
 abbrev pub username_of : List ℕ → TextOf
-username_of name = record { kind = 0x0006; most = longest_username; text = name }
+username_of name = record { kind = username_kind; most = longest_username; text = name }
 
 -- REALM (RFC 8489, section 14.9)
 abbrev pub realm_of : List ℕ → TextOf
-realm_of realm = record { kind = 0x0014; most = longest_text; text = realm }
+realm_of realm = record { kind = realm_kind; most = longest_text; text = realm }
 
 -- NONCE (RFC 8489, section 14.10)
 abbrev pub nonce_of : List ℕ → TextOf
-nonce_of nonce = record { kind = 0x0015; most = longest_text; text = nonce }
+nonce_of nonce = record { kind = nonce_kind; most = longest_text; text = nonce }
 
 -- a user's key in a realm
 abbrev pub key_in : List ℕ → Signer → Key

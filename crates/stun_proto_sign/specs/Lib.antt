@@ -1,3 +1,3 @@
 pub mod Addition
 pub mod Sizes
-pub mod Stages
+pub mod AdditionStages

@@ -1,8 +1,8 @@
 -- How many bytes are added to a message for a party.
 use Rattle.std.specs.Prelude.{ℕ, ◌+◌, nat_le, Bool, List, length, Option, Some, None, if◌then◌else◌}
 use Rattle.std.specs.List.{list_all}
-use Rattle.stun_types_integrity.specs.Credentials.{Key}
-use Rattle.stun_types_integrity.specs.Signing.{hmac_length}
+use Rattle.stun_types.specs.Credentials.{Key}
+use Rattle.stun_types.specs.Signing.{hmac_length}
 use Rattle.stun_proto_sign.specs.Addition.{TextOf, Addition, size_of_texts}
 
 -- no text is over its limit

@@ -4,7 +4,7 @@ ghost use Rattle.std.specs.Prelude.{◌≡◌};
 ghost use Rattle.std.specs.Option.{option_copied};
 
 use std::marker::Model;
-use stun_types_wire::algorithm::IntegrityAlgorithm;
+use stun_types::message::IntegrityAlgorithm;
 
 /// A user under whose key messages are signed: its name, its password, and the algorithm of the
 /// integrity attribute. Contracts see the record `Signer`.

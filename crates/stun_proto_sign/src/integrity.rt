@@ -1,17 +1,14 @@
 //! The integrity attribute of a user, added to a message.
 
-ghost use Rattle.std.specs.Prelude.{◌≡◌, ◌≢◌, Err, IsSome, None, OnOk, Some};
-ghost use Rattle.stun_types_base.specs.Refusals.{RefusesFor};
-ghost use Rattle.stun_types_write.specs.Adding.{IsBegun};
-ghost use Rattle.stun_types_write.specs.Outcomes.{IsAdded};
-ghost use Rattle.stun_types_integrity.specs.Signing.{signature};
+ghost use Rattle.std.specs.Prelude.{◌≡◌, None, OnOk, Some};
+ghost use Rattle.stun_types.specs.Refusals.{RefusesFor};
+ghost use Rattle.stun_types.specs.Adding.{IsBegun};
+ghost use Rattle.stun_types.specs.Outcomes.{TakesNoMemory, IsAdded};
+ghost use Rattle.stun_types.specs.Signing.{signature};
 ghost use Rattle.stun_proto_sign.specs.Addition.{key_in, signer_refusal};
 
 use crate::addressee::SigningUser;
-use stun_types_build::ext::MessageWriteExt;
-use stun_types_integrity::key::IntegrityKey;
-use stun_types_wire::error::StunWriteError;
-use stun_types_write::writer::MessageWrite;
+use stun_types::message::{IntegrityKey, MessageWrite, MessageWriteExt, StunWriteError};
 
 /// Adds the integrity attribute of a user's algorithm, which fits, under the user's key in a realm.
 /// Refused for want of memory alone.
@@ -27,7 +24,7 @@ pub(crate) fn add_integrity<W: MessageWrite>(
         (signature user.now.algorithm (key_in realm.now user.now).bytes (W.draft writer.old).bytes)
         (W.draft writer.old) (W.draft writer.new)) }
     ensures memory { RefusesFor StunWriteError.NoMemory None result }
-    ensures lent { IsSome (W.draft writer.old).limit → result ≢ Err StunWriteError.NoMemory }
+    ensures lent { TakesNoMemory (W.draft writer.old) result }
 {
     let key = IntegrityKey::long_term(user.name(), realm, user.password(), user.algorithm());
     writer.add_message_integrity_with_key(&key, user.algorithm())

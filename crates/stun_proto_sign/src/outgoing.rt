@@ -1,22 +1,20 @@
 //! What goes out is signed.
 
-ghost use Rattle.std.specs.Prelude.{◌≢◌, Err, IfOk, IsSome, OnOk, Some};
-ghost use Rattle.stun_types_base.specs.Refusals.{RefusesFor};
-ghost use Rattle.stun_types_wire.specs.Attributes.{kind_at};
-ghost use Rattle.stun_types_wire.specs.Types.{class_of};
-ghost use Rattle.stun_types_wire.specs.declared.class.MessageClass.TheVariants.{Request, Success, Error};
-ghost use Rattle.stun_types_write.specs.Adding.{IsBegun};
+ghost use Rattle.std.specs.Prelude.{IfOk, OnOk, Some};
+ghost use Rattle.stun_types.specs.Refusals.{RefusesFor};
+ghost use Rattle.stun_types.specs.Attributes.{kind_at};
+ghost use Rattle.stun_types.specs.Types.{class_of};
+ghost use Rattle.stun_types.specs.MessageClasses.{Request, Success, Error};
+ghost use Rattle.stun_types.specs.Adding.{IsBegun};
 ghost use Rattle.stun_proto_sign.specs.Addition.{addition, addition_for_user, addition_refusal, addition_unvalidated};
-ghost use Rattle.stun_proto_sign.specs.Stages.{IsMade};
+ghost use Rattle.stun_proto_sign.specs.AdditionStages.{IsMade};
+ghost use Rattle.stun_types.specs.Outcomes.{TakesNoMemory};
 
 use crate::addressee::{Addressee, SigningUser};
 use crate::integrity::add_integrity;
 use crate::room::{challenge_fits, claim_fits, signature_fits};
 use crate::texts::{add_challenge, add_claim};
-use stun_types_build::ext::MessageWriteExt;
-use stun_types_wire::class::MessageClass;
-use stun_types_wire::error::StunWriteError;
-use stun_types_write::writer::MessageWrite;
+use stun_types::message::{MessageClass, MessageWrite, MessageWriteExt, StunWriteError};
 
 /// Adds to a message what its addressee knows the server by (RFC 8489, section 9.2), and gives the
 /// writer back. Where the addressee was validated, a response gets the integrity attribute of the
@@ -41,7 +39,7 @@ pub fn sign_outgoing<W: MessageWrite + Drop>(
         (W.draft writer) (W.draft signed)) }
     ensures cause { RefusesFor StunWriteError.NoMemory (addition_refusal
         (addition to.now (class_of (kind_at (W.draft writer).bytes))) (W.draft writer)) result }
-    ensures lent { IsSome (W.draft writer).limit → result ≢ Err StunWriteError.NoMemory }
+    ensures lent { TakesNoMemory (W.draft writer) result }
 {
     let mut writer = writer;
     let class = writer.class();
@@ -62,7 +60,7 @@ fn add_for<W: MessageWrite>(
     ensures cause { RefusesFor StunWriteError.NoMemory (addition_refusal
         (addition to.now class)
         (W.draft writer.old)) result }
-    ensures lent { IsSome (W.draft writer.old).limit → result ≢ Err StunWriteError.NoMemory }
+    ensures lent { TakesNoMemory (W.draft writer.old) result }
 {
     match to.user() {
         Some(user) => add_for_user(writer, to, user, class),
@@ -85,7 +83,7 @@ fn add_for_user<W: MessageWrite>(
     ensures cause { RefusesFor StunWriteError.NoMemory (addition_refusal
         (Some (addition_for_user to.now.realm to.now.nonce user.now class))
         (W.draft writer.old)) result }
-    ensures lent { IsSome (W.draft writer.old).limit → result ≢ Err StunWriteError.NoMemory }
+    ensures lent { TakesNoMemory (W.draft writer.old) result }
 {
     match class {
         MessageClass::Request => add_to_request(writer, to, user),
@@ -107,7 +105,7 @@ fn add_to_request<W: MessageWrite>(
     ensures cause { RefusesFor StunWriteError.NoMemory (addition_refusal
         (Some (addition_for_user to.now.realm to.now.nonce user.now Request))
         (W.draft writer.old)) result }
-    ensures lent { IsSome (W.draft writer.old).limit → result ≢ Err StunWriteError.NoMemory }
+    ensures lent { TakesNoMemory (W.draft writer.old) result }
 {
     let size = claim_fits(&*writer, user.name(), to.realm(), to.nonce())?;
     signature_fits(&*writer, size, user.algorithm())?;
@@ -129,7 +127,7 @@ fn add_to_response<W: MessageWrite>(
     ensures cause { RefusesFor StunWriteError.NoMemory (addition_refusal
         (Some (addition_for_user to.now.realm to.now.nonce user.now Success))
         (W.draft writer.old)) result }
-    ensures lent { IsSome (W.draft writer.old).limit → result ≢ Err StunWriteError.NoMemory }
+    ensures lent { TakesNoMemory (W.draft writer.old) result }
 {
     signature_fits(&*writer, 0, user.algorithm())?;
     add_integrity(writer, to.realm(), user)?;
@@ -149,7 +147,7 @@ fn add_unvalidated<W: MessageWrite>(
     ensures cause { RefusesFor StunWriteError.NoMemory (addition_refusal
         (addition_unvalidated to.now.realm to.now.nonce class)
         (W.draft writer.old)) result }
-    ensures lent { IsSome (W.draft writer.old).limit → result ≢ Err StunWriteError.NoMemory }
+    ensures lent { TakesNoMemory (W.draft writer.old) result }
 {
     match class {
         MessageClass::Error => add_to_challenge(writer, to),
@@ -171,7 +169,7 @@ fn add_to_challenge<W: MessageWrite>(
     ensures cause { RefusesFor StunWriteError.NoMemory (addition_refusal
         (addition_unvalidated to.now.realm to.now.nonce Error)
         (W.draft writer.old)) result }
-    ensures lent { IsSome (W.draft writer.old).limit → result ≢ Err StunWriteError.NoMemory }
+    ensures lent { TakesNoMemory (W.draft writer.old) result }
 {
     challenge_fits(&*writer, to.realm(), to.nonce())?;
     add_challenge(writer, to.realm(), to.nonce())?;

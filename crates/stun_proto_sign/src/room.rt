@@ -1,17 +1,15 @@
 //! Whether what is to be added may be, and fits: looked at before anything is added.
 
 ghost use Rattle.std.specs.Prelude.{◌≡◌, ◌≤◌, ◌∷◌, [], length, MatchResult, None};
-ghost use Rattle.stun_types_write.specs.Adding.{greatest_size, IsBegun};
+ghost use Rattle.stun_types.specs.Adding.{IsBegun};
+ghost use Rattle.stun_types.specs.Registry.{greatest_size};
 ghost use Rattle.stun_proto_sign.specs.Addition.{nonce_of, realm_of, texts_refusal, username_of};
-ghost use Rattle.stun_proto_sign.specs.Stages.{FitsBehind, IsNamed, TextsFit, refusal_behind, signing_refusal_behind};
+ghost use Rattle.stun_proto_sign.specs.AdditionStages.{FitsBehind, IsNamed, TextsFit, refusal_behind, signing_refusal_behind};
 
 use crate::texts::BorrowedText;
-use stun_types_build::room::{end_of_add, may_sign};
-use stun_types_integrity::algorithm::hmac_length;
-use stun_types_wire::algorithm::IntegrityAlgorithm;
-use stun_types_wire::attribute::pad_attribute_len;
-use stun_types_wire::error::StunWriteError;
-use stun_types_write::writer::MessageWrite;
+use stun_types::attribute::pad_attribute_len;
+use stun_types::message::{IntegrityAlgorithm, MessageWrite, StunWriteError};
+use stun_types::room::{end_of_add, hmac_length, may_sign};
 
 /// How many bytes are added with a text, where so many are before it. Refused with `TooLarge` where
 /// the text is too long, and then as `add_attribute` is.

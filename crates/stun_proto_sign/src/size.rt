@@ -1,17 +1,15 @@
 //! How many bytes a signing adds.
 
 ghost use Rattle.std.specs.Prelude.{◌≡◌, ◌↔◌, ◌≤◌, ◌+◌, length, IsTrue, Some};
-ghost use Rattle.stun_types_wire.specs.Attributes.{padded};
+ghost use Rattle.stun_types.specs.Attributes.{padded};
 ghost use Rattle.stun_proto_sign.specs.Addition.{addition, addition_for_user, addition_unvalidated};
 ghost use Rattle.stun_proto_sign.specs.Sizes.{size_of_addition};
+ghost use Rattle.stun_types.specs.Registry.{longest_text};
 
 use crate::addressee::{Addressee, SigningUser};
-use stun_types_attribute::nonce::Nonce;
-use stun_types_attribute::realm::Realm;
-use stun_types_attribute::username::Username;
-use stun_types_integrity::algorithm::hmac_length;
-use stun_types_wire::attribute::pad_attribute_len;
-use stun_types_wire::class::MessageClass;
+use stun_types::attribute::{Nonce, Realm, Username, pad_attribute_len};
+use stun_types::message::MessageClass;
+use stun_types::room::hmac_length;
 
 /// How many bytes `sign_outgoing` adds to a message of this class: 0 where nothing may be added, or
 /// where a text that would be is over its limit (513 bytes for USERNAME, 763 for REALM and NONCE).
@@ -59,14 +57,15 @@ fn bytes_unvalidated(to: &Addressee<'_>, class: MessageClass) -> usize
 
 /// Whether the realm and the nonce are within their limits.
 fn are_short(to: &Addressee<'_>) -> bool
-    ensures { IsTrue result ↔ ((length to.now.realm ≤ 763) × (length to.now.nonce ≤ 763)) }
+    ensures { IsTrue result ↔ ((length to.now.realm ≤ longest_text)
+        × (length to.now.nonce ≤ longest_text)) }
 {
     to.realm().len() <= Realm::MAX_LEN && to.nonce().len() <= Nonce::MAX_LEN
 }
 
 /// How many bytes the attribute of a text takes, header and padding included.
 fn text_bytes(text: &str) -> usize
-    requires { length text.now ≤ 763 }
+    requires { length text.now ≤ longest_text }
     ensures { result ≡ 4 + padded (length text.now) }
 {
     4 + pad_attribute_len(text.len())

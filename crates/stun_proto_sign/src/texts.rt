@@ -1,22 +1,18 @@
 //! USERNAME, REALM and NONCE, added to a message.
 
-ghost use Rattle.std.specs.Prelude.{◌≡◌, ◌≢◌, ◌≤◌, ◌∷◌, [], length, Err, IsSome, None, OnOk};
-ghost use Rattle.stun_types_base.specs.Refusals.{RefusesFor};
-ghost use Rattle.stun_types_attribute.specs.Texts.{longest_text};
-ghost use Rattle.stun_types_write.specs.Adding.{IsBegun};
-ghost use Rattle.stun_types_write.specs.Outcomes.{IsAdded};
+ghost use Rattle.std.specs.Prelude.{◌≡◌, ◌≤◌, ◌∷◌, [], length, None, OnOk};
+ghost use Rattle.stun_types.specs.Refusals.{RefusesFor};
+ghost use Rattle.stun_types.specs.Registry.{longest_text};
+ghost use Rattle.stun_types.specs.Adding.{IsBegun};
+ghost use Rattle.stun_types.specs.Outcomes.{TakesNoMemory, IsAdded};
 ghost use Rattle.stun_proto_sign.specs.Addition.{attr_of_text, nonce_of, one_refusal, realm_of, texts_refusal, username_of};
-ghost use Rattle.stun_proto_sign.specs.Stages.{AreAdded};
+ghost use Rattle.stun_proto_sign.specs.AdditionStages.{AreAdded};
 
 use std::marker::Model;
-use stun_types_attribute::nonce::Nonce;
-use stun_types_attribute::realm::Realm;
-use stun_types_attribute::username::Username;
-use stun_types_build::ext::add_as;
-use stun_types_wire::attribute::{AttributeType, RawAttribute};
-use stun_types_wire::error::StunWriteError;
-use stun_types_write::attribute::AttributeStaticType;
-use stun_types_write::writer::MessageWrite;
+use stun_types::attribute::{
+    AttributeStaticType, AttributeType, Nonce, RawAttribute, Realm, Username,
+};
+use stun_types::message::{MessageWrite, StunWriteError, add_as};
 
 /// A text that is to be added: the type of its attribute, how many bytes it has at most, and the
 /// text. Contracts see the record `TextOf`.
@@ -29,8 +25,8 @@ pub(crate) struct BorrowedText<'a> {
 
 impl<'a> Model for BorrowedText<'a> {
     ghost use Rattle.std.specs.Prelude.{◌≡◌, ◌≤◌};
-    ghost use Rattle.stun_types_attribute.specs.Texts.{longest_text};
-    ghost use Rattle.stun_types_wire.specs.Shape.{rank};
+    ghost use Rattle.stun_types.specs.Registry.{longest_text};
+    ghost use Rattle.stun_types.specs.Shape.{rank};
     ghost use Rattle.stun_proto_sign.specs.Addition.{TextOf};
 
     ghost Value = { TextOf };
@@ -96,7 +92,7 @@ impl<'a> BorrowedText<'a> {
         ensures ok { OnOk result (IsAdded (attr_of_text self.now)
             (W.draft writer.old) (W.draft writer.new)) }
         ensures memory { RefusesFor StunWriteError.NoMemory None result }
-        ensures lent { IsSome (W.draft writer.old).limit → result ≢ Err StunWriteError.NoMemory }
+        ensures lent { TakesNoMemory (W.draft writer.old) result }
     {
         let raw = RawAttribute::new(self.atype, self.text.as_bytes());
         add_as(writer, &raw, &raw)
@@ -115,7 +111,7 @@ pub(crate) fn add_challenge<W: MessageWrite>(
     ensures ok { OnOk result (AreAdded (realm_of realm.now ∷ nonce_of nonce.now ∷ [])
         (W.draft writer.old) (W.draft writer.new)) }
     ensures memory { RefusesFor StunWriteError.NoMemory None result }
-    ensures lent { IsSome (W.draft writer.old).limit → result ≢ Err StunWriteError.NoMemory }
+    ensures lent { TakesNoMemory (W.draft writer.old) result }
 {
     BorrowedText::realm(realm).add_to(writer)?;
     BorrowedText::nonce(nonce).add_to(writer)?;
@@ -136,7 +132,7 @@ pub(crate) fn add_claim<W: MessageWrite>(
         (username_of name.now ∷ realm_of realm.now ∷ nonce_of nonce.now ∷ [])
         (W.draft writer.old) (W.draft writer.new)) }
     ensures memory { RefusesFor StunWriteError.NoMemory None result }
-    ensures lent { IsSome (W.draft writer.old).limit → result ≢ Err StunWriteError.NoMemory }
+    ensures lent { TakesNoMemory (W.draft writer.old) result }
 {
     BorrowedText::username(name).add_to(writer)?;
     add_challenge(writer, realm, nonce)?;

@@ -7,12 +7,13 @@ pub use stun_types_integrity::credentials::{
 pub use stun_types_integrity::hmac::IntegrityHmac;
 pub use stun_types_integrity::key::IntegrityKey;
 pub use stun_types_message::iter::MessageAttributesIter;
-pub use stun_types_message::message::Message;
+pub use stun_types_message::parsed::Message;
 pub use stun_types_wire::algorithm::IntegrityAlgorithm;
-pub use stun_types_wire::class::{BINDING, MessageClass, MessageType, Method};
+pub use stun_types_wire::class::{MessageClass, MessageType, Method};
 pub use stun_types_wire::error::{StunParseError, StunWriteError, ValidateError};
 pub use stun_types_wire::header::MessageHeader;
-pub use stun_types_wire::transaction::{MAGIC_COOKIE, TransactionId};
+pub use stun_types_wire::registry::{BINDING, MAGIC_COOKIE};
+pub use stun_types_wire::transaction::TransactionId;
 pub use stun_types_write::slice::MessageWriteMutSlice;
 pub use stun_types_write::vec::MessageWriteVec;
 pub use stun_types_write::writer::MessageWrite;

@@ -1,7 +1,7 @@
 -- Addresses xored with the cookie and the number of the transaction (RFC 8489, section 14.2).
 use Rattle.std.specs.Prelude.{ℕ, List, [], ◌∷◌, ◌++◌, bit_xor}
 use Rattle.byteorder.specs.Endian.{big_bytes}
-use Rattle.stun_types_wire.specs.Grammar.{cookie}
+use Rattle.stun_types_wire.specs.Registry.{cookie, cookie_front}
 
 -- bytes xor bytes, as far as there are both
 abbrev pub xor_bytes : List ℕ → List ℕ → List ℕ
@@ -15,4 +15,4 @@ octets_mask number = cookie ++ big_bytes 12 number
 
 -- a value, with its port xored with the top half of the cookie, and its octets with the cookie and the number
 abbrev pub xored : ℕ → List ℕ → List ℕ
-xored number value = xor_bytes value (0 ∷ 0 ∷ 0x21 ∷ 0x12 ∷ octets_mask number)
+xored number value = xor_bytes value (0 ∷ 0 ∷ (cookie_front ++ octets_mask number))

@@ -1,5 +1,5 @@
 //! Addresses as attributes hold them, plain and xored (RFC 8489, sections 14.1 and 14.2).
 #![tactic(auto)]
 
-pub mod address;
 mod octets;
+pub mod socket_addr;

@@ -1,15 +1,17 @@
 //! Addresses in parts: a port and the octets of the address.
 
 ghost use Rattle.std.specs.Prelude.{◌≡◌, ◌∷◌, [], ◌+◌, ◌*◌, ◌≤◌, length, slice_index, None, Some, MatchResult};
-ghost use Rattle.stun_types_write.specs.Reading.{IsNamed};
+ghost use Rattle.stun_types_write.specs.ValueReading.{IsNamed};
 ghost use Rattle.byteorder.specs.Endian.{big_bytes};
 ghost use Rattle.stun_types_address.specs.Addresses.{address_again, address_of, address_refusal, address_value, length_refusal, value_of_parts};
 ghost use Rattle.std.specs.Net.Addr.{octets_of, segments_of};
 ghost use Rattle.stun_types_address.specs.Xor.{octets_mask, xor_bytes, xored};
+ghost use Rattle.stun_types_wire.specs.Registry.{cookie_front};
 
 use std::net::{Ipv4Addr, Ipv6Addr, SocketAddr, SocketAddrV4, SocketAddrV6};
 use stun_types_wire::error::StunParseError;
-use stun_types_wire::transaction::{MAGIC_COOKIE, TransactionId};
+use stun_types_wire::registry::{COOKIE_FRONT, MAGIC_COOKIE};
+use stun_types_wire::transaction::TransactionId;
 
 /// The IPv4 address of a port and octets.
 #[tactic(auto, using(crate::proofs::Bytes::v4_is_accepted))]
@@ -185,7 +187,7 @@ pub(crate) fn xor_in_place(bytes: &mut [u8], mask: &[u8])
 /// A port xored with the top half of the cookie.
 #[tactic(auto, using(crate::proofs::Masks::port_xored))]
 pub(crate) fn xor_port(port: u16) -> u16
-    ensures { big_bytes 2 result ≡ xor_bytes (big_bytes 2 port) (0x21 ∷ 0x12 ∷ []) }
+    ensures { big_bytes 2 result ≡ xor_bytes (big_bytes 2 port) cookie_front }
 {
-    port ^ 0x2112
+    port ^ COOKIE_FRONT
 }

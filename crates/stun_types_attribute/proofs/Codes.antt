@@ -2,11 +2,11 @@
 use Rattle.std.proofs.Common.{◌≡◌, ℕ, ◌+◌, ◌*◌, ◌/◌, ◌%◌, ◌≤◌, length, None, sym, ap, ◌∙◌, arith}
 use Rattle.std.proofs.lemmas.Grind.{common_steps}
 use Rattle.stun_types_write.specs.Adding.{attr_of}
-use Rattle.stun_types_write.specs.Reading.{utf8_refusal}
+use Rattle.stun_types_write.specs.ValueReading.{utf8_refusal}
 use Rattle.stun_types_write.proofs.Values.{value_is_accepted}
-use Rattle.stun_types_attribute.specs.Texts.{longest_text}
-use Rattle.stun_types_attribute.specs.Errors.{CodeAndReason, error_value}
-use Rattle.stun_types_attribute.specs.Reading.{code_refusal, error_told, error_read_refusal}
+use Rattle.stun_types_wire.specs.Registry.{longest_text}
+use Rattle.stun_types_attribute.specs.ErrorCodes.{CodeAndReason, error_value}
+use Rattle.stun_types_attribute.specs.ErrorCodeReading.{code_refusal, error_told, error_read_refusal}
 
 code_again : (n : ℕ) → 100 * (n / 100) + n % 100 ≡ n
 code_again n = omega arith

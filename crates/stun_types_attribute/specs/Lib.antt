@@ -1,3 +1,3 @@
-pub mod Errors
-pub mod Reading
+pub mod ErrorCodes
+pub mod ErrorCodeReading
 pub mod Texts

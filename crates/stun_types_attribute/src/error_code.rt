@@ -1,19 +1,20 @@
 //! ERROR-CODE (RFC 8489, section 14.8).
 
 ghost use Rattle.std.specs.Prelude.{◌≡◌, ◌≤◌, ◌/◌, ◌%◌, ◌∷◌, [], IfOk, None, Some, length, drop, MatchResult};
+ghost use Rattle.std.specs.Option.{option_or};
 ghost use Rattle.stun_types_base.specs.Refusals.{RefusesFor};
-ghost use Rattle.stun_types_write.specs.Reading.{IsNamed};
-ghost use Rattle.stun_types_wire.specs.Grammar.{or_else};
-ghost use Rattle.stun_types_attribute.specs.Texts.{longest_text};
-ghost use Rattle.stun_types_attribute.specs.Errors.{CodeAndReason, error_refusal, reason_for, reason_of};
-ghost use Rattle.stun_types_attribute.specs.Reading.{code_refusal, error_told};
-ghost use Rattle.stun_types_write.specs.Reading.{utf8_refusal};
+ghost use Rattle.stun_types_write.specs.ValueReading.{IsNamed};
+ghost use Rattle.stun_types_wire.specs.Registry.{longest_text, error_code_kind, greatest_code, least_code};
+ghost use Rattle.stun_types_attribute.specs.ErrorCodes.{CodeAndReason, error_refusal, reason_for, reason_of};
+ghost use Rattle.stun_types_attribute.specs.ErrorCodeReading.{code_refusal, error_told};
+ghost use Rattle.stun_types_write.specs.ValueReading.{utf8_refusal};
 
 use std::alloc::Global;
 use std::marker::Model;
 use stun_types_base::memory::NoMemory;
 use stun_types_wire::attribute::{AttributeType, RawAttribute};
 use stun_types_wire::error::{StunParseError, StunWriteError};
+use stun_types_wire::registry;
 use stun_types_write::attribute::{
     Attribute, AttributeFromRaw, AttributeStaticType, AttributeWrite,
 };
@@ -28,66 +29,67 @@ pub struct ErrorCode {
 }
 
 impl Model for ErrorCode {
+    ghost use Rattle.stun_types_wire.specs.Registry.{greatest_code, least_code};
     ghost use Rattle.std.specs.Prelude.{◌≤◌, length};
     ghost use Rattle.std.specs.String.{string_bytes};
-    ghost use Rattle.stun_types_attribute.specs.Texts.{longest_text};
-    ghost use Rattle.stun_types_attribute.specs.Errors.{CodeAndReason};
+    ghost use Rattle.stun_types_wire.specs.Registry.{longest_text};
+    ghost use Rattle.stun_types_attribute.specs.ErrorCodes.{CodeAndReason};
 
     ghost Value = { CodeAndReason };
 
     ghost view = { λ e. record { code = e.code; reason = string_bytes e.reason } };
 
-    ghost invariant = { λ e. (300 ≤ e.code) × (e.code ≤ 699)
+    ghost invariant = { λ e. (least_code ≤ e.code) × (e.code ≤ greatest_code)
         × (length (string_bytes e.reason) ≤ longest_text) };
 }
 
 impl ErrorCode {
     /// The client should try another server.
-    pub const TRY_ALTERNATE: u16 = 300;
+    pub const TRY_ALTERNATE: u16 = registry::TRY_ALTERNATE;
     /// The request is malformed.
-    pub const BAD_REQUEST: u16 = 400;
+    pub const BAD_REQUEST: u16 = registry::BAD_REQUEST;
     /// The request lacks the right credentials.
-    pub const UNAUTHORIZED: u16 = 401;
+    pub const UNAUTHORIZED: u16 = registry::UNAUTHORIZED;
     /// The request is right, and not allowed.
-    pub const FORBIDDEN: u16 = 403;
+    pub const FORBIDDEN: u16 = registry::FORBIDDEN;
     /// The request has an attribute that has to be understood, and is not.
-    pub const UNKNOWN_ATTRIBUTE: u16 = 420;
+    pub const UNKNOWN_ATTRIBUTE: u16 = registry::UNKNOWN_ATTRIBUTE;
     /// There is no allocation where one is needed, or the other way round.
-    pub const ALLOCATION_MISMATCH: u16 = 437;
+    pub const ALLOCATION_MISMATCH: u16 = registry::ALLOCATION_MISMATCH;
     /// The nonce is no longer valid.
-    pub const STALE_NONCE: u16 = 438;
+    pub const STALE_NONCE: u16 = registry::STALE_NONCE;
     /// The server has no addresses of the family.
-    pub const ADDRESS_FAMILY_NOT_SUPPORTED: u16 = 440;
+    pub const ADDRESS_FAMILY_NOT_SUPPORTED: u16 = registry::ADDRESS_FAMILY_NOT_SUPPORTED;
     /// The credentials are not those of the allocation.
-    pub const WRONG_CREDENTIALS: u16 = 441;
+    pub const WRONG_CREDENTIALS: u16 = registry::WRONG_CREDENTIALS;
     /// The transport is not supported.
-    pub const UNSUPPORTED_TRANSPORT_PROTOCOL: u16 = 442;
+    pub const UNSUPPORTED_TRANSPORT_PROTOCOL: u16 = registry::UNSUPPORTED_TRANSPORT_PROTOCOL;
     /// The peer is of another family than the allocation.
-    pub const PEER_ADDRESS_FAMILY_MISMATCH: u16 = 443;
+    pub const PEER_ADDRESS_FAMILY_MISMATCH: u16 = registry::PEER_ADDRESS_FAMILY_MISMATCH;
     /// There is a connection to the peer already.
-    pub const CONNECTION_ALREADY_EXISTS: u16 = 446;
+    pub const CONNECTION_ALREADY_EXISTS: u16 = registry::CONNECTION_ALREADY_EXISTS;
     /// The connection to the peer failed.
-    pub const CONNECTION_TIMEOUT_OR_FAILURE: u16 = 447;
+    pub const CONNECTION_TIMEOUT_OR_FAILURE: u16 = registry::CONNECTION_TIMEOUT_OR_FAILURE;
     /// The user has as many allocations as are allowed.
-    pub const ALLOCATION_QUOTA_REACHED: u16 = 486;
+    pub const ALLOCATION_QUOTA_REACHED: u16 = registry::ALLOCATION_QUOTA_REACHED;
     /// Both ICE agents have one role.
-    pub const ROLE_CONFLICT: u16 = 487;
+    pub const ROLE_CONFLICT: u16 = registry::ROLE_CONFLICT;
     /// The server failed.
-    pub const SERVER_ERROR: u16 = 500;
+    pub const SERVER_ERROR: u16 = registry::SERVER_ERROR;
     /// The server lacks what the request needs.
-    pub const INSUFFICIENT_CAPACITY: u16 = 508;
+    pub const INSUFFICIENT_CAPACITY: u16 = registry::INSUFFICIENT_CAPACITY;
 
     /// The least code.
-    pub const MIN_CODE: u16 = 300;
+    pub const MIN_CODE: u16 = registry::MIN_ERROR_CODE;
     /// The greatest code.
-    pub const MAX_CODE: u16 = 699;
+    pub const MAX_CODE: u16 = registry::MAX_ERROR_CODE;
     /// How many bytes a reason has at most.
-    pub const MAX_REASON_LEN: usize = 763;
+    pub const MAX_REASON_LEN: usize = registry::MAX_TEXT_LENGTH;
 
     /// An ERROR-CODE of a code and a reason. Refused, in this order: `OutOfRange` where the code is
     /// not from 300 to 699, `TooLarge` where the reason has more than 763 bytes; where memory is
     /// refused, `NoMemory`.
-    #[tactic(auto, unfolding(crate::specs::Errors::error_refusal))]
+    #[tactic(auto, unfolding(crate::specs::ErrorCodes::error_refusal))]
     pub fn new(alloc: Global, code: u16, reason: &str) -> Result<ErrorCode, StunWriteError>
         ensures ok { IfOk result (λ made. (made.code ≡ code) × (made.reason ≡ reason.now)
             × (error_refusal code reason.now ≡ None)) }
@@ -123,8 +125,8 @@ impl ErrorCode {
     /// The code, from 300 to 699.
     pub fn code(&self) -> u16
         ensures value { result ≡ self.now.code }
-        ensures least { 300 ≤ result }
-        ensures most { result ≤ 699 }
+        ensures least { least_code ≤ result }
+        ensures most { result ≤ greatest_code }
     {
         self.code
     }
@@ -173,7 +175,7 @@ pub struct ErrorCodeBuilder<'reason> {
 
 impl<'reason> Model for ErrorCodeBuilder<'reason> {
     ghost use Rattle.std.specs.Option.{option_copied};
-    ghost use Rattle.stun_types_attribute.specs.Errors.{CodeAndOther};
+    ghost use Rattle.stun_types_attribute.specs.ErrorCodes.{CodeAndOther};
 
     ghost Value = { CodeAndOther };
 
@@ -209,15 +211,15 @@ impl<'reason> ErrorCodeBuilder<'reason> {
 }
 
 impl AttributeStaticType for ErrorCode {
-    ghost TYPE = { record { 0 = 0x0009 } };
+    ghost TYPE = { record { 0 = error_code_kind } };
 
-    const TYPE: AttributeType = AttributeType(0x0009);
+    const TYPE: AttributeType = registry::ERROR_CODE;
 }
 
 impl Attribute for ErrorCode {
-    ghost use Rattle.stun_types_attribute.specs.Errors.{error_value};
+    ghost use Rattle.stun_types_attribute.specs.ErrorCodes.{error_value};
 
-    ghost kind = { λ _. 0x0009 };
+    ghost kind = { λ _. error_code_kind };
 
     ghost value = { error_value };
 
@@ -252,14 +254,14 @@ impl AttributeWrite for ErrorCode {
 /// whole. A value of fewer than 4 bytes is `Truncated`, one of more than 767 `TooLarge`, and a code
 /// outside its range or a reason that is not UTF-8 `InvalidAttributeData`.
 impl<'a> AttributeFromRaw<'a> for ErrorCode {
-    ghost use Rattle.stun_types_attribute.specs.Errors.{error_value};
-    ghost use Rattle.stun_types_attribute.specs.Reading.{error_read_refusal, error_told};
+    ghost use Rattle.stun_types_attribute.specs.ErrorCodes.{error_value};
+    ghost use Rattle.stun_types_attribute.specs.ErrorCodeReading.{error_read_refusal, error_told};
 
     ghost read_refusal = { error_read_refusal };
 
     ghost read_value = { λ value. error_value (error_told value) };
 
-    #[tactic(auto, unfolding(crate::specs::Reading::error_read_refusal))]
+    #[tactic(auto, unfolding(crate::specs::ErrorCodeReading::error_read_refusal))]
     fn from_raw_ref(alloc: Global, raw: &RawAttribute<'_>) -> Result<ErrorCode, StunParseError> {
         let value = value_of(raw, ErrorCode::TYPE, 4, 4 + ErrorCode::MAX_REASON_LEN)?;
         let (code, reason) = read_code(value)?;
@@ -282,13 +284,14 @@ impl<'a> AttributeFromRaw<'a> for ErrorCode {
 
 /// The code and the reason in a value of at least four bytes. Refused with `InvalidAttributeData` where
 /// the code is outside its range or the reason is not UTF-8.
-#[tactic(auto, unfolding(crate::specs::Reading::code_refusal))]
+#[tactic(auto, unfolding(crate::specs::ErrorCodeReading::code_refusal))]
 fn read_code(value: &[u8]) -> Result<(u16, &str), StunParseError>
     requires { 4 ≤ length value.now }
     ensures { MatchResult result (λ told. (code_refusal value.now ≡ None)
         × (utf8_refusal (drop 4 value.now) ≡ None) × (told.0 ≡ (error_told value.now).code)
-        × (told.1.now ≡ (error_told value.now).reason) × (300 ≤ told.0) × (told.0 ≤ 699))
-        (IsNamed (or_else (code_refusal value.now) (utf8_refusal (drop 4 value.now)))) }
+        × (told.1.now ≡ (error_told value.now).reason) × (least_code ≤ told.0)
+        × (told.0 ≤ greatest_code))
+        (IsNamed (option_or (code_refusal value.now) (utf8_refusal (drop 4 value.now)))) }
 {
     let (hundreds, rest) = (value[2], value[3]);
     if hundreds < 3 || hundreds > 6 || rest > 99 {

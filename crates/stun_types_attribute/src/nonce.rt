@@ -2,13 +2,15 @@
 
 ghost use Rattle.std.specs.Prelude.{◌≡◌, ◌≤◌, IfOk, None, length};
 ghost use Rattle.stun_types_base.specs.Refusals.{RefusesFor};
-ghost use Rattle.stun_types_attribute.specs.Texts.{longest_text, text_refusal};
+ghost use Rattle.stun_types_attribute.specs.Texts.{text_refusal};
+ghost use Rattle.stun_types_wire.specs.Registry.{longest_text, nonce_kind};
 
 use std::alloc::Global;
 use std::marker::Model;
 use stun_types_base::memory::NoMemory;
 use stun_types_wire::attribute::{AttributeType, RawAttribute};
 use stun_types_wire::error::{StunParseError, StunWriteError};
+use stun_types_wire::registry;
 use stun_types_write::attribute::{
     Attribute, AttributeFromRaw, AttributeStaticType, AttributeWrite,
 };
@@ -25,7 +27,7 @@ pub struct Nonce {
 impl Model for Nonce {
     ghost use Rattle.std.specs.Prelude.{List, ℕ, ◌≤◌, length};
     ghost use Rattle.std.specs.String.{string_bytes};
-    ghost use Rattle.stun_types_attribute.specs.Texts.{longest_text};
+    ghost use Rattle.stun_types_wire.specs.Registry.{longest_text};
 
     ghost Value = { List ℕ };
 
@@ -36,7 +38,7 @@ impl Model for Nonce {
 
 impl Nonce {
     /// How many bytes the text has at most.
-    pub const MAX_LEN: usize = 763;
+    pub const MAX_LEN: usize = registry::MAX_TEXT_LENGTH;
 
     /// The NONCE of a text. Refused with `TooLarge` where the text has more than 763 bytes; where
     /// memory is refused, with `NoMemory`.
@@ -67,13 +69,13 @@ impl Nonce {
 }
 
 impl AttributeStaticType for Nonce {
-    ghost TYPE = { record { 0 = 0x0015 } };
+    ghost TYPE = { record { 0 = nonce_kind } };
 
-    const TYPE: AttributeType = AttributeType(0x0015);
+    const TYPE: AttributeType = registry::NONCE;
 }
 
 impl Attribute for Nonce {
-    ghost kind = { λ _. 0x0015 };
+    ghost kind = { λ _. nonce_kind };
 
     ghost value = { λ a. a };
 
@@ -103,10 +105,9 @@ impl AttributeWrite for Nonce {
 /// A text of at most 763 bytes. A longer value is `TooLarge`, one that is not UTF-8
 /// `InvalidAttributeData`.
 impl<'a> AttributeFromRaw<'a> for Nonce {
-    ghost use Rattle.stun_types_attribute.specs.Texts.{longest_text};
-    ghost use Rattle.stun_types_write.specs.Reading.{text_read_refusal};
+    ghost use Rattle.stun_types_write.specs.ValueReading.{text_read_refusal};
 
-    ghost read_refusal = { text_read_refusal 0x0015 longest_text };
+    ghost read_refusal = { text_read_refusal nonce_kind longest_text };
 
     ghost read_value = { λ value. value };
 

@@ -2,13 +2,15 @@
 
 ghost use Rattle.std.specs.Prelude.{◌≡◌, ◌≤◌, IfOk, None, length};
 ghost use Rattle.stun_types_base.specs.Refusals.{RefusesFor};
-ghost use Rattle.stun_types_attribute.specs.Texts.{longest_text, text_refusal};
+ghost use Rattle.stun_types_attribute.specs.Texts.{text_refusal};
+ghost use Rattle.stun_types_wire.specs.Registry.{longest_text, realm_kind};
 
 use std::alloc::Global;
 use std::marker::Model;
 use stun_types_base::memory::NoMemory;
 use stun_types_wire::attribute::{AttributeType, RawAttribute};
 use stun_types_wire::error::{StunParseError, StunWriteError};
+use stun_types_wire::registry;
 use stun_types_write::attribute::{
     Attribute, AttributeFromRaw, AttributeStaticType, AttributeWrite,
 };
@@ -25,7 +27,7 @@ pub struct Realm {
 impl Model for Realm {
     ghost use Rattle.std.specs.Prelude.{List, ℕ, ◌≤◌, length};
     ghost use Rattle.std.specs.String.{string_bytes};
-    ghost use Rattle.stun_types_attribute.specs.Texts.{longest_text};
+    ghost use Rattle.stun_types_wire.specs.Registry.{longest_text};
 
     ghost Value = { List ℕ };
 
@@ -36,7 +38,7 @@ impl Model for Realm {
 
 impl Realm {
     /// How many bytes the text has at most.
-    pub const MAX_LEN: usize = 763;
+    pub const MAX_LEN: usize = registry::MAX_TEXT_LENGTH;
 
     /// The REALM of a text. Refused with `TooLarge` where the text has more than 763 bytes; where
     /// memory is refused, with `NoMemory`.
@@ -67,13 +69,13 @@ impl Realm {
 }
 
 impl AttributeStaticType for Realm {
-    ghost TYPE = { record { 0 = 0x0014 } };
+    ghost TYPE = { record { 0 = realm_kind } };
 
-    const TYPE: AttributeType = AttributeType(0x0014);
+    const TYPE: AttributeType = registry::REALM;
 }
 
 impl Attribute for Realm {
-    ghost kind = { λ _. 0x0014 };
+    ghost kind = { λ _. realm_kind };
 
     ghost value = { λ a. a };
 
@@ -103,10 +105,9 @@ impl AttributeWrite for Realm {
 /// A text of at most 763 bytes. A longer value is `TooLarge`, one that is not UTF-8
 /// `InvalidAttributeData`.
 impl<'a> AttributeFromRaw<'a> for Realm {
-    ghost use Rattle.stun_types_attribute.specs.Texts.{longest_text};
-    ghost use Rattle.stun_types_write.specs.Reading.{text_read_refusal};
+    ghost use Rattle.stun_types_write.specs.ValueReading.{text_read_refusal};
 
-    ghost read_refusal = { text_read_refusal 0x0014 longest_text };
+    ghost read_refusal = { text_read_refusal realm_kind longest_text };
 
     ghost read_value = { λ value. value };
 

@@ -2,13 +2,15 @@
 
 ghost use Rattle.std.specs.Prelude.{◌≡◌, ◌≤◌, IfOk, None, length};
 ghost use Rattle.stun_types_base.specs.Refusals.{RefusesFor};
-ghost use Rattle.stun_types_attribute.specs.Texts.{longest_username, text_refusal};
+ghost use Rattle.stun_types_attribute.specs.Texts.{text_refusal};
+ghost use Rattle.stun_types_wire.specs.Registry.{longest_username, username_kind};
 
 use std::alloc::Global;
 use std::marker::Model;
 use stun_types_base::memory::NoMemory;
 use stun_types_wire::attribute::{AttributeType, RawAttribute};
 use stun_types_wire::error::{StunParseError, StunWriteError};
+use stun_types_wire::registry;
 use stun_types_write::attribute::{
     Attribute, AttributeFromRaw, AttributeStaticType, AttributeWrite,
 };
@@ -24,7 +26,7 @@ pub struct Username {
 impl Model for Username {
     ghost use Rattle.std.specs.Prelude.{List, ℕ, ◌≤◌, length};
     ghost use Rattle.std.specs.String.{string_bytes};
-    ghost use Rattle.stun_types_attribute.specs.Texts.{longest_username};
+    ghost use Rattle.stun_types_wire.specs.Registry.{longest_username};
 
     ghost Value = { List ℕ };
 
@@ -35,7 +37,7 @@ impl Model for Username {
 
 impl Username {
     /// How many bytes the text has at most.
-    pub const MAX_LEN: usize = 513;
+    pub const MAX_LEN: usize = registry::MAX_USERNAME_LENGTH;
 
     /// The USERNAME of a text. Refused with `TooLarge` where the text has more than 513 bytes; where
     /// memory is refused, with `NoMemory`.
@@ -66,13 +68,13 @@ impl Username {
 }
 
 impl AttributeStaticType for Username {
-    ghost TYPE = { record { 0 = 0x0006 } };
+    ghost TYPE = { record { 0 = username_kind } };
 
-    const TYPE: AttributeType = AttributeType(0x0006);
+    const TYPE: AttributeType = registry::USERNAME;
 }
 
 impl Attribute for Username {
-    ghost kind = { λ _. 0x0006 };
+    ghost kind = { λ _. username_kind };
 
     ghost value = { λ a. a };
 
@@ -102,10 +104,9 @@ impl AttributeWrite for Username {
 /// A text of at most 513 bytes. A longer value is `TooLarge`, one that is not UTF-8
 /// `InvalidAttributeData`.
 impl<'a> AttributeFromRaw<'a> for Username {
-    ghost use Rattle.stun_types_attribute.specs.Texts.{longest_username};
-    ghost use Rattle.stun_types_write.specs.Reading.{text_read_refusal};
+    ghost use Rattle.stun_types_write.specs.ValueReading.{text_read_refusal};
 
-    ghost read_refusal = { text_read_refusal 0x0006 longest_username };
+    ghost read_refusal = { text_read_refusal username_kind longest_username };
 
     ghost read_value = { λ value. value };
 

@@ -1,18 +1,20 @@
 //! XOR-MAPPED-ADDRESS (RFC 8489, section 14.2).
 
 ghost use Rattle.std.specs.Prelude.{Some, ◌≡◌};
-ghost use Rattle.stun_types_write.specs.Reading.{IsNamed};
+ghost use Rattle.stun_types_write.specs.ValueReading.{IsNamed};
 ghost use Rattle.stun_types_address.specs.Addresses.{address_of, address_value};
 ghost use Rattle.stun_types_address.specs.Xor.{xored};
+ghost use Rattle.stun_types_wire.specs.Registry.{xor_mapped_address_kind};
 
 use std::alloc::Global;
 use std::convert::TryFrom;
 use std::marker::Model;
 use std::net::SocketAddr;
-use stun_types_address::address::XorSocketAddr;
+use stun_types_address::socket_addr::XorSocketAddr;
 use stun_types_base::memory::NoMemory;
 use stun_types_wire::attribute::{AttributeType, RawAttribute};
 use stun_types_wire::error::StunParseError;
+use stun_types_wire::registry;
 use stun_types_wire::transaction::TransactionId;
 use stun_types_write::attribute::{
     Attribute, AttributeFromRaw, AttributeStaticType, AttributeWrite,
@@ -53,13 +55,13 @@ impl XorMappedAddress {
 }
 
 impl AttributeStaticType for XorMappedAddress {
-    ghost TYPE = { record { 0 = 0x0020 } };
+    ghost TYPE = { record { 0 = xor_mapped_address_kind } };
 
-    const TYPE: AttributeType = AttributeType(0x0020);
+    const TYPE: AttributeType = registry::XOR_MAPPED_ADDRESS;
 }
 
 impl Attribute for XorMappedAddress {
-    ghost kind = { λ _. 0x0020 };
+    ghost kind = { λ _. xor_mapped_address_kind };
 
     ghost value = { λ a. a };
 
@@ -87,14 +89,15 @@ impl AttributeWrite for XorMappedAddress {
 /// not the 8 bytes of IPv4 or the 20 of IPv6.
 impl<'a, 'raw> TryFrom<&'raw RawAttribute<'a>> for XorMappedAddress {
     ghost use Rattle.std.specs.Prelude.{◌≡◌, MatchResult, Some, None};
-    ghost use Rattle.stun_types_write.specs.Reading.{IsNamed};
+    ghost use Rattle.stun_types_write.specs.ValueReading.{IsNamed};
     ghost use Rattle.stun_types_address.specs.Addresses.{address_again, address_read_refusal};
 
     type Error = StunParseError;
 
     ghost try_from_gives = { λ raw result. MatchResult result
-        (λ read. (address_read_refusal 0x0020 raw.now ≡ None)
-        × (read ≡ address_again raw.now.value)) (IsNamed (address_read_refusal 0x0020 raw.now)) };
+        (λ read. (address_read_refusal xor_mapped_address_kind raw.now ≡ None)
+        × (read ≡ address_again raw.now.value))
+        (IsNamed (address_read_refusal xor_mapped_address_kind raw.now)) };
 
     fn try_from(raw: &'raw RawAttribute<'a>) -> Result<XorMappedAddress, StunParseError> {
         let addr = XorSocketAddr::from_raw_of_type(raw, XorMappedAddress::TYPE)?;
@@ -107,7 +110,7 @@ impl<'a> AttributeFromRaw<'a> for XorMappedAddress {
     ghost use Rattle.std.specs.Prelude.{false};
     ghost use Rattle.stun_types_address.specs.Addresses.{address_again, address_read_refusal};
 
-    ghost read_refusal = { address_read_refusal 0x0020 };
+    ghost read_refusal = { address_read_refusal xor_mapped_address_kind };
 
     ghost read_value = { address_again };
 

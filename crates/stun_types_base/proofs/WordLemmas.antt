@@ -1,7 +1,7 @@
 -- Lemmas on the words of a stream, by their place.
 use Rattle.std.proofs.Common.{◌≡◌, ℕ, zero, suc, ◌+◌, refl, sym, ap, ◌∙◌, arith}
 use Rattle.rand_core.specs.Stream.{Stream, next_u32}
-use Rattle.stun_types_base.specs.Words.{stream_after, word_at}
+use Rattle.stun_types_base.specs.GeneratorWords.{stream_after, word_at}
 
 -- after no words a stream is whole
 pub stream_after-zero : (stream : Stream) → stream_after 0 stream ≡ stream

@@ -1,4 +1,4 @@
-pub mod Lending
+pub mod ListLending
 pub mod Refusals
 pub mod SocketAddrs
-pub mod Words
+pub mod GeneratorWords

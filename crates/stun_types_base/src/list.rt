@@ -2,7 +2,7 @@
 
 ghost use Rattle.std.specs.Prelude.{◌≡◌, ◌==◌, ◌<◌, List, [], ◌∷◌, ◌++◌, Some, length, remove, slice_get, OnOk, OnErr, option_to_list};
 ghost use Rattle.std.specs.Borrow.{sem};
-ghost use Rattle.stun_types_base.specs.Lending.{LendsElement, LendsSlice};
+ghost use Rattle.stun_types_base.specs.ListLending.{LendsElement, LendsSlice};
 
 use crate::memory::NoMemory;
 use std::alloc::Global;

@@ -1,7 +1,7 @@
 //! Words drawn from a random number generator, by their place in its stream.
 
 ghost use Rattle.std.specs.Prelude.{◌≡◌};
-ghost use Rattle.stun_types_base.specs.Words.{stream_after, word_at, words_of};
+ghost use Rattle.stun_types_base.specs.GeneratorWords.{stream_after, word_at, words_of};
 
 use rand_core::Rng;
 
@@ -18,7 +18,7 @@ pub fn draw_words<const COUNT: usize, R: Rng>(rng: &mut R) -> [u32; COUNT]
 }
 
 /// The next word of a generator.
-#[tactic(auto, unfolding(crate::specs::Words::stream_after))]
+#[tactic(auto, unfolding(crate::specs::GeneratorWords::stream_after))]
 fn draw_word<R: Rng>(rng: &mut R) -> u32
     ensures word { result ≡ word_at (R.stream rng.old) 0 }
     ensures stream { R.stream rng.new ≡ stream_after 1 (R.stream rng.old) }

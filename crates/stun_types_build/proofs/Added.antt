@@ -5,9 +5,10 @@ use Rattle.stun_types_wire.specs.declared.algorithm.IntegrityAlgorithm.TheVarian
 use Rattle.stun_types_wire.specs.Attributes.{Attr, attr_size, padded}
 use Rattle.stun_types_wire.specs.Covered.{with_length}
 use Rattle.stun_types_wire.specs.Fingerprints.{fingerprint_of, fingerprint_value}
-use Rattle.stun_types_wire.specs.Shape.{fingerprint_kind}
+use Rattle.stun_types_wire.specs.Registry.{fingerprint_kind}
 use Rattle.stun_types_wire.specs.Text.{attribute_text}
-use Rattle.stun_types_write.specs.Adding.{attr_of, greatest_size, IsBegun}
+use Rattle.stun_types_write.specs.Adding.{attr_of, IsBegun}
+use Rattle.stun_types_wire.specs.Registry.{greatest_size}
 use Rattle.stun_types_integrity.specs.Integrity.{attribute_kind, integrity_hmac}
 use Rattle.stun_types_integrity.specs.Signing.{hmac_length, signature, text_to_sign}
 use Rattle.stun_types_build.proofs.Adds.{added as bytes_added, added_begun, added_text, long_enough, pushed_long as bytes_long}

@@ -5,7 +5,8 @@ use Rattle.std.proofs.lemmas.List.{length-append, length-replicate, append-nil}
 use Rattle.stun_types_wire.specs.Attributes.{Attr, padded, padding_len, attr_size}
 use Rattle.stun_types_wire.specs.Grammar.{may_begin, header_refusal}
 use Rattle.stun_types_wire.specs.Text.{header_text, padded_text, attribute_text, body_text, message_text}
-use Rattle.stun_types_write.specs.Adding.{attr_of, after_add, greatest_size, IsBegun}
+use Rattle.stun_types_write.specs.Adding.{attr_of, after_add, IsBegun}
+use Rattle.stun_types_wire.specs.Registry.{greatest_size}
 use Rattle.stun_types_wire.specs.Covered.{with_length}
 
 -- ---- headers

@@ -3,7 +3,8 @@ use Rattle.std.proofs.Common.{◌≡◌, ℕ, ◌+◌, eqb, false, List, [], ◌
 use Rattle.std.proofs.lemmas.Bool.{cases_Bool}
 use Rattle.std.proofs.lemmas.List.{drop-drop}
 use Rattle.stun_types_wire.specs.Attributes.{Attr, attr_size}
-use Rattle.stun_types_wire.specs.Shape.{fingerprint_kind, integrity_kind, rank, sha256_kind}
+use Rattle.stun_types_wire.specs.Shape.{rank}
+use Rattle.stun_types_wire.specs.Registry.{fingerprint_kind, integrity_kind, sha256_kind}
 use Rattle.stun_types_wire.specs.Text.{message_text}
 use Rattle.stun_types_write.specs.declared.ended.Ended.{Ended}
 use Rattle.stun_types_write.specs.Adding.{add_refusal}

@@ -1,6 +1,6 @@
 //! The header and the adds of a message that is written, over any writer.
 
-ghost use Rattle.std.specs.Prelude.{◌≡◌, ◌≢◌, ◌↔◌, Err, IsSome, IsTrue, OnErr, OnOk, None};
+ghost use Rattle.std.specs.Prelude.{◌≡◌, ◌↔◌, IsTrue, OnErr, OnOk, None};
 ghost use Rattle.stun_types_base.specs.Refusals.{RefusesFor};
 ghost use Rattle.stun_types_wire.specs.Attributes.{attr_size, kind_at};
 ghost use Rattle.stun_types_wire.specs.Shape.{rank};
@@ -8,7 +8,7 @@ ghost use Rattle.stun_types_wire.specs.Fingerprints.{fingerprint_of};
 ghost use Rattle.stun_types_wire.specs.Types.{class_of, method_of, is_response_class};
 ghost use Rattle.stun_types_wire.specs.Grammar.{header_at, header_refusal, number_at};
 ghost use Rattle.stun_types_write.specs.Adding.{attr_of, add_refusal, fingerprint_add_refusal, IsBegun};
-ghost use Rattle.stun_types_write.specs.Outcomes.{IsAdded};
+ghost use Rattle.stun_types_write.specs.Outcomes.{TakesNoMemory, IsAdded};
 ghost use Rattle.stun_types_integrity.specs.Keys.{key_of};
 ghost use Rattle.stun_types_integrity.specs.Signing.{signature, signing_refusal};
 
@@ -75,7 +75,7 @@ pub trait MessageWriteExt: MessageWrite {
         ensures err { OnErr result (Self.draft self.new ≡ Self.draft self.old) }
         ensures cause { RefusesFor StunWriteError.NoMemory (add_refusal (Self.draft self.old)
             (attr_size (attr_of (kind attribute.now) (value attribute.now)))) result }
-        ensures lent { IsSome (Self.draft self.old).limit → result ≢ Err StunWriteError.NoMemory };
+        ensures lent { TakesNoMemory (Self.draft self.old) result };
 
     /// Adds the integrity attribute of an algorithm: the HMAC of all that is written under a key
     /// (RFC 8489, sections 14.5 and 14.6). Refused, in this order: `FingerprintExists`;
@@ -95,7 +95,7 @@ pub trait MessageWriteExt: MessageWrite {
         ensures err { OnErr result (Self.draft self.new ≡ Self.draft self.old) }
         ensures cause { RefusesFor StunWriteError.NoMemory
             (signing_refusal (Self.draft self.old) key.now.algorithm algorithm) result }
-        ensures lent { IsSome (Self.draft self.old).limit → result ≢ Err StunWriteError.NoMemory };
+        ensures lent { TakesNoMemory (Self.draft self.old) result };
 
     /// The same, under the key that credentials make for the algorithm. It is never refused with
     /// `IntegrityFailed`.
@@ -112,7 +112,7 @@ pub trait MessageWriteExt: MessageWrite {
         ensures err { OnErr result (Self.draft self.new ≡ Self.draft self.old) }
         ensures cause { RefusesFor StunWriteError.NoMemory
             (signing_refusal (Self.draft self.old) algorithm algorithm) result }
-        ensures lent { IsSome (Self.draft self.old).limit → result ≢ Err StunWriteError.NoMemory };
+        ensures lent { TakesNoMemory (Self.draft self.old) result };
 
     /// Adds the FINGERPRINT of all that is written: its CRC-32, combined with `STUN` (RFC 8489, section
     /// 14.7). Nothing can be added behind it. Refused, in this order: `FingerprintExists`; `TooLarge`,
@@ -124,7 +124,7 @@ pub trait MessageWriteExt: MessageWrite {
         ensures err { OnErr result (Self.draft self.new ≡ Self.draft self.old) }
         ensures cause { RefusesFor StunWriteError.NoMemory
             (fingerprint_add_refusal (Self.draft self.old)) result }
-        ensures lent { IsSome (Self.draft self.old).limit → result ≢ Err StunWriteError.NoMemory };
+        ensures lent { TakesNoMemory (Self.draft self.old) result };
 }
 
 impl<W: MessageWrite> MessageWriteExt for W {
@@ -212,7 +212,7 @@ pub fn add_as<W: MessageWrite, A: AttributeWrite>(
     ensures err { OnErr result (W.draft writer.new ≡ W.draft writer.old) }
     ensures cause { RefusesFor StunWriteError.NoMemory (add_refusal (W.draft writer.old)
         (attr_size (attr_of (A.kind same.now) (A.value same.now)))) result }
-    ensures lent { IsSome (W.draft writer.old).limit → result ≢ Err StunWriteError.NoMemory }
+    ensures lent { TakesNoMemory (W.draft writer.old) result }
 {
     writer.add_attribute(attribute)
 }

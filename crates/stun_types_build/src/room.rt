@@ -1,22 +1,18 @@
 //! What may be added to a message, and how long it may grow.
 
 ghost use Rattle.std.specs.Prelude.{◌≡◌, ◌≢◌, ◌*◌, ◌≤◌, length, IfErr, MatchResult, None, Some};
-ghost use Rattle.stun_types_write.specs.Adding.{greatest_size};
+ghost use Rattle.stun_types_wire.specs.Registry.{greatest_size};
 ghost use Rattle.stun_types_write.specs.Outcomes.{Fits, IsTooLong};
 ghost use Rattle.stun_types_integrity.specs.Signing.{order_refusal};
 
 use stun_types_wire::algorithm::IntegrityAlgorithm;
-use stun_types_wire::attribute::{MESSAGE_INTEGRITY, MESSAGE_INTEGRITY_SHA256};
 use stun_types_wire::error::StunWriteError;
 use stun_types_wire::header::MessageHeader;
+use stun_types_wire::registry::{
+    MAX_DATA_LENGTH, MAX_MESSAGE_LENGTH, MESSAGE_INTEGRITY, MESSAGE_INTEGRITY_SHA256,
+};
 use stun_types_write::ended::Ended;
 use stun_types_write::writer::MessageWrite;
-
-/// The greatest length that a header tells, in sixteen bits.
-const MAX_DATA_LENGTH: usize = 65_535;
-
-/// The greatest size of a message, its header included.
-const MAX_MESSAGE_LENGTH: usize = 65_555;
 
 /// Where a message ends to which so many bytes are added. Refused with `TooLarge` where its length
 /// field can't tell that, and with `TooSmall` where the writer has not the room.

@@ -1,14 +1,15 @@
 //! The integrity attribute, added at the end of a message (RFC 8489, sections 14.5 and 14.6).
 
-ghost use Rattle.std.specs.Prelude.{◌≡◌, ◌≢◌, ◌≤◌, length, OnOk, OnErr, Err, IsOk, IsSome};
+ghost use Rattle.std.specs.Prelude.{◌≡◌, ◌≤◌, length, OnOk, OnErr, IsOk, IsSome};
 ghost use Rattle.stun_types_wire.specs.Attributes.{attr_size};
 ghost use Rattle.stun_types_wire.specs.Covered.{with_length};
-ghost use Rattle.stun_types_write.specs.Adding.{attr_of, greatest_size, IsBegun};
+ghost use Rattle.stun_types_write.specs.Adding.{attr_of, IsBegun};
+ghost use Rattle.stun_types_wire.specs.Registry.{greatest_size, header_size};
 ghost use Rattle.stun_types_integrity.specs.Hmacs.{hmac_bytes};
 ghost use Rattle.stun_types_integrity.specs.Integrity.{integrity_hmac};
 ghost use Rattle.stun_types_integrity.specs.Signing.{hmac_length as length_of_hmac, signature, signing_refusal};
 ghost use Rattle.stun_types_write.specs.Drafts.{HasRoom, pushed_attribute};
-ghost use Rattle.stun_types_write.specs.Outcomes.{IsAdded};
+ghost use Rattle.stun_types_write.specs.Outcomes.{TakesNoMemory, IsAdded};
 ghost use Rattle.stun_types_base.specs.Refusals.{RefusesFor};
 
 use crate::room::{end_of_add, may_sign};
@@ -37,7 +38,7 @@ pub(crate) fn sign<W: MessageWrite>(
     ensures err { OnErr result (W.draft writer.new ≡ W.draft writer.old) }
     ensures cause { RefusesFor StunWriteError.NoMemory
         (signing_refusal (W.draft writer.old) key.now.algorithm algorithm) result }
-    ensures lent { IsSome (W.draft writer.old).limit → result ≢ Err StunWriteError.NoMemory }
+    ensures lent { TakesNoMemory (W.draft writer.old) result }
 {
     may_sign(writer.ended(), algorithm)?;
     if key.algorithm() != algorithm {
@@ -55,7 +56,7 @@ pub(crate) fn sign<W: MessageWrite>(
 /// The HMAC of a message under a key, as if its header told this length.
 #[tactic(auto, unfolding(stun_types_wire::specs::Covered::with_length))]
 fn hmac_told(bytes: &[u8], len: u16, key: &IntegrityKey<'_>) -> IntegrityHmac
-    requires { 20 ≤ length bytes.now }
+    requires { header_size ≤ length bytes.now }
     ensures bytes { hmac_bytes result
         ≡ integrity_hmac key.now.algorithm key.now.bytes (with_length bytes.now len) }
     ensures size { length (hmac_bytes result) ≡ length_of_hmac key.now.algorithm }

@@ -7,10 +7,10 @@ use Rattle.std.proofs.lemmas.Slice.Eq.{bytes_eq-Decides}
 use Rattle.byteorder.specs.Endian.{big_bytes, big_number}
 use Rattle.byteorder.specs.Numbers.{big_number-reads_back}
 use Rattle.stun_types_write.specs.Adding.{attr_of}
-use Rattle.stun_types_write.specs.Reading.{value_refusal}
+use Rattle.stun_types_write.specs.ValueReading.{value_refusal}
 use Rattle.stun_types_write.proofs.Values.{value_is_accepted}
-use Rattle.stun_types_wire.specs.Fingerprints.{fingerprint_mask}
-use Rattle.stun_types_fingerprint.specs.Fingerprints.{turned_bytes}
+use Rattle.stun_types_wire.specs.Registry.{fingerprint_mask}
+use Rattle.stun_types_fingerprint.specs.FingerprintValues.{turned_bytes}
 
 -- the bytes of the number that four bytes tell
 pub bytes_again : (bytes : List ℕ) (n : ℕ) → length bytes ≡ 4 → ((k : ℕ) → slice_index bytes k < 256) → n ≡ big_number 4 bytes → big_bytes 4 n ≡ bytes

@@ -1,1 +1,1 @@
-pub mod Fingerprints
+pub mod FingerprintValues

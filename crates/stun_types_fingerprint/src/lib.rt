@@ -2,4 +2,4 @@
 //! (RFC 8489, section 14.7).
 #![tactic(auto)]
 
-pub mod fingerprint;
+pub mod attribute;

@@ -1,3 +1,2 @@
-pub mod Marks
-pub mod Texts
-pub mod Types
+pub mod TypeMarks
+pub mod UnknownTypes

@@ -3,13 +3,14 @@
 ghost use Rattle.std.specs.Prelude.{◌≡◌, ◌≤◌, IfOk, None, length};
 ghost use Rattle.stun_types_base.specs.Refusals.{RefusesFor};
 ghost use Rattle.stun_types_attribute.specs.Texts.{text_refusal};
-ghost use Rattle.stun_types_info.specs.Texts.{longest_domain};
+ghost use Rattle.stun_types_wire.specs.Registry.{longest_domain, alternate_domain_kind};
 
 use std::alloc::Global;
 use std::marker::Model;
 use stun_types_base::memory::NoMemory;
 use stun_types_wire::attribute::{AttributeType, RawAttribute};
 use stun_types_wire::error::{StunParseError, StunWriteError};
+use stun_types_wire::registry;
 use stun_types_write::attribute::{
     Attribute, AttributeFromRaw, AttributeStaticType, AttributeWrite,
 };
@@ -26,7 +27,7 @@ pub struct AlternateDomain {
 impl Model for AlternateDomain {
     ghost use Rattle.std.specs.Prelude.{List, ℕ, ◌≤◌, length};
     ghost use Rattle.std.specs.String.{string_bytes};
-    ghost use Rattle.stun_types_info.specs.Texts.{longest_domain};
+    ghost use Rattle.stun_types_wire.specs.Registry.{longest_domain};
 
     ghost Value = { List ℕ };
 
@@ -37,7 +38,7 @@ impl Model for AlternateDomain {
 
 impl AlternateDomain {
     /// How many bytes the text has at most.
-    pub const MAX_LEN: usize = 255;
+    pub const MAX_LEN: usize = registry::MAX_DOMAIN_LENGTH;
 
     /// The ALTERNATE-DOMAIN of a text. Refused with `TooLarge` where the text has more than 255 bytes;
     /// where memory is refused, with `NoMemory`.
@@ -68,13 +69,13 @@ impl AlternateDomain {
 }
 
 impl AttributeStaticType for AlternateDomain {
-    ghost TYPE = { record { 0 = 0x8003 } };
+    ghost TYPE = { record { 0 = alternate_domain_kind } };
 
-    const TYPE: AttributeType = AttributeType(0x8003);
+    const TYPE: AttributeType = registry::ALTERNATE_DOMAIN;
 }
 
 impl Attribute for AlternateDomain {
-    ghost kind = { λ _. 0x8003 };
+    ghost kind = { λ _. alternate_domain_kind };
 
     ghost value = { λ a. a };
 
@@ -104,10 +105,9 @@ impl AttributeWrite for AlternateDomain {
 /// A text of at most 255 bytes. Refused, in this order: `WrongAttributeImplementation` where it is
 /// another type, `TooLarge` where the value is longer, `InvalidAttributeData` where it is not UTF-8.
 impl<'a> AttributeFromRaw<'a> for AlternateDomain {
-    ghost use Rattle.stun_types_info.specs.Texts.{longest_domain};
-    ghost use Rattle.stun_types_write.specs.Reading.{text_read_refusal};
+    ghost use Rattle.stun_types_write.specs.ValueReading.{text_read_refusal};
 
-    ghost read_refusal = { text_read_refusal 0x8003 longest_domain };
+    ghost read_refusal = { text_read_refusal alternate_domain_kind longest_domain };
 
     ghost read_value = { λ value. value };
 

@@ -1,17 +1,19 @@
 //! ALTERNATE-SERVER (RFC 8489, section 14.15).
 
 ghost use Rattle.std.specs.Prelude.{Some, ◌≡◌};
-ghost use Rattle.stun_types_write.specs.Reading.{IsNamed};
+ghost use Rattle.stun_types_write.specs.ValueReading.{IsNamed};
 ghost use Rattle.stun_types_address.specs.Addresses.{address_of, address_value};
+ghost use Rattle.stun_types_wire.specs.Registry.{alternate_server_kind};
 
 use std::alloc::Global;
 use std::convert::TryFrom;
 use std::marker::Model;
 use std::net::SocketAddr;
-use stun_types_address::address::MappedSocketAddr;
+use stun_types_address::socket_addr::MappedSocketAddr;
 use stun_types_base::memory::NoMemory;
 use stun_types_wire::attribute::{AttributeType, RawAttribute};
 use stun_types_wire::error::StunParseError;
+use stun_types_wire::registry;
 use stun_types_write::attribute::{
     Attribute, AttributeFromRaw, AttributeStaticType, AttributeWrite,
 };
@@ -51,13 +53,13 @@ impl AlternateServer {
 }
 
 impl AttributeStaticType for AlternateServer {
-    ghost TYPE = { record { 0 = 0x8023 } };
+    ghost TYPE = { record { 0 = alternate_server_kind } };
 
-    const TYPE: AttributeType = AttributeType(0x8023);
+    const TYPE: AttributeType = registry::ALTERNATE_SERVER;
 }
 
 impl Attribute for AlternateServer {
-    ghost kind = { λ _. 0x8023 };
+    ghost kind = { λ _. alternate_server_kind };
 
     ghost value = { λ a. a };
 
@@ -86,14 +88,15 @@ impl AttributeWrite for AlternateServer {
 /// has not the 8 bytes of IPv4 or the 20 of IPv6.
 impl<'a, 'raw> TryFrom<&'raw RawAttribute<'a>> for AlternateServer {
     ghost use Rattle.std.specs.Prelude.{◌≡◌, MatchResult, Some, None};
-    ghost use Rattle.stun_types_write.specs.Reading.{IsNamed};
+    ghost use Rattle.stun_types_write.specs.ValueReading.{IsNamed};
     ghost use Rattle.stun_types_address.specs.Addresses.{address_again, address_read_refusal};
 
     type Error = StunParseError;
 
     ghost try_from_gives = { λ raw result. MatchResult result
-        (λ read. (address_read_refusal 0x8023 raw.now ≡ None)
-        × (read ≡ address_again raw.now.value)) (IsNamed (address_read_refusal 0x8023 raw.now)) };
+        (λ read. (address_read_refusal alternate_server_kind raw.now ≡ None)
+        × (read ≡ address_again raw.now.value))
+        (IsNamed (address_read_refusal alternate_server_kind raw.now)) };
 
     fn try_from(raw: &'raw RawAttribute<'a>) -> Result<AlternateServer, StunParseError> {
         let addr = MappedSocketAddr::from_raw_of_type(raw, AlternateServer::TYPE)?;
@@ -106,7 +109,7 @@ impl<'a> AttributeFromRaw<'a> for AlternateServer {
     ghost use Rattle.std.specs.Prelude.{false};
     ghost use Rattle.stun_types_address.specs.Addresses.{address_again, address_read_refusal};
 
-    ghost read_refusal = { address_read_refusal 0x8023 };
+    ghost read_refusal = { address_read_refusal alternate_server_kind };
 
     ghost read_value = { address_again };
 

@@ -3,13 +3,14 @@
 ghost use Rattle.std.specs.Prelude.{◌≡◌, ◌≤◌, IfOk, None, length};
 ghost use Rattle.stun_types_base.specs.Refusals.{RefusesFor};
 ghost use Rattle.stun_types_attribute.specs.Texts.{text_refusal};
-ghost use Rattle.stun_types_info.specs.Texts.{longest_software};
+ghost use Rattle.stun_types_wire.specs.Registry.{longest_software, software_kind};
 
 use std::alloc::Global;
 use std::marker::Model;
 use stun_types_base::memory::NoMemory;
 use stun_types_wire::attribute::{AttributeType, RawAttribute};
 use stun_types_wire::error::{StunParseError, StunWriteError};
+use stun_types_wire::registry;
 use stun_types_write::attribute::{
     Attribute, AttributeFromRaw, AttributeStaticType, AttributeWrite,
 };
@@ -26,7 +27,7 @@ pub struct Software {
 impl Model for Software {
     ghost use Rattle.std.specs.Prelude.{List, ℕ, ◌≤◌, length};
     ghost use Rattle.std.specs.String.{string_bytes};
-    ghost use Rattle.stun_types_info.specs.Texts.{longest_software};
+    ghost use Rattle.stun_types_wire.specs.Registry.{longest_software};
 
     ghost Value = { List ℕ };
 
@@ -37,7 +38,7 @@ impl Model for Software {
 
 impl Software {
     /// How many bytes the text has at most.
-    pub const MAX_LEN: usize = 763;
+    pub const MAX_LEN: usize = registry::MAX_SOFTWARE_LENGTH;
 
     /// The SOFTWARE of a text. Refused with `TooLarge` where the text has more than 763 bytes; where
     /// memory is refused, with `NoMemory`.
@@ -68,13 +69,13 @@ impl Software {
 }
 
 impl AttributeStaticType for Software {
-    ghost TYPE = { record { 0 = 0x8022 } };
+    ghost TYPE = { record { 0 = software_kind } };
 
-    const TYPE: AttributeType = AttributeType(0x8022);
+    const TYPE: AttributeType = registry::SOFTWARE;
 }
 
 impl Attribute for Software {
-    ghost kind = { λ _. 0x8022 };
+    ghost kind = { λ _. software_kind };
 
     ghost value = { λ a. a };
 
@@ -104,10 +105,9 @@ impl AttributeWrite for Software {
 /// A text of at most 763 bytes. Refused, in this order: `WrongAttributeImplementation` where it is
 /// another type, `TooLarge` where the value is longer, `InvalidAttributeData` where it is not UTF-8.
 impl<'a> AttributeFromRaw<'a> for Software {
-    ghost use Rattle.stun_types_info.specs.Texts.{longest_software};
-    ghost use Rattle.stun_types_write.specs.Reading.{text_read_refusal};
+    ghost use Rattle.stun_types_write.specs.ValueReading.{text_read_refusal};
 
-    ghost read_refusal = { text_read_refusal 0x8022 longest_software };
+    ghost read_refusal = { text_read_refusal software_kind longest_software };
 
     ghost read_value = { λ value. value };
 

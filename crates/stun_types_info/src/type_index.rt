@@ -1,7 +1,7 @@
 //! Types of attributes, marked so that one is looked up without a walk over all.
 
 ghost use Rattle.std.specs.Prelude.{◌≡◌, ◌==◌, ◌||◌, ℕ, false, IfOk};
-ghost use Rattle.stun_types_info.specs.Marks.{is_marked};
+ghost use Rattle.stun_types_info.specs.TypeMarks.{is_marked};
 
 use std::alloc::Global;
 use std::marker::Model;

@@ -2,10 +2,11 @@
 
 ghost use Rattle.std.specs.Prelude.{◌≡◌, ℕ, List, ◌+◌, ◌*◌, ◌%◌, ◌≤◌, ◌++◌, ◌∷◌, [], IfOk, OnOk, OnErr, MatchResult, None, Some, is_some, length, map};
 ghost use Rattle.stun_types_base.specs.Refusals.{RefusesFor};
-ghost use Rattle.stun_types_write.specs.Reading.{IsNamed};
+ghost use Rattle.stun_types_write.specs.ValueReading.{IsNamed};
 ghost use Rattle.stun_types_write.specs.Adding.{has_kind};
-ghost use Rattle.stun_types_info.specs.Marks.{IsIndexed};
-ghost use Rattle.stun_types_info.specs.Types.{longest_value, types_read_refusal, types_refusal, types_told, types_value, with_type};
+ghost use Rattle.stun_types_info.specs.TypeMarks.{IsIndexed};
+ghost use Rattle.stun_types_info.specs.UnknownTypes.{types_read_refusal, types_refusal, types_told, types_value, with_type};
+ghost use Rattle.stun_types_wire.specs.Registry.{longest_value, unknown_attributes_kind};
 
 use crate::type_index::TypeIndex;
 use std::alloc::Global;
@@ -14,6 +15,7 @@ use std::marker::Model;
 use stun_types_base::memory::NoMemory;
 use stun_types_wire::attribute::{AttributeType, RawAttribute};
 use stun_types_wire::error::{StunParseError, StunWriteError};
+use stun_types_wire::registry;
 use stun_types_write::attribute::{
     Attribute, AttributeFromRaw, AttributeStaticType, AttributeWrite,
 };
@@ -31,8 +33,9 @@ pub struct UnknownAttributes {
 
 impl Model for UnknownAttributes {
     ghost use Rattle.std.specs.Prelude.{◌≡◌, ℕ, ◌%◌, ◌≤◌, List, length};
-    ghost use Rattle.stun_types_info.specs.Marks.{IsIndexed};
-    ghost use Rattle.stun_types_info.specs.Types.{longest_value, types_told};
+    ghost use Rattle.stun_types_info.specs.TypeMarks.{IsIndexed};
+    ghost use Rattle.stun_types_info.specs.UnknownTypes.{types_told};
+    ghost use Rattle.stun_types_wire.specs.Registry.{longest_value};
 
     ghost Value = { List ℕ };
 
@@ -48,7 +51,7 @@ const INDEXED_LEN: usize = 64;
 
 impl UnknownAttributes {
     /// How many bytes the value has at most.
-    pub const MAX_LEN: usize = 65_535;
+    pub const MAX_LEN: usize = registry::MAX_VALUE_LENGTH;
 
     /// The UNKNOWN-ATTRIBUTES of these types, in their order and as often as they stand there. Refused
     /// with `TooLarge` where their value would have more than 65,535 bytes; where memory is refused,
@@ -140,15 +143,15 @@ impl fmt::Debug for UnknownAttributes {
 }
 
 impl AttributeStaticType for UnknownAttributes {
-    ghost TYPE = { record { 0 = 0x000A } };
+    ghost TYPE = { record { 0 = unknown_attributes_kind } };
 
-    const TYPE: AttributeType = AttributeType(0x000A);
+    const TYPE: AttributeType = registry::UNKNOWN_ATTRIBUTES;
 }
 
 impl Attribute for UnknownAttributes {
-    ghost use Rattle.stun_types_info.specs.Types.{types_value};
+    ghost use Rattle.stun_types_info.specs.UnknownTypes.{types_value};
 
-    ghost kind = { λ _. 0x000A };
+    ghost kind = { λ _. unknown_attributes_kind };
 
     ghost value = { types_value };
 
@@ -179,7 +182,7 @@ impl AttributeWrite for UnknownAttributes {
 /// where it is another type, `InvalidAttributeData` where the value has an odd number of bytes, since no
 /// length is laid down of which it could be short; where memory is refused, `NoMemory`.
 impl<'a> AttributeFromRaw<'a> for UnknownAttributes {
-    ghost use Rattle.stun_types_info.specs.Types.{types_read_refusal};
+    ghost use Rattle.stun_types_info.specs.UnknownTypes.{types_read_refusal};
 
     ghost read_refusal = { types_read_refusal };
 
@@ -208,10 +211,11 @@ impl<'a> AttributeFromRaw<'a> for UnknownAttributes {
 }
 
 /// The value of an UNKNOWN-ATTRIBUTES. Refused as the attribute is, but for memory.
-#[tactic(auto, unfolding(crate::specs::Types::types_read_refusal, crate::specs::Types::odd_refusal))]
+#[tactic(auto, unfolding(crate::specs::UnknownTypes::types_read_refusal, crate::specs::UnknownTypes::odd_refusal))]
 fn even_value_of<'raw>(raw: &'raw RawAttribute<'_>) -> Result<&'raw [u8], StunParseError>
     ensures { MatchResult result (λ value. (types_read_refusal raw.now ≡ None)
-        × (raw.now.kind ≡ 0x000A) × (value.now ≡ raw.now.value) × (length value.now % 2 ≡ 0)
+        × (raw.now.kind ≡ unknown_attributes_kind) × (value.now ≡ raw.now.value)
+        × (length value.now % 2 ≡ 0)
         × (length value.now ≤ longest_value) × (types_value (types_told value.now) ≡ value.now))
         (IsNamed (types_read_refusal raw.now)) }
 {
@@ -281,7 +285,7 @@ fn mark_type(index: &mut Option<TypeIndex>, atype: AttributeType)
 }
 
 /// Whether a value tells a type.
-#[tactic(auto, using(crate::proofs::TypeLists::none_told), unfolding(crate::specs::Types::types_told))]
+#[tactic(auto, using(crate::proofs::TypeLists::none_told), unfolding(crate::specs::UnknownTypes::types_told))]
 fn tells_type(bytes: &[u8], atype: AttributeType) -> bool
     ensures { result ≡ has_kind atype.0 (types_told bytes.now) }
 {

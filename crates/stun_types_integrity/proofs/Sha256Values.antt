@@ -7,6 +7,7 @@ use Rattle.stun_types_write.specs.Adding.{attr_of}
 use Rattle.stun_types_write.proofs.Values.{value_is_accepted}
 use Rattle.stun_types_integrity.specs.Integrity.{is_lawful_length}
 use Rattle.stun_types_integrity.specs.Sha256Values.{fours_refusal, sha256_read_refusal}
+use Rattle.stun_types_wire.specs.Registry.{sha256_kind}
 
 at_least : (len : ℕ) → IsTrue (is_lawful_length Sha256 len) → 16 ≤ len
 at_least len lawful = grind (arith, common_steps, lawful)
@@ -18,7 +19,7 @@ in_fours : (bytes : List ℕ) → IsTrue (is_lawful_length Sha256 (length bytes)
 unfolding fours_refusal
 in_fours bytes lawful = grind (arith, common_steps, lawful)
 
-pub lawful_is_accepted : (bytes : List ℕ) → IsTrue (is_lawful_length Sha256 (length bytes)) → sha256_read_refusal (attr_of 0x001C bytes) ≡ None
+pub lawful_is_accepted : (bytes : List ℕ) → IsTrue (is_lawful_length Sha256 (length bytes)) → sha256_read_refusal (attr_of sha256_kind bytes) ≡ None
 unfolding sha256_read_refusal
 lawful_is_accepted bytes lawful =
-    rw (value_is_accepted 0x001C 16 32 bytes (at_least (length bytes) lawful) (at_most (length bytes) lawful)) (in_fours bytes lawful)
+    rw (value_is_accepted sha256_kind 16 32 bytes (at_least (length bytes) lawful) (at_most (length bytes) lawful)) (in_fours bytes lawful)

@@ -8,7 +8,7 @@ use Rattle.stun_types_digest.specs.Hmac.{hmac}
 use Rattle.stun_types_wire.specs.declared.algorithm.IntegrityAlgorithm.{IntegrityAlgorithm}
 use Rattle.stun_types_wire.specs.declared.algorithm.IntegrityAlgorithm.TheVariants.{Sha1, Sha256}
 use Rattle.stun_types_wire.specs.Attributes.{Attr, numbered}
-use Rattle.stun_types_wire.specs.Shape.{integrity_kind, sha256_kind}
+use Rattle.stun_types_wire.specs.Registry.{integrity_kind, sha256_kind, header_size, least_sha256_length, sha1_length, sha256_length}
 use Rattle.stun_types_wire.specs.Grammar.{IsMessage, shown}
 use Rattle.stun_types_wire.specs.Covered.{covered_text}
 
@@ -32,8 +32,8 @@ pub record IsFront (front whole : List ℕ) : Type 0 where
 -- the lengths that the value of its attribute may have: that of the HMAC, or for SHA-256 a front of
 -- 16 bytes or more, in fours
 abbrev pub is_lawful_length : IntegrityAlgorithm → ℕ → Bool
-is_lawful_length Sha1 len = len == 20
-is_lawful_length Sha256 len = nat_le 16 len && (nat_le len 32 && len % 4 == 0)
+is_lawful_length Sha1 len = len == sha1_length
+is_lawful_length Sha256 len = nat_le least_sha256_length len && (nat_le len sha256_length && len % 4 == 0)
 
 -- the algorithm of an attribute's type, where it is an integrity attribute
 abbrev pub algorithm_of : ℕ → Option IntegrityAlgorithm
@@ -49,7 +49,7 @@ pub record IsSigned (bytes key : List ℕ) (algorithm : IntegrityAlgorithm) (tex
   pub offset : ℕ
   pub attribute : Attr
   pub behind : List (ℕ × Attr)
-  pub shows : numbered 20 (shown bytes) ≡ before ++ (offset, attribute) ∷ behind
+  pub shows : numbered header_size (shown bytes) ≡ before ++ (offset, attribute) ∷ behind
   pub kind : attribute.kind ≡ attribute_kind algorithm
   pub covered : text ≡ covered_text bytes offset
   pub lawful : IsTrue (is_lawful_length algorithm (length attribute.value))

@@ -7,7 +7,7 @@ use Rattle.stun_types_wire.specs.declared.algorithm.IntegrityAlgorithm.TheVarian
 use Rattle.stun_types_wire.specs.declared.error.StunWriteError.{StunWriteError}
 use Rattle.stun_types_wire.specs.declared.error.StunWriteError.TheVariants.{AttributeExists, FingerprintExists, IntegrityFailed, MessageIntegrityExists}
 use Rattle.stun_types_wire.specs.Attributes.{Attr}
-use Rattle.stun_types_wire.specs.Shape.{integrity_kind, sha256_kind}
+use Rattle.stun_types_wire.specs.Registry.{integrity_kind, sha256_kind, header_size, sha1_length, sha256_length}
 use Rattle.stun_types_write.specs.declared.ended.Ended.{Ended}
 use Rattle.stun_types_write.specs.Adding.{growth_refusal}
 use Rattle.stun_types_write.specs.Drafts.{Draft}
@@ -16,12 +16,12 @@ use Rattle.stun_types_integrity.specs.Integrity.{attribute_kind, integrity_hmac}
 
 -- how many bytes the HMAC of an algorithm has
 abbrev pub hmac_length : IntegrityAlgorithm → ℕ
-hmac_length Sha1 = 20
-hmac_length Sha256 = 32
+hmac_length Sha1 = sha1_length
+hmac_length Sha256 = sha256_length
 
 -- the text that the attribute covers: what is written, with the length that reaches through the attribute
 unfoldable pub text_to_sign : IntegrityAlgorithm → List ℕ → List ℕ
-text_to_sign algorithm bytes = with_length bytes (length bytes - 20 + (4 + hmac_length algorithm))
+text_to_sign algorithm bytes = with_length bytes (length bytes - header_size + (4 + hmac_length algorithm))
 
 -- the attribute itself
 unfoldable pub signature : IntegrityAlgorithm → List ℕ → List ℕ → Attr

@@ -5,7 +5,9 @@ ghost use Rattle.stun_types_integrity.specs.Integrity.{algorithm_of as algorithm
 ghost use Rattle.stun_types_integrity.specs.Signing.{hmac_length as length_of_hmac};
 
 use stun_types_wire::algorithm::IntegrityAlgorithm;
-use stun_types_wire::attribute::{AttributeType, MESSAGE_INTEGRITY, MESSAGE_INTEGRITY_SHA256};
+use stun_types_wire::attribute::AttributeType;
+use stun_types_wire::registry;
+use stun_types_wire::registry::{MESSAGE_INTEGRITY, MESSAGE_INTEGRITY_SHA256};
 
 /// The type of the attribute that holds the HMAC of an algorithm.
 pub fn attribute_type(algorithm: IntegrityAlgorithm) -> AttributeType
@@ -21,9 +23,9 @@ pub fn attribute_type(algorithm: IntegrityAlgorithm) -> AttributeType
 pub fn algorithm_of(atype: AttributeType) -> Option<IntegrityAlgorithm>
     ensures { result ≡ algorithm_of_kind atype.0 }
 {
-    match atype.value() {
-        0x0008 => Some(IntegrityAlgorithm::Sha1),
-        0x001C => Some(IntegrityAlgorithm::Sha256),
+    match atype {
+        MESSAGE_INTEGRITY => Some(IntegrityAlgorithm::Sha1),
+        MESSAGE_INTEGRITY_SHA256 => Some(IntegrityAlgorithm::Sha256),
         _ => None,
     }
 }
@@ -34,8 +36,12 @@ pub fn is_lawful_length(algorithm: IntegrityAlgorithm, len: usize) -> bool
     ensures { result ≡ is_lawful algorithm len }
 {
     match algorithm {
-        IntegrityAlgorithm::Sha1 => len == 20,
-        IntegrityAlgorithm::Sha256 => len >= 16 && len <= 32 && len % 4 == 0,
+        IntegrityAlgorithm::Sha1 => len == registry::HMAC_SHA1_LENGTH,
+        IntegrityAlgorithm::Sha256 => {
+            len >= registry::MIN_HMAC_SHA256_LENGTH
+                && len <= registry::HMAC_SHA256_LENGTH
+                && len % 4 == 0
+        },
     }
 }
 
@@ -44,7 +50,7 @@ pub fn hmac_length(algorithm: IntegrityAlgorithm) -> usize
     ensures { result ≡ length_of_hmac algorithm }
 {
     match algorithm {
-        IntegrityAlgorithm::Sha1 => 20,
-        IntegrityAlgorithm::Sha256 => 32,
+        IntegrityAlgorithm::Sha1 => registry::HMAC_SHA1_LENGTH,
+        IntegrityAlgorithm::Sha256 => registry::HMAC_SHA256_LENGTH,
     }
 }

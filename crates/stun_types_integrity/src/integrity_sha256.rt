@@ -1,10 +1,11 @@
 //! MESSAGE-INTEGRITY-SHA256 (RFC 8489, section 14.6).
 
 ghost use Rattle.std.specs.Prelude.{◌≡◌, ◌≢◌, ◌↔◌, ◌++◌, length, MatchResult, IsOk, IsTrue, IfErr, None, Some};
-ghost use Rattle.stun_types_write.specs.Reading.{IsNamed};
+ghost use Rattle.stun_types_write.specs.ValueReading.{IsNamed};
 ghost use Rattle.stun_types_wire.specs.declared.algorithm.IntegrityAlgorithm.TheVariants.{Sha256};
 ghost use Rattle.stun_types_integrity.specs.Integrity.{IsFront, integrity_hmac, is_lawful_length as is_lawful};
 ghost use Rattle.stun_types_integrity.specs.Sha256Values.{sha256_len_refusal, sha256_read_refusal};
+ghost use Rattle.stun_types_wire.specs.Registry.{sha256_kind, sha256_length};
 
 use crate::algorithm::is_lawful_length;
 use crate::key::IntegrityKey;
@@ -14,8 +15,10 @@ use std::marker::Model;
 use stun_types_base::memory::NoMemory;
 use stun_types_digest::hmac::HmacSha256;
 use stun_types_wire::algorithm::IntegrityAlgorithm;
-use stun_types_wire::attribute::{AttributeType, MESSAGE_INTEGRITY_SHA256, RawAttribute};
+use stun_types_wire::attribute::{AttributeType, RawAttribute};
 use stun_types_wire::error::{StunParseError, StunWriteError, ValidateError};
+use stun_types_wire::registry;
+use stun_types_wire::registry::MESSAGE_INTEGRITY_SHA256;
 use stun_types_write::attribute::{
     Attribute, AttributeFromRaw, AttributeStaticType, AttributeWrite,
 };
@@ -31,6 +34,7 @@ pub struct MessageIntegritySha256 {
 }
 
 impl Model for MessageIntegritySha256 {
+    ghost use Rattle.stun_types_wire.specs.Registry.{sha256_length};
     ghost use Rattle.std.specs.Prelude.{◌≡◌, ℕ, IsTrue, List, length, take};
     ghost use Rattle.stun_types_wire.specs.declared.algorithm.IntegrityAlgorithm.TheVariants.{Sha256};
     ghost use Rattle.stun_types_integrity.specs.Integrity.{is_lawful_length};
@@ -39,7 +43,8 @@ impl Model for MessageIntegritySha256 {
 
     ghost view = { λ a. take a.len a.hmac };
 
-    ghost invariant = { λ a. (length a.hmac ≡ 32) × IsTrue (is_lawful_length Sha256 a.len) };
+    ghost invariant = { λ a. (length a.hmac ≡ sha256_length)
+        × IsTrue (is_lawful_length Sha256 a.len) };
 }
 
 impl MessageIntegritySha256 {
@@ -127,13 +132,13 @@ impl MessageIntegritySha256 {
 }
 
 impl AttributeStaticType for MessageIntegritySha256 {
-    ghost TYPE = { record { 0 = 0x001C } };
+    ghost TYPE = { record { 0 = sha256_kind } };
 
     const TYPE: AttributeType = MESSAGE_INTEGRITY_SHA256;
 }
 
 impl Attribute for MessageIntegritySha256 {
-    ghost kind = { λ _. 0x001C };
+    ghost kind = { λ _. sha256_kind };
 
     ghost value = { λ a. a };
 
@@ -165,13 +170,13 @@ impl AttributeWrite for MessageIntegritySha256 {
 /// more than 32, `InvalidAttributeData` where they don't come in fours.
 impl<'a, 'raw> TryFrom<&'raw RawAttribute<'a>> for MessageIntegritySha256 {
     ghost use Rattle.std.specs.Prelude.{◌≡◌, MatchResult, Some, None};
-    ghost use Rattle.stun_types_write.specs.Reading.{IsNamed};
+    ghost use Rattle.stun_types_write.specs.ValueReading.{IsNamed};
     ghost use Rattle.stun_types_integrity.specs.Sha256Values.{sha256_read_refusal};
 
     type Error = StunParseError;
 
     ghost try_from_gives = { λ raw result. MatchResult result
-        (λ read. (sha256_read_refusal raw.now ≡ None) × (raw.now.kind ≡ 0x001C)
+        (λ read. (sha256_read_refusal raw.now ≡ None) × (raw.now.kind ≡ sha256_kind)
         × (read ≡ raw.now.value)) (IsNamed (sha256_read_refusal raw.now)) };
 
     fn try_from(raw: &'raw RawAttribute<'a>) -> Result<MessageIntegritySha256, StunParseError> {
@@ -217,7 +222,10 @@ fn check_len(len: usize) -> Result<(), StunWriteError>
     ensures { MatchResult result (λ _. (sha256_len_refusal len ≡ None)
         × IsTrue (is_lawful Sha256 len)) (λ error. sha256_len_refusal len ≡ Some error) }
 {
-    let (least, most) = (16, 32);
+    let (least, most) = (
+        registry::MIN_HMAC_SHA256_LENGTH,
+        registry::HMAC_SHA256_LENGTH,
+    );
     if len < least {
         return Err(StunWriteError::TooSmall {
             expected: least,
@@ -251,10 +259,15 @@ fn of_lawful(bytes: &[u8]) -> MessageIntegritySha256
 #[tactic(auto, unfolding(crate::specs::Sha256Values::sha256_read_refusal, crate::specs::Sha256Values::fours_refusal))]
 fn lawful_value_of<'raw>(raw: &'raw RawAttribute<'_>) -> Result<&'raw [u8], StunParseError>
     ensures { MatchResult result (λ value. (sha256_read_refusal raw.now ≡ None)
-        × (raw.now.kind ≡ 0x001C) × (value.now ≡ raw.now.value)
+        × (raw.now.kind ≡ sha256_kind) × (value.now ≡ raw.now.value)
         × IsTrue (is_lawful Sha256 (length value.now))) (IsNamed (sha256_read_refusal raw.now)) }
 {
-    let value = value_of(raw, MessageIntegritySha256::TYPE, 16, 32)?;
+    let value = value_of(
+        raw,
+        MessageIntegritySha256::TYPE,
+        registry::MIN_HMAC_SHA256_LENGTH,
+        registry::HMAC_SHA256_LENGTH,
+    )?;
     if value.len() % 4 != 0 {
         return Err(StunParseError::InvalidAttributeData);
     }

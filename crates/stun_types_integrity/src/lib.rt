@@ -5,6 +5,6 @@
 pub mod algorithm;
 pub mod credentials;
 pub mod hmac;
-pub mod integrity;
+pub mod integrity_sha1;
 pub mod integrity_sha256;
 pub mod key;

@@ -4,7 +4,7 @@ use Rattle.std.proofs.Common.{ap}
 use Rattle.std.proofs.lemmas.List.{get_or-replicate}
 use Rattle.stun_types_wire.specs.declared.attribute.AttributeType.{AttributeType}
 use Rattle.stun_types_message.specs.declared.check.Unknown.{Unknown}
-use Rattle.stun_types_message.specs.Marks.{IsListing}
+use Rattle.stun_types_message.specs.MarkedTypes.{IsListing}
 
 -- nothing is listed yet
 pub none_marked : (n : ℕ) (unknown : Unknown) → n ≡ 0x8000 → unknown.count ≡ 0 → unknown.types.items ≡ [] → IsListing [] (replicate n false) unknown

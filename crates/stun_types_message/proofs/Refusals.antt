@@ -6,7 +6,7 @@ use Rattle.stun_types_wire.specs.declared.attribute.AttributeType.{AttributeType
 use Rattle.stun_types_wire.specs.declared.error.StunParseError.{StunParseError}
 use Rattle.stun_types_wire.specs.declared.error.StunParseError.TheVariants.{NoMemory}
 use Rattle.stun_types_wire.specs.Attributes.{Attr}
-use Rattle.stun_types_message.specs.Reading.{read_of_refusal}
+use Rattle.stun_types_message.specs.TypedReading.{read_of_refusal}
 
 pub refused_as : {A : Type 0} (asked : AttributeType) (read_refusal : Attr → Option StunParseError) (there : Option Attr) (a : Attr) (result : Result A StunParseError) → there ≡ Some a → RefusesFor NoMemory (read_refusal a) result
     → RefusesFor NoMemory (read_of_refusal asked read_refusal there) result

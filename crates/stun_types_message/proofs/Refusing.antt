@@ -9,9 +9,10 @@ use Rattle.stun_types_wire.specs.Text.{header_text, attribute_text, body_text, m
 use Rattle.stun_types_write.specs.Adding.{add_refusal, attr_of, room_refusal, size_refusal}
 use Rattle.stun_types_write.specs.Drafts.{Draft, none_ended}
 use Rattle.stun_types_build.proofs.Adds.{length-attribute_text}
-use Rattle.stun_types_attribute.specs.Errors.{CodeAndOther, CodeAndReason, error_value, reason_for, reason_of}
-use Rattle.stun_types_info.specs.Types.{types_refusal, types_value}
+use Rattle.stun_types_attribute.specs.ErrorCodes.{CodeAndOther, CodeAndReason, error_value, reason_for, reason_of}
+use Rattle.stun_types_info.specs.UnknownTypes.{types_refusal, types_value}
 use Rattle.stun_types_message.specs.Objections.{error_attribute, unknown_attribute, unknown_refusal, unknown_response_attributes}
+use Rattle.stun_types_wire.specs.Registry.{error_code_kind}
 
 -- ---- sizes
 
@@ -57,11 +58,11 @@ unknown-length bytes kind number count kinds counted text =
 -- ---- the error code
 
 -- the reason that goes with a code
-pub default_error : (b : CodeAndOther) (made : CodeAndReason) (code : ℕ) → b.code ≡ code → b.reason ≡ None → made.code ≡ b.code → made.reason ≡ reason_of b → attr_of 0x0009 (error_value made) ≡ error_attribute code
+pub default_error : (b : CodeAndOther) (made : CodeAndReason) (code : ℕ) → b.code ≡ code → b.reason ≡ None → made.code ≡ b.code → made.reason ≡ reason_of b → attr_of error_code_kind (error_value made) ≡ error_attribute code
 default_error b made code own none is told =
     let number : made.code ≡ code = is ∙ own in
     let reason : made.reason ≡ reason_for code = rw (told, none, own) refl in
-    λ i. attr_of 0x0009 (error_value (record { code = number i; reason = reason i }))
+    λ i. attr_of error_code_kind (error_value (record { code = number i; reason = reason i }))
 
 -- ---- refusals
 

@@ -8,13 +8,14 @@ use Rattle.byteorder.specs.Endian.{big_bytes}
 use Rattle.stun_types_wire.specs.declared.error.StunParseError.{StunParseError}
 use Rattle.stun_types_wire.specs.declared.algorithm.IntegrityAlgorithm.{IntegrityAlgorithm}
 use Rattle.stun_types_wire.specs.Attributes.{Attr, attr_size, padded, attr_at, kind_at, length_at, size_at, is_whole, numbered}
-use Rattle.stun_types_wire.specs.Shape.{integrity_kind, sha256_kind, rank, may_follow, kinds_of, shown_after}
-use Rattle.stun_types_wire.specs.Grammar.{Header, IsMessage, shown, refusal, header_refusal, length_refusal, body_refusal, or_else}
-use Rattle.stun_types_grammar.proofs.Whole.{whole_long, size_whole}
+use Rattle.stun_types_wire.specs.Shape.{rank, may_follow, kinds_of, shown_after}
+use Rattle.stun_types_wire.specs.Registry.{integrity_kind, sha256_kind}
+use Rattle.stun_types_wire.specs.Grammar.{Header, IsMessage, shown, refusal, header_refusal, length_refusal, body_refusal}
+use Rattle.stun_types_grammar_laws.proofs.Whole.{whole_long, size_whole}
 use Rattle.std.specs.List.{AllByRecursion}
-use Rattle.stun_types_grammar.proofs.Left.{left_at, map_numbered, none_past, none_stops, left_step}
-use Rattle.stun_types_grammar.proofs.Scan.{shown_short}
-use Rattle.stun_types_grammar.proofs.Longest.{Follows, front_follows}
+use Rattle.stun_types_grammar_laws.proofs.Left.{left_at, map_numbered, none_past, none_stops, left_step}
+use Rattle.stun_types_grammar_laws.proofs.Scan.{shown_short}
+use Rattle.stun_types_grammar_laws.proofs.Longest.{Follows, front_follows}
 use Rattle.stun_types_wire.specs.Covered.{covered_text, with_length}
 use Rattle.stun_types_wire.specs.declared.algorithm.IntegrityAlgorithm.TheVariants.{Sha1, Sha256}
 use Rattle.stun_types_wire.specs.declared.error.StunParseError.TheVariants.{MissingAttribute, InvalidAttributeData}
@@ -26,13 +27,13 @@ use Rattle.stun_types_integrity.specs.Keys.{key_of}
 use Rattle.stun_types_integrity.proofs.Keys.{key_for}
 use Rattle.stun_types_integrity.specs.declared.credentials.MessageIntegrityCredentials.{MessageIntegrityCredentials}
 use Rattle.stun_types_message.specs.Parsed.{IsParsed}
-use Rattle.stun_types_message.specs.Validation.{HasDigest, IsLawful, IsRefused, IsRight, StandsAt, first_of_kind, last_algorithm}
+use Rattle.stun_types_message.specs.MessageValidation.{HasDigest, IsLawful, IsRefused, IsRight, StandsAt, first_of_kind, last_algorithm}
 
 -- ---- how long a message is
 
-or_else_none : (a b : Option StunParseError) → or_else a b ≡ None → (a ≡ None) × (b ≡ None)
-or_else_none (Some e) b h = absurd cc
-or_else_none None b h = (refl, h)
+option_or_none : (a b : Option StunParseError) → option_or a b ≡ None → (a ≡ None) × (b ≡ None)
+option_or_none (Some e) b h = absurd cc
+option_or_none None b h = (refl, h)
 
 length_none : (bytes : List ℕ) → length_refusal bytes ≡ None → length bytes ≡ 20 + length_at bytes
 unfolding length_refusal
@@ -51,8 +52,8 @@ length_none bytes h =
 pub told_length : (bytes : List ℕ) (told : Header) → IsParsed bytes told → length bytes ≡ 20 + told.len
 unfolding refusal
 told_length bytes told h =
-    let later = (or_else_none (header_refusal bytes) (or_else (length_refusal bytes) (body_refusal bytes)) h.message).1 in
-    let fits = (or_else_none (length_refusal bytes) (body_refusal bytes) later).0 in
+    let later = (option_or_none (header_refusal bytes) (option_or (length_refusal bytes) (body_refusal bytes)) h.message).1 in
+    let fits = (option_or_none (length_refusal bytes) (body_refusal bytes) later).0 in
     length_none bytes fits ∙ ap (λ n. 20 + n) (sym (ap (λ (t : Header). t.len) h.header))
 
 -- ---- where an attribute stands

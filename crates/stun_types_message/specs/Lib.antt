@@ -1,8 +1,8 @@
 pub mod Fronts
-pub mod Marks
+pub mod MarkedTypes
 pub mod Objections
 pub mod Parsed
-pub mod Reading
+pub mod TypedReading
 pub mod Shows
-pub mod Stages
-pub mod Validation
+pub mod ShapeStages
+pub mod MessageValidation

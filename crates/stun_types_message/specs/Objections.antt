@@ -11,14 +11,15 @@ use Rattle.stun_types_wire.specs.Types.{method_of, type_of}
 use Rattle.stun_types_write.specs.Adding.{has_kind, room_refusal, size_refusal}
 use Rattle.stun_types_write.specs.Drafts.{Draft}
 use Rattle.stun_types_build.specs.Calls.{IsComposed}
-use Rattle.stun_types_attribute.specs.Errors.{error_value, reason_for}
-use Rattle.stun_types_info.specs.Types.{types_refusal, types_value, with_type}
+use Rattle.stun_types_attribute.specs.ErrorCodes.{error_value, reason_for}
+use Rattle.stun_types_info.specs.UnknownTypes.{types_refusal, types_value, with_type}
+use Rattle.stun_types_wire.specs.Registry.{error_code_kind, unknown_attributes_kind, bad_request_code, first_optional_kind, unknown_attribute_code}
 
 -- ---- the types
 
 -- a type that has to be understood, and is not among those that are supported
 abbrev pub is_unknown : List ℕ → ℕ → Bool
-is_unknown supported kind = nat_lt kind 0x8000 && not (has_kind kind supported)
+is_unknown supported kind = nat_lt kind first_optional_kind && not (has_kind kind supported)
 
 -- each number once, where it stands first
 unfoldable pub each_once : List ℕ → List ℕ
@@ -64,19 +65,22 @@ error_type request = type_of Error (method_of (kind_at request))
 
 -- ERROR-CODE, with the reason that goes with the code
 abbrev pub error_attribute : ℕ → Attr
-error_attribute code = record { kind = 0x0009; value = error_value (record { code = code; reason = reason_for code }) }
+error_attribute code = record {
+  kind = error_code_kind;
+  value = error_value (record { code = code; reason = reason_for code });
+}
 
 -- UNKNOWN-ATTRIBUTES of these types
 abbrev pub unknown_attribute : List ℕ → Attr
-unknown_attribute kinds = record { kind = 0x000A; value = types_value kinds }
+unknown_attribute kinds = record { kind = unknown_attributes_kind; value = types_value kinds }
 
 -- ERROR-CODE 400 (Bad Request)
 abbrev pub bad_request_attributes : List Attr
-bad_request_attributes = error_attribute 400 ∷ []
+bad_request_attributes = error_attribute bad_request_code ∷ []
 
 -- ERROR-CODE 420 (Unknown Attribute), and the types
 abbrev pub unknown_response_attributes : List ℕ → List Attr
-unknown_response_attributes kinds = error_attribute 420 ∷ unknown_attribute kinds ∷ []
+unknown_response_attributes kinds = error_attribute unknown_attribute_code ∷ unknown_attribute kinds ∷ []
 
 -- what the response shows to a request that shows these attributes: unknown types come before
 -- missing ones, and where there are neither, nothing is wrong

@@ -6,10 +6,10 @@ ghost use Rattle.stun_types_wire.specs.Types.{class_of, method_of, type_of};
 ghost use Rattle.stun_types_wire.specs.Grammar.{number_at};
 ghost use Rattle.stun_types_write.specs.Outcomes.{CanBegin, IsBegunAs};
 ghost use Rattle.stun_types_wire.specs.Generated.{drawn_number, number_words};
-ghost use Rattle.stun_types_base.specs.Words.{stream_after};
+ghost use Rattle.stun_types_base.specs.GeneratorWords.{stream_after};
 ghost use Rattle.stun_types_wire.specs.declared.class.MessageClass.TheVariants.{Request, Indication, Success, Error};
 
-use crate::message::Message;
+use crate::parsed::Message;
 use rand_core::Rng;
 use stun_types_base::memory::NoMemory;
 use stun_types_wire::class::{MessageClass, MessageType, Method};
@@ -21,6 +21,8 @@ impl<'a> Message<'a> {
     /// Begins a message of this type and number in an empty writer with room for a header, and gives
     /// the writer back. Where memory is refused, `NoMemory`, and the writer is dropped; a writer with a
     /// greatest size takes none.
+    // Part of each function that calls it, so that the writer is moved no oftener than needed.
+    #[inline(always)]
     pub fn builder<W: MessageWrite + Drop>(
         mtype: MessageType,
         transaction_id: TransactionId,
@@ -37,8 +39,9 @@ impl<'a> Message<'a> {
         Ok(writer)
     }
 
-    /// Begins a request of a method of twelve bits, with a number of three words that are drawn from a generator, the
-    /// first of them highest. They are drawn in any case. Otherwise the same as `builder`.
+    /// Begins a request of a method of twelve bits, with a number of three words that are drawn from a
+    /// generator, the first of them highest. They are drawn in any case. Otherwise the same as
+    /// `builder`.
     pub fn builder_request<W: MessageWrite + Drop, R: Rng>(
         method: Method,
         rng: &mut R,

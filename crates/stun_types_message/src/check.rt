@@ -11,14 +11,16 @@ ghost use Rattle.stun_types_wire.specs.Grammar.{number_at, shown};
 ghost use Rattle.stun_types_wire.specs.declared.class.MessageClass.TheVariants.{Request};
 ghost use Rattle.stun_types_write.specs.Outcomes.{CanBegin};
 ghost use Rattle.stun_types_message.specs.Objections.{IsObjected, IsUnknownList, error_type, is_unknown, objection, objection_refusal, unknown_kinds, with_unknown};
-ghost use Rattle.stun_types_message.specs.Marks.{IsListing};
+ghost use Rattle.stun_types_message.specs.MarkedTypes.{IsListing};
+ghost use Rattle.stun_types_wire.specs.Registry.{first_optional_kind};
 
 use crate::front::Front;
-use crate::message::Message;
+use crate::parsed::Message;
 use crate::refuse::room_for_types;
 use std::alloc::Global;
 use stun_types_wire::attribute::AttributeType;
 use stun_types_wire::error::StunWriteError;
+use stun_types_wire::registry;
 use stun_types_write::among::has_type;
 use stun_types_write::writer::MessageWrite;
 
@@ -72,8 +74,8 @@ pub fn unknown_types_are_listed()
         → IsUnknownList (kinds_of all) supported (unknown_kinds all supported) }
 {}
 
-/// How many types have to be understood: those below 0x8000.
-const REQUIRED_TYPES: usize = 0x8000;
+/// How many types have to be understood: those below the first that need not.
+const REQUIRED_TYPES: usize = registry::FIRST_OPTIONAL_TYPE as usize;
 
 /// The unknown types of a message, each once. Where memory is refused they are counted on.
 #[derive(Drop)]
@@ -84,7 +86,7 @@ struct Unknown {
 }
 
 /// Whether a message shows a type that has to be understood and is not supported.
-#[tactic(auto, using(stun_types_grammar::proofs::Left::map_numbered))]
+#[tactic(auto, using(stun_types_grammar_laws::proofs::Left::map_numbered))]
 fn shows_unknown(msg: &Message, supported: &[AttributeType]) -> bool
     ensures { result ≡ list_any (λ a. is_unknown (map (λ t. t.0) supported.now) a.kind)
         (shown msg.now) }
@@ -129,9 +131,9 @@ fn list_unknown(
     atype: AttributeType,
     supported: &[AttributeType],
 )
-    requires all { length listed.old ≡ 0x8000 }
+    requires all { length listed.old ≡ first_optional_kind }
     requires few { unknown.old.count < 2 ^ 63 }
-    ensures all { length listed.new ≡ 0x8000 }
+    ensures all { length listed.new ≡ first_optional_kind }
     ensures listed { (seen : List ℕ) → IsListing seen listed.old unknown.old
         → IsListing (with_unknown (map (λ t. t.0) supported.now) seen atype.0)
         listed.new unknown.new }

@@ -5,14 +5,13 @@ ghost use Rattle.stun_types_wire.specs.Attributes.{attr_at, length_at, size_at};
 ghost use Rattle.stun_types_wire.specs.Covered.{covered_text};
 ghost use Rattle.stun_types_wire.specs.Fingerprints.{fingerprint_value, is_wrong_fingerprint};
 ghost use Rattle.stun_types_message.specs.Fronts.{TellsFront};
+ghost use Rattle.stun_types_wire.specs.Registry.{greatest_size, header_size};
 
 use crate::front::Front;
-use stun_types_fingerprint::fingerprint::Fingerprint;
+use stun_types_fingerprint::attribute::Fingerprint;
 use stun_types_wire::header::MessageHeader;
+use stun_types_wire::registry::FINGERPRINT_SIZE;
 use stun_types_write::attribute::AttributeStaticType;
-
-/// How many bytes a FINGERPRINT takes, its header included.
-const SIZE: usize = 8;
 
 /// Whether the attribute at the front of the rest of a message is a FINGERPRINT, and not that of the
 /// message before it.
@@ -20,8 +19,8 @@ const SIZE: usize = 8;
 pub(crate) fn is_wrong(bytes: &[u8], rest: &[u8], front: Front) -> bool
     requires front { TellsFront rest.now front }
     requires whole { size_at rest.now ≤ length rest.now }
-    requires within { 20 + length rest.now ≤ length bytes.now }
-    requires short { length bytes.now ≤ 65_555 }
+    requires within { header_size + length rest.now ≤ length bytes.now }
+    requires short { length bytes.now ≤ greatest_size }
     requires stands { drop (length bytes.now - length rest.now) bytes.now ≡ rest.now }
     ensures { result ≡ is_wrong_fingerprint bytes.now
         (length bytes.now - length rest.now, attr_at rest.now) }
@@ -35,20 +34,20 @@ pub(crate) fn is_wrong(bytes: &[u8], rest: &[u8], front: Front) -> bool
 fn has_value(bytes: &[u8], rest: &[u8], len: usize) -> bool
     requires len { len ≡ length_at rest.now }
     requires whole { size_at rest.now ≤ length rest.now }
-    requires within { 20 + length rest.now ≤ length bytes.now }
-    requires short { length bytes.now ≤ 65_555 }
+    requires within { header_size + length rest.now ≤ length bytes.now }
+    requires short { length bytes.now ≤ greatest_size }
     requires stands { drop (length bytes.now - length rest.now) bytes.now ≡ rest.now }
     ensures { result ≡ bytes_eq (attr_at rest.now).value
         (fingerprint_value (covered_text bytes.now (length bytes.now - length rest.now))) }
 {
-    if len != SIZE - 4 {
+    if len != FINGERPRINT_SIZE - 4 {
         return false;
     }
     let offset = bytes.len() - rest.len();
     let (front, _) = bytes.split_at(offset);
-    let told = (offset + SIZE - MessageHeader::LENGTH) as u16;
+    let told = (offset + FINGERPRINT_SIZE - MessageHeader::LENGTH) as u16;
     let own = Fingerprint::of_message(front, told);
-    let (attribute, _) = rest.split_at(SIZE);
+    let (attribute, _) = rest.split_at(FINGERPRINT_SIZE);
     let (_, value) = attribute.split_at(4);
     own.has_value(value)
 }

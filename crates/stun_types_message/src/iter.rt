@@ -3,6 +3,7 @@
 ghost use Rattle.std.specs.Prelude.{◌≡◌};
 ghost use Rattle.stun_types_wire.specs.Attributes.{numbered};
 ghost use Rattle.stun_types_wire.specs.Grammar.{shown};
+ghost use Rattle.stun_types_wire.specs.Registry.{header_size};
 
 use crate::front::Front;
 use crate::stage::Stage;
@@ -26,7 +27,7 @@ impl<'a> Model for MessageAttributesIter<'a> {
 
     ghost Value = { List (ℕ × Attr) };
 
-    ghost use Rattle.stun_types_message.specs.Stages.{stage_rank};
+    ghost use Rattle.stun_types_message.specs.ShapeStages.{stage_rank};
 
     ghost view = { λ it. numbered it.offset (shown_after (stage_rank it.stage)
         (drop it.offset it.bytes.now)) };
@@ -36,7 +37,7 @@ impl<'a> MessageAttributesIter<'a> {
     /// The attributes that the bytes of a message show behind its header.
     #[tactic(auto, unfolding(stun_types_wire::specs::Grammar::shown))]
     pub fn new(bytes: &'a [u8]) -> MessageAttributesIter<'a>
-        ensures { result ≡ numbered 20 (shown bytes.now) }
+        ensures { result ≡ numbered header_size (shown bytes.now) }
     {
         MessageAttributesIter {
             bytes,

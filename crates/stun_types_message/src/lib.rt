@@ -6,7 +6,7 @@ pub mod check;
 mod fingerprint;
 mod front;
 pub mod iter;
-pub mod message;
+pub mod parsed;
 pub mod refuse;
 mod stage;
 pub mod typed;

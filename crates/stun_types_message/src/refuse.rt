@@ -9,10 +9,10 @@ ghost use Rattle.stun_types_base.specs.Refusals.{RefusesFor};
 ghost use Rattle.stun_types_write.specs.Adding.{size_refusal};
 ghost use Rattle.stun_types_write.specs.Outcomes.{CanBegin};
 ghost use Rattle.stun_types_build.specs.Calls.{IsComposed};
-ghost use Rattle.stun_types_attribute.specs.Errors.{error_refusal, reason_for};
+ghost use Rattle.stun_types_attribute.specs.ErrorCodes.{error_refusal, reason_for};
 ghost use Rattle.stun_types_message.specs.Objections.{bad_request_attributes, bad_request_refusal, error_attribute, error_type, unknown_refusal, unknown_response_attributes};
 
-use crate::message::Message;
+use crate::parsed::Message;
 use std::alloc::Global;
 use stun_types_attribute::error_code::ErrorCode;
 use stun_types_build::ext::add_as;
@@ -36,7 +36,7 @@ impl<'a> Message<'a> {
     /// empty writer with room for a header, and gives the writer back. Refused with `TooSmall` where
     /// the writer has not the room for its 40 bytes; where memory is refused, with `NoMemory`. A
     /// refusal drops the writer.
-    #[tactic(auto, unfolding(stun_types_attribute::specs::Errors::error_refusal))]
+    #[tactic(auto, unfolding(stun_types_attribute::specs::ErrorCodes::error_refusal))]
     pub fn bad_request<W: MessageWrite + Drop>(
         alloc: Global,
         request: &Message,
@@ -61,7 +61,7 @@ impl<'a> Message<'a> {
     /// and ERROR-CODE, which take 48 bytes, `TooLarge` where the length field would pass 65,535,
     /// `TooSmall` where the writer has not the room for UNKNOWN-ATTRIBUTES; where memory is refused,
     /// `NoMemory`. A refusal drops the writer.
-    #[tactic(auto, using(crate::proofs::Refusing::too_many, crate::proofs::Refusing::no_room), unfolding(stun_types_attribute::specs::Errors::error_refusal))]
+    #[tactic(auto, using(crate::proofs::Refusing::too_many, crate::proofs::Refusing::no_room), unfolding(stun_types_attribute::specs::ErrorCodes::error_refusal))]
     pub fn unknown_attributes<W: MessageWrite + Drop>(
         alloc: Global,
         request: &Message,
@@ -112,7 +112,7 @@ pub(crate) fn room_for_types<W: MessageWrite>(
 
 /// Writes the error response to a request that shows ERROR-CODE of a code, with the reason that goes
 /// with it, and nothing else.
-#[tactic(auto, using(crate::proofs::Refusing::room_first), unfolding(stun_types_write::specs::Adding::add_refusal, stun_types_attribute::specs::Errors::error_refusal))]
+#[tactic(auto, using(crate::proofs::Refusing::room_first), unfolding(stun_types_write::specs::Adding::add_refusal, stun_types_attribute::specs::ErrorCodes::error_refusal))]
 fn write_error<W: MessageWrite + Drop>(
     alloc: Global,
     code: u16,

@@ -2,9 +2,10 @@
 
 ghost use Rattle.std.specs.Prelude.{◌≡◌};
 ghost use Rattle.stun_types_wire.specs.Shape.{rank};
-ghost use Rattle.stun_types_message.specs.Stages.{stage_rank, LeadsTo};
+ghost use Rattle.stun_types_message.specs.ShapeStages.{stage_rank, LeadsTo};
 
 use stun_types_wire::attribute::AttributeType;
+use stun_types_wire::registry::{FINGERPRINT, MESSAGE_INTEGRITY, MESSAGE_INTEGRITY_SHA256};
 
 /// What the last attribute was, of those that are shown so far. A message shows ordinary
 /// attributes, and then each of the other three at most once, in this order.
@@ -25,10 +26,10 @@ impl Stage {
     fn of(atype: AttributeType) -> Stage
         ensures { stage_rank result ≡ rank atype.0 }
     {
-        match atype.0 {
-            0x0008 => Stage::Integrity,
-            0x001C => Stage::Sha256,
-            0x8028 => Stage::Fingerprint,
+        match atype {
+            MESSAGE_INTEGRITY => Stage::Integrity,
+            MESSAGE_INTEGRITY_SHA256 => Stage::Sha256,
+            FINGERPRINT => Stage::Fingerprint,
             _ => Stage::Ordinary,
         }
     }

@@ -3,9 +3,9 @@
 ghost use Rattle.std.specs.Prelude.{◌≡◌, ◌==◌, IfErr, IfOk, IsTrue, find};
 ghost use Rattle.stun_types_base.specs.Refusals.{RefusesFor};
 ghost use Rattle.stun_types_wire.specs.Grammar.{shown};
-ghost use Rattle.stun_types_message.specs.Reading.{IsReadOf, nth_of_kind, read_of_refusal};
+ghost use Rattle.stun_types_message.specs.TypedReading.{IsReadOf, nth_of_kind, read_of_refusal};
 
-use crate::message::Message;
+use crate::parsed::Message;
 use std::alloc::Global;
 use stun_types_wire::attribute::{AttributeType, RawAttribute};
 use stun_types_wire::error::StunParseError;

@@ -5,22 +5,21 @@ ghost use Rattle.stun_types_wire.specs.declared.algorithm.IntegrityAlgorithm.{In
 ghost use Rattle.stun_types_wire.specs.Grammar.{IsMessage, shown};
 ghost use Rattle.stun_types_integrity.specs.Integrity.{IsSigned, Validates, attribute_kind};
 ghost use Rattle.stun_types_integrity.specs.Keys.{key_of};
-ghost use Rattle.stun_types_message.specs.Validation.{HasDigest, IsNotValid, IsRefused, IsRight, StandsAt, first_of_kind, last_algorithm};
+ghost use Rattle.stun_types_message.specs.MessageValidation.{HasDigest, IsNotValid, IsRefused, IsRight, StandsAt, first_of_kind, last_algorithm};
 
 use crate::iter::MessageAttributesIter;
-use crate::message::Message;
+use crate::parsed::Message;
 use stun_types_integrity::algorithm::{algorithm_of, attribute_type, is_lawful_length};
 use stun_types_integrity::credentials::MessageIntegrityCredentials;
 use stun_types_integrity::key::IntegrityKey;
 use stun_types_wire::algorithm::IntegrityAlgorithm;
-use stun_types_wire::attribute::{
-    AttributeType, MESSAGE_INTEGRITY, RawAttribute, pad_attribute_len,
-};
+use stun_types_wire::attribute::{AttributeType, RawAttribute, pad_attribute_len};
 use stun_types_wire::error::{StunParseError, ValidateError};
+use stun_types_wire::registry::MESSAGE_INTEGRITY;
 
 impl<'a> Message<'a> {
     /// The algorithm of the last integrity attribute that the message shows, where it shows one.
-    #[tactic(auto, using(stun_types_grammar::proofs::Left::map_numbered, crate::proofs::Validating::last_step), unfolding(crate::specs::Validation::last_algorithm))]
+    #[tactic(auto, using(stun_types_grammar_laws::proofs::Left::map_numbered, crate::proofs::Validating::last_step), unfolding(crate::specs::MessageValidation::last_algorithm))]
     pub fn last_integrity(&self) -> Option<IntegrityAlgorithm>
         ensures { result ≡ last_algorithm (shown self.now) }
     {
@@ -71,11 +70,13 @@ impl<'a> Message<'a> {
         ensures refused { IfErr result (λ error.
             IsRefused self.now key.now.bytes key.now.algorithm error) }
     {
-        self.judge_by(key)
+        // The paths are taken below. What their answer means for the signed text is proved here, once
+        // for all of them.
+        self.integrity_by(key)
     }
 
     /// Whether the attribute of a key's algorithm is of a lawful length and has the right digest.
-    fn judge_by(&self, key: &IntegrityKey<'_>) -> Result<IntegrityAlgorithm, ValidateError>
+    fn integrity_by(&self, key: &IntegrityKey<'_>) -> Result<IntegrityAlgorithm, ValidateError>
         ensures message { IsMessage self.now }
         ensures algorithm { IfOk result (λ algorithm. algorithm ≡ key.now.algorithm) }
         ensures passed { OnOk result (IsSomeAnd (first_of_kind

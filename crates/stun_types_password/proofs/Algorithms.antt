@@ -4,8 +4,9 @@ use Rattle.stun_types_write.specs.Adding.{attr_of}
 use Rattle.stun_types_write.proofs.Values.{value_is_accepted}
 use Rattle.stun_types_password.specs.declared.algorithm.PasswordAlgorithmValue.{PasswordAlgorithmValue}
 use Rattle.stun_types_password.specs.declared.algorithm.PasswordAlgorithmValue.TheVariants.{MD5, SHA256}
-use Rattle.stun_types_password.specs.Algorithms.{number_of, is_known, number_refusal}
+use Rattle.stun_types_password.specs.PasswordAlgorithmNumbers.{number_of, is_known, number_refusal}
 use Rattle.stun_types_password.specs.Entries.{entry, algorithm_value, number_told, algorithm_read_refusal}
+use Rattle.stun_types_wire.specs.Registry.{password_algorithm_kind}
 
 -- a value tells the number that was written
 pub told_again : (a : PasswordAlgorithmValue) → entry (number_told (algorithm_value a)) ≡ algorithm_value a
@@ -30,7 +31,7 @@ pub same_algorithm : (a b : PasswordAlgorithmValue) → algorithm_value a ≡ al
 same_algorithm a b h = same_number a b (sym (number_again a) ∙ (ap number_told h ∙ number_again b))
 
 -- what is written is not refused
-pub algorithm_is_accepted : (a : PasswordAlgorithmValue) → algorithm_read_refusal (attr_of 0x001D (algorithm_value a)) ≡ None
+pub algorithm_is_accepted : (a : PasswordAlgorithmValue) → algorithm_read_refusal (attr_of password_algorithm_kind (algorithm_value a)) ≡ None
 unfolding algorithm_read_refusal number_refusal is_known number_told
-algorithm_is_accepted MD5 = rw (value_is_accepted 0x001D 4 4 (algorithm_value MD5) (omega arith) (omega arith)) refl
-algorithm_is_accepted SHA256 = rw (value_is_accepted 0x001D 4 4 (algorithm_value SHA256) (omega arith) (omega arith)) refl
+algorithm_is_accepted MD5 = rw (value_is_accepted password_algorithm_kind 4 4 (algorithm_value MD5) (omega arith) (omega arith)) refl
+algorithm_is_accepted SHA256 = rw (value_is_accepted password_algorithm_kind 4 4 (algorithm_value SHA256) (omega arith) (omega arith)) refl

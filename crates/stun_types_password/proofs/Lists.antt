@@ -9,8 +9,9 @@ use Rattle.stun_types_write.specs.Adding.{attr_of}
 use Rattle.stun_types_write.proofs.Values.{value_is_accepted}
 use Rattle.stun_types_password.specs.declared.algorithm.PasswordAlgorithmValue.{PasswordAlgorithmValue}
 use Rattle.stun_types_password.specs.declared.algorithm.PasswordAlgorithmValue.TheVariants.{MD5, SHA256}
-use Rattle.stun_types_password.specs.Algorithms.{number_of, is_known, number_refusal}
-use Rattle.stun_types_password.specs.Entries.{entries, algorithm_value, algorithms_value, number_told, numbers_told, none_told_refusal, entries_refusal, algorithms_read_refusal, most_algorithms}
+use Rattle.stun_types_password.specs.PasswordAlgorithmNumbers.{number_of, is_known, number_refusal}
+use Rattle.stun_types_password.specs.Entries.{entries, algorithm_value, algorithms_value, number_told, numbers_told, none_told_refusal, entries_refusal, algorithms_read_refusal}
+use Rattle.stun_types_wire.specs.Registry.{most_algorithms, password_algorithms_kind}
 use Rattle.stun_types_password.proofs.Algorithms.{same_number}
 
 -- four bytes an entry
@@ -110,7 +111,7 @@ more_written x xs dest =
     ap (λ (l : List ℕ). algorithm_value x ++ (algorithms_value xs ++ l)) (rest ∙ ap (λ (n : ℕ). drop n dest) size)
 
 -- what is written is not refused, but for a list of none
-pub algorithms_are_accepted : (xs : List PasswordAlgorithmValue) → length xs ≤ most_algorithms → algorithms_read_refusal (attr_of 0x8002 (algorithms_value xs)) ≡ none_told_refusal xs
+pub algorithms_are_accepted : (xs : List PasswordAlgorithmValue) → length xs ≤ most_algorithms → algorithms_read_refusal (attr_of password_algorithms_kind (algorithms_value xs)) ≡ none_told_refusal xs
 unfolding algorithms_read_refusal entries_refusal type_and_len_refusal entries
 algorithms_are_accepted [] short = refl
 algorithms_are_accepted (x ∷ xs) short =
@@ -118,5 +119,5 @@ algorithms_are_accepted (x ∷ xs) short =
     let whole : length (algorithms_value (x ∷ xs)) % 4 ≡ 0 = omega (arith, size) in
     let known = numbers_are_known (x ∷ xs) in
     let told = numbers_again (x ∷ xs) in
-    rw (value_is_accepted 0x8002 4 32 (algorithms_value (x ∷ xs)) (omega (arith, size)) (omega (arith, size, short)))
+    rw (value_is_accepted password_algorithms_kind 4 32 (algorithms_value (x ∷ xs)) (omega (arith, size)) (omega (arith, size, short)))
     (rw told (rw known (rw whole refl)))

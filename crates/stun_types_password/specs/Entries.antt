@@ -1,5 +1,6 @@
 -- Values that hold one algorithm or several (RFC 8489, sections 14.11 and 14.12).
 use Rattle.std.specs.Prelude.{ℕ, ◌+◌, ◌*◌, ◌%◌, ◌==◌, ◌&&◌, min, nat_lt, List, [], ◌∷◌, ◌++◌, length, map, Option, Some, None, if◌then◌else◌}
+use Rattle.std.specs.Option.{option_or}
 use Rattle.std.specs.List.{list_all}
 use Rattle.byteorder.specs.Endian.{big_bytes, big_number}
 use Rattle.stun_types_wire.specs.declared.error.StunParseError.{StunParseError}
@@ -7,11 +8,11 @@ use Rattle.stun_types_wire.specs.declared.error.StunParseError.TheVariants.{Inva
 use Rattle.stun_types_wire.specs.declared.error.StunWriteError.{StunWriteError}
 use Rattle.stun_types_wire.specs.declared.error.StunWriteError.TheVariants.{TooLarge}
 use Rattle.stun_types_wire.specs.Attributes.{Attr}
-use Rattle.stun_types_wire.specs.Grammar.{or_else}
 use Rattle.stun_types_wire.specs.RawBytes.{greatest_len}
-use Rattle.stun_types_write.specs.Reading.{value_refusal}
+use Rattle.stun_types_write.specs.ValueReading.{value_refusal}
 use Rattle.stun_types_password.specs.declared.algorithm.PasswordAlgorithmValue.{PasswordAlgorithmValue}
-use Rattle.stun_types_password.specs.Algorithms.{number_of, is_known, number_refusal}
+use Rattle.stun_types_password.specs.PasswordAlgorithmNumbers.{number_of, is_known, number_refusal}
+use Rattle.stun_types_wire.specs.Registry.{password_algorithm_kind, password_algorithms_kind, most_algorithms}
 
 -- an entry: the number of an algorithm, and the length of its parameters, of which there are none
 abbrev pub entry : ℕ → List ℕ
@@ -27,7 +28,8 @@ number_told value = big_number 2 value
 
 -- why a type and a value are no PASSWORD-ALGORITHM
 unfoldable pub algorithm_read_refusal : Attr → Option StunParseError
-algorithm_read_refusal a = or_else (value_refusal 0x001D 4 4 a) (number_refusal (number_told a.value))
+algorithm_read_refusal a = option_or (value_refusal password_algorithm_kind 4 4 a)
+    (number_refusal (number_told a.value))
 
 -- entries one behind another
 unfoldable pub entries : List ℕ → List ℕ
@@ -46,10 +48,6 @@ numbers_told (a ∷ b ∷ []) = []
 numbers_told (a ∷ b ∷ c ∷ []) = []
 numbers_told (a ∷ b ∷ c ∷ d ∷ rest) = (a * 256 + b) ∷ numbers_told rest
 
--- how many algorithms are told at most
-abbrev pub most_algorithms : ℕ
-most_algorithms = 8
-
 -- a value that is not made of entries, each of a known algorithm
 unfoldable pub entries_refusal : List ℕ → Option StunParseError
 entries_refusal value = if length value % 4 == 0 && list_all is_known (numbers_told value) then None
@@ -57,7 +55,8 @@ entries_refusal value = if length value % 4 == 0 && list_all is_known (numbers_t
 
 -- why a type and a value are no PASSWORD-ALGORITHMS
 unfoldable pub algorithms_read_refusal : Attr → Option StunParseError
-algorithms_read_refusal a = or_else (value_refusal 0x8002 4 (4 * most_algorithms) a) (entries_refusal a.value)
+algorithms_read_refusal a = option_or (value_refusal password_algorithms_kind 4 (4 * most_algorithms) a)
+    (entries_refusal a.value)
 
 -- why the value of a PASSWORD-ALGORITHMS is not read: that of no algorithm is too short
 abbrev pub none_told_refusal : List PasswordAlgorithmValue → Option StunParseError

@@ -1,3 +1,3 @@
-pub mod Algorithms
+pub mod PasswordAlgorithmNumbers
 pub mod Entries
 pub mod Userhashes

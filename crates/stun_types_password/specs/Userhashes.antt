@@ -5,7 +5,3 @@ use Rattle.sha2.specs.Sha256.{sha256}
 -- the SHA-256 of username ":" realm
 abbrev pub userhash_of : List ℕ → List ℕ → List ℕ
 userhash_of username realm = sha256 (username ++ codes ":" ++ realm)
-
--- how many bytes a hash has
-abbrev pub userhash_length : ℕ
-userhash_length = 32

@@ -1,8 +1,8 @@
 //! Password algorithms (RFC 8489, section 18.5).
 
 ghost use Rattle.std.specs.Prelude.{◌≡◌, ◌≤◌, length, MatchResult, None, Some};
-ghost use Rattle.stun_types_write.specs.Reading.{IsNamed};
-ghost use Rattle.stun_types_password.specs.Algorithms.{integrity_of, number_of, number_refusal};
+ghost use Rattle.stun_types_write.specs.ValueReading.{IsNamed};
+ghost use Rattle.stun_types_password.specs.PasswordAlgorithmNumbers.{integrity_of, number_of, number_refusal};
 ghost use Rattle.stun_types_password.specs.Entries.{algorithm_value, number_told};
 
 use byteorder::{BigEndian, ByteOrder};
@@ -42,7 +42,7 @@ impl PasswordAlgorithmValue {
     }
 
     /// The algorithm of a number. Refused with `InvalidAttributeData` where it is that of none.
-    #[tactic(auto, unfolding(crate::specs::Algorithms::is_known, crate::specs::Algorithms::number_refusal))]
+    #[tactic(auto, unfolding(crate::specs::PasswordAlgorithmNumbers::is_known, crate::specs::PasswordAlgorithmNumbers::number_refusal))]
     fn of_number(number: u16) -> Result<PasswordAlgorithmValue, StunParseError>
         ensures { MatchResult result (λ algorithm. (number_of algorithm ≡ number)
             × (number_refusal number ≡ None)) (IsNamed (number_refusal number)) }
@@ -78,7 +78,7 @@ impl PasswordAlgorithmValue {
 /// Prints `MD5` or `SHA256`.
 impl fmt::Display for PasswordAlgorithmValue {
     ghost use Rattle.std.specs.Prelude.{Some};
-    ghost use Rattle.stun_types_password.specs.Algorithms.{name_of_algorithm};
+    ghost use Rattle.stun_types_password.specs.PasswordAlgorithmNumbers.{name_of_algorithm};
 
     ghost output = { λ algorithm. Some (name_of_algorithm algorithm) };
 

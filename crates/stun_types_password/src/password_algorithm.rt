@@ -1,9 +1,10 @@
 //! PASSWORD-ALGORITHM (RFC 8489, section 14.12).
 
 ghost use Rattle.std.specs.Prelude.{◌≡◌, None, MatchResult};
-ghost use Rattle.stun_types_write.specs.Reading.{IsNamed};
-ghost use Rattle.stun_types_password.specs.Algorithms.{number_of};
+ghost use Rattle.stun_types_write.specs.ValueReading.{IsNamed};
+ghost use Rattle.stun_types_password.specs.PasswordAlgorithmNumbers.{number_of};
 ghost use Rattle.stun_types_password.specs.Entries.{algorithm_read_refusal, number_told};
+ghost use Rattle.stun_types_wire.specs.Registry.{password_algorithm_kind};
 
 use crate::algorithm::PasswordAlgorithmValue;
 use std::alloc::Global;
@@ -12,6 +13,7 @@ use std::marker::Model;
 use stun_types_base::memory::NoMemory;
 use stun_types_wire::attribute::{AttributeType, RawAttribute};
 use stun_types_wire::error::StunParseError;
+use stun_types_wire::registry;
 use stun_types_write::attribute::{
     Attribute, AttributeFromRaw, AttributeStaticType, AttributeWrite,
 };
@@ -50,15 +52,15 @@ impl PasswordAlgorithm {
 }
 
 impl AttributeStaticType for PasswordAlgorithm {
-    ghost TYPE = { record { 0 = 0x001D } };
+    ghost TYPE = { record { 0 = password_algorithm_kind } };
 
-    const TYPE: AttributeType = AttributeType(0x001D);
+    const TYPE: AttributeType = registry::PASSWORD_ALGORITHM;
 }
 
 impl Attribute for PasswordAlgorithm {
     ghost use Rattle.stun_types_password.specs.Entries.{algorithm_value};
 
-    ghost kind = { λ _. 0x001D };
+    ghost kind = { λ _. password_algorithm_kind };
 
     ghost value = { algorithm_value };
 
@@ -88,8 +90,8 @@ impl AttributeWrite for PasswordAlgorithm {
 /// the number is that of no algorithm.
 impl<'a, 'raw> TryFrom<&'raw RawAttribute<'a>> for PasswordAlgorithm {
     ghost use Rattle.std.specs.Prelude.{◌≡◌, MatchResult, Some, None};
-    ghost use Rattle.stun_types_write.specs.Reading.{IsNamed};
-    ghost use Rattle.stun_types_password.specs.Algorithms.{number_of};
+    ghost use Rattle.stun_types_write.specs.ValueReading.{IsNamed};
+    ghost use Rattle.stun_types_password.specs.PasswordAlgorithmNumbers.{number_of};
     ghost use Rattle.stun_types_password.specs.Entries.{algorithm_read_refusal, number_told};
 
     type Error = StunParseError;
@@ -136,7 +138,8 @@ impl<'a> AttributeFromRaw<'a> for PasswordAlgorithm {
 #[tactic(auto, unfolding(crate::specs::Entries::algorithm_read_refusal))]
 fn algorithm_of(raw: &RawAttribute<'_>) -> Result<PasswordAlgorithmValue, StunParseError>
     ensures { MatchResult result (λ algorithm. (algorithm_read_refusal raw.now ≡ None)
-        × (raw.now.kind ≡ 0x001D) × (number_of algorithm ≡ number_told raw.now.value))
+        × (raw.now.kind ≡ password_algorithm_kind) × (number_of algorithm
+        ≡ number_told raw.now.value))
         (IsNamed (algorithm_read_refusal raw.now)) }
 {
     let value = value_of(raw, PasswordAlgorithm::TYPE, 4, 4)?;

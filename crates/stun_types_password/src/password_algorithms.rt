@@ -2,10 +2,11 @@
 
 ghost use Rattle.std.specs.Prelude.{◌≡◌, ◌+◌, ◌*◌, ◌%◌, ◌≤◌, ◌++◌, IfOk, IfErr, MatchResult, None, Some, drop, length, map, take, true};
 ghost use Rattle.stun_types_base.specs.Refusals.{RefusesFor};
-ghost use Rattle.stun_types_write.specs.Reading.{IsNamed};
+ghost use Rattle.stun_types_write.specs.ValueReading.{IsNamed};
 ghost use Rattle.std.specs.List.{list_all};
-ghost use Rattle.stun_types_password.specs.Algorithms.{is_known, number_of};
-ghost use Rattle.stun_types_password.specs.Entries.{algorithms_read_refusal, algorithms_value, count_refusal, most_algorithms, numbers_told};
+ghost use Rattle.stun_types_password.specs.PasswordAlgorithmNumbers.{is_known, number_of};
+ghost use Rattle.stun_types_password.specs.Entries.{algorithms_read_refusal, algorithms_value, count_refusal, numbers_told};
+ghost use Rattle.stun_types_wire.specs.Registry.{most_algorithms, password_algorithms_kind};
 
 use crate::algorithm::PasswordAlgorithmValue;
 use std::alloc::Global;
@@ -13,6 +14,7 @@ use std::marker::Model;
 use stun_types_base::memory::NoMemory;
 use stun_types_wire::attribute::{AttributeType, RawAttribute};
 use stun_types_wire::error::{StunParseError, StunWriteError};
+use stun_types_wire::registry;
 use stun_types_write::attribute::{
     Attribute, AttributeFromRaw, AttributeStaticType, AttributeWrite,
 };
@@ -30,7 +32,7 @@ pub struct PasswordAlgorithms {
 impl Model for PasswordAlgorithms {
     ghost use Rattle.std.specs.Prelude.{◌≤◌, List, length};
     ghost use Rattle.stun_types_password.specs.declared.algorithm.PasswordAlgorithmValue.{PasswordAlgorithmValue};
-    ghost use Rattle.stun_types_password.specs.Entries.{most_algorithms};
+    ghost use Rattle.stun_types_wire.specs.Registry.{most_algorithms};
 
     ghost Value = { List PasswordAlgorithmValue };
 
@@ -41,9 +43,9 @@ impl Model for PasswordAlgorithms {
 
 impl PasswordAlgorithms {
     /// How many algorithms there are at most.
-    pub const MAX_COUNT: usize = 8;
+    pub const MAX_COUNT: usize = registry::MAX_PASSWORD_ALGORITHMS;
     /// How many bytes the value has at most.
-    pub const MAX_LEN: usize = 32;
+    pub const MAX_LEN: usize = 4 * registry::MAX_PASSWORD_ALGORITHMS;
 
     /// The PASSWORD-ALGORITHMS of these algorithms, in their order and as often as they stand there.
     /// Refused with `TooLarge` where there are more than eight: `actual` is then the length that the
@@ -113,15 +115,15 @@ fn write_entries(algorithms: &[PasswordAlgorithmValue], dest: &mut [u8])
 }
 
 impl AttributeStaticType for PasswordAlgorithms {
-    ghost TYPE = { record { 0 = 0x8002 } };
+    ghost TYPE = { record { 0 = password_algorithms_kind } };
 
-    const TYPE: AttributeType = AttributeType(0x8002);
+    const TYPE: AttributeType = registry::PASSWORD_ALGORITHMS;
 }
 
 impl Attribute for PasswordAlgorithms {
     ghost use Rattle.stun_types_password.specs.Entries.{algorithms_value};
 
-    ghost kind = { λ _. 0x8002 };
+    ghost kind = { λ _. password_algorithms_kind };
 
     ghost value = { algorithms_value };
 
@@ -189,7 +191,7 @@ impl<'a> AttributeFromRaw<'a> for PasswordAlgorithms {
 #[tactic(auto, using(crate::proofs::Lists::told_count), unfolding(crate::specs::Entries::algorithms_read_refusal, crate::specs::Entries::entries_refusal))]
 fn entries_of<'raw>(raw: &'raw RawAttribute<'_>) -> Result<&'raw [u8], StunParseError>
     ensures { MatchResult result (λ value. (algorithms_read_refusal raw.now ≡ None)
-        × (raw.now.kind ≡ 0x8002) × (value.now ≡ raw.now.value)
+        × (raw.now.kind ≡ password_algorithms_kind) × (value.now ≡ raw.now.value)
         × (length (numbers_told value.now) ≤ most_algorithms)
         × (list_all is_known (numbers_told value.now) ≡ true))
         (IsNamed (algorithms_read_refusal raw.now)) }

@@ -1,9 +1,10 @@
 //! USERHASH (RFC 8489, section 14.4).
 
 ghost use Rattle.std.specs.Prelude.{◌≡◌, length, None, MatchResult};
-ghost use Rattle.stun_types_write.specs.Reading.{IsNamed};
-ghost use Rattle.stun_types_write.specs.Reading.{value_refusal};
-ghost use Rattle.stun_types_password.specs.Userhashes.{userhash_length, userhash_of};
+ghost use Rattle.stun_types_write.specs.ValueReading.{IsNamed};
+ghost use Rattle.stun_types_write.specs.ValueReading.{value_refusal};
+ghost use Rattle.stun_types_password.specs.Userhashes.{userhash_of};
+ghost use Rattle.stun_types_wire.specs.Registry.{userhash_length, userhash_kind};
 
 use sha2::{Digest, Sha256};
 use std::alloc::Global;
@@ -12,6 +13,7 @@ use std::marker::Model;
 use stun_types_base::memory::NoMemory;
 use stun_types_wire::attribute::{AttributeType, RawAttribute};
 use stun_types_wire::error::StunParseError;
+use stun_types_wire::registry;
 use stun_types_write::attribute::{
     Attribute, AttributeFromRaw, AttributeStaticType, AttributeWrite,
 };
@@ -27,7 +29,7 @@ pub struct Userhash {
 
 impl Model for Userhash {
     ghost use Rattle.std.specs.Prelude.{◌≡◌, ℕ, List, length};
-    ghost use Rattle.stun_types_password.specs.Userhashes.{userhash_length};
+    ghost use Rattle.stun_types_wire.specs.Registry.{userhash_length};
 
     ghost Value = { List ℕ };
 
@@ -66,13 +68,13 @@ impl Userhash {
 }
 
 impl AttributeStaticType for Userhash {
-    ghost TYPE = { record { 0 = 0x001E } };
+    ghost TYPE = { record { 0 = userhash_kind } };
 
-    const TYPE: AttributeType = AttributeType(0x001E);
+    const TYPE: AttributeType = registry::USERHASH;
 }
 
 impl Attribute for Userhash {
-    ghost kind = { λ _. 0x001E };
+    ghost kind = { λ _. userhash_kind };
 
     ghost value = { λ a. a };
 
@@ -103,19 +105,23 @@ impl AttributeWrite for Userhash {
 /// type, `Truncated` where the value is shorter, `TooLarge` where it is longer.
 impl<'a, 'raw> TryFrom<&'raw RawAttribute<'a>> for Userhash {
     ghost use Rattle.std.specs.Prelude.{◌≡◌, MatchResult, Some, None};
-    ghost use Rattle.stun_types_write.specs.Reading.{IsNamed};
-    ghost use Rattle.stun_types_write.specs.Reading.{value_refusal};
-    ghost use Rattle.stun_types_password.specs.Userhashes.{userhash_length};
+    ghost use Rattle.stun_types_write.specs.ValueReading.{IsNamed};
+    ghost use Rattle.stun_types_write.specs.ValueReading.{value_refusal};
 
     type Error = StunParseError;
 
     ghost try_from_gives = { λ raw result. MatchResult result
-        (λ read. (value_refusal 0x001E userhash_length userhash_length raw.now ≡ None)
-        × (raw.now.kind ≡ 0x001E) × (read ≡ raw.now.value))
-        (IsNamed (value_refusal 0x001E userhash_length userhash_length raw.now)) };
+        (λ read. (value_refusal userhash_kind userhash_length userhash_length raw.now ≡ None)
+        × (raw.now.kind ≡ userhash_kind) × (read ≡ raw.now.value))
+        (IsNamed (value_refusal userhash_kind userhash_length userhash_length raw.now)) };
 
     fn try_from(raw: &'raw RawAttribute<'a>) -> Result<Userhash, StunParseError> {
-        let value = value_of(raw, Userhash::TYPE, 32, 32)?;
+        let value = value_of(
+            raw,
+            Userhash::TYPE,
+            registry::USERHASH_LENGTH,
+            registry::USERHASH_LENGTH,
+        )?;
         let mut hash = [0; 32];
         hash.copy_from_slice(value);
         Ok(Userhash { hash })
@@ -125,10 +131,9 @@ impl<'a, 'raw> TryFrom<&'raw RawAttribute<'a>> for Userhash {
 /// Refused as `try_from` is; no memory is taken.
 impl<'a> AttributeFromRaw<'a> for Userhash {
     ghost use Rattle.std.specs.Prelude.{false};
-    ghost use Rattle.stun_types_write.specs.Reading.{value_refusal};
-    ghost use Rattle.stun_types_password.specs.Userhashes.{userhash_length};
+    ghost use Rattle.stun_types_write.specs.ValueReading.{value_refusal};
 
-    ghost read_refusal = { value_refusal 0x001E userhash_length userhash_length };
+    ghost read_refusal = { value_refusal userhash_kind userhash_length userhash_length };
 
     ghost read_value = { λ value. value };
 

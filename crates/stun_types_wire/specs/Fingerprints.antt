@@ -4,12 +4,8 @@ use Rattle.std.specs.List.{list_any}
 use Rattle.byteorder.specs.Endian.{big_bytes}
 use Rattle.stun_types_digest.specs.Crc.{crc32}
 use Rattle.stun_types_wire.specs.Attributes.{Attr}
-use Rattle.stun_types_wire.specs.Shape.{fingerprint_kind}
+use Rattle.stun_types_wire.specs.Registry.{fingerprint_kind, fingerprint_mask, fingerprint_size, header_size}
 use Rattle.stun_types_wire.specs.Covered.{covered_text, with_length}
-
--- what the CRC-32 is combined with: STUN in letters
-abbrev pub fingerprint_mask : ℕ
-fingerprint_mask = 0x5354554E
 
 -- the value of the FINGERPRINT of a text: its CRC-32, combined with the letters, in four bytes
 unfoldable pub fingerprint_value : List ℕ → List ℕ
@@ -20,7 +16,7 @@ unfoldable pub fingerprint_of : List ℕ → Attr
 fingerprint_of bytes = record {
   kind = fingerprint_kind;
   value = fingerprint_value
-      (with_length bytes (length bytes - 20 + 8));
+      (with_length bytes (length bytes - header_size + fingerprint_size));
 }
 
 -- among some attributes is a FINGERPRINT

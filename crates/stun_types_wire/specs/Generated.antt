@@ -1,7 +1,7 @@
 -- The number of a transaction that is drawn from a generator (RFC 8489, section 5).
 use Rattle.std.specs.Prelude.{ℕ, ◌+◌, ◌*◌, ◌^◌}
 use Rattle.rand_core.specs.Stream.{Stream}
-use Rattle.stun_types_base.specs.Words.{word_at}
+use Rattle.stun_types_base.specs.GeneratorWords.{word_at}
 
 -- how many words of 32 bits a number takes
 abbrev pub number_words : ℕ

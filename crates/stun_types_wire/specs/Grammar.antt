@@ -1,5 +1,6 @@
 -- Which bytes are a message, and why others are refused.
 use Rattle.std.specs.Prelude.{◌≡◌, ℕ, ◌+◌, Bool, ◌&&◌, ◌==◌, not, nat_lt, nat_eq, List, [], ◌∷◌, length, take, drop, slice_index, Option, Some, None, if◌then◌else◌}
+use Rattle.std.specs.Option.{option_or}
 use Rattle.std.specs.List.{starts_with, list_any}
 use Rattle.byteorder.specs.Endian.{big_number}
 use Rattle.stun_types_wire.specs.declared.error.StunParseError.{StunParseError}
@@ -7,11 +8,7 @@ use Rattle.stun_types_wire.specs.declared.error.StunParseError.TheVariants.{NotS
 use Rattle.stun_types_wire.specs.Attributes.{Attr, kind_at, length_at, numbered, size_at}
 use Rattle.stun_types_wire.specs.Shape.{rank, may_follow, shown_after, behind_shown, shown_rank}
 use Rattle.stun_types_wire.specs.Fingerprints.{is_wrong_fingerprint}
-
--- the refusal, or the one that comes after it
-abbrev pub or_else : Option StunParseError → Option StunParseError → Option StunParseError
-or_else (Some error) later = Some error
-or_else None later = later
+use Rattle.stun_types_wire.specs.Registry.{cookie, header_size}
 
 -- ---- the header (RFC 8489, section 5)
 
@@ -20,10 +17,6 @@ pub record Header : Type 0 where
   pub kind : ℕ
   pub len : ℕ
   pub number : ℕ
-
--- the four bytes of the cookie
-abbrev pub cookie : List ℕ
-cookie = 0x21 ∷ 0x12 ∷ 0xA4 ∷ 0x42 ∷ []
 
 -- the number of the transaction
 unfoldable pub number_at : List ℕ → ℕ
@@ -41,7 +34,7 @@ may_begin bytes = nat_lt (slice_index bytes 0) 0x40 && starts_with nat_eq cookie
 unfoldable pub header_refusal : List ℕ → Option StunParseError
 header_refusal bytes =
     if not (may_begin bytes) then Some NotStun
-    else if nat_lt (length bytes) 20 then Some (Truncated 20 (length bytes))
+    else if nat_lt (length bytes) header_size then Some (Truncated header_size (length bytes))
     else None
 
 -- ---- the message
@@ -49,8 +42,10 @@ header_refusal bytes =
 -- the length in the header is that of what follows
 unfoldable pub length_refusal : List ℕ → Option StunParseError
 length_refusal bytes =
-    if nat_lt (length bytes) (20 + length_at bytes) then Some (Truncated (20 + length_at bytes) (length bytes))
-    else if nat_lt (20 + length_at bytes) (length bytes) then Some (TooLarge (20 + length_at bytes) (length bytes))
+    if nat_lt (length bytes) (header_size + length_at bytes)
+    then Some (Truncated (header_size + length_at bytes) (length bytes))
+    else if nat_lt (header_size + length_at bytes) (length bytes)
+    then Some (TooLarge (header_size + length_at bytes) (length bytes))
     else None
 
 -- among attributes of a message, each with its offset, one is a FINGERPRINT and a wrong one
@@ -69,12 +64,13 @@ rest_refusal before rest =
 
 -- why the bytes behind a header are no attributes of a message
 unfoldable pub body_refusal : List ℕ → Option StunParseError
-body_refusal bytes = or_else (fingerprint_refusal bytes (numbered 20 (shown_after 0 (drop 20 bytes))))
-    (rest_refusal (shown_rank 0 (drop 20 bytes)) (behind_shown 0 (drop 20 bytes)))
+body_refusal bytes = option_or
+    (fingerprint_refusal bytes (numbered header_size (shown_after 0 (drop header_size bytes))))
+    (rest_refusal (shown_rank 0 (drop header_size bytes)) (behind_shown 0 (drop header_size bytes)))
 
 -- the first refusal, in the order in which they come
 unfoldable pub refusal : List ℕ → Option StunParseError
-refusal bytes = or_else (header_refusal bytes) (or_else (length_refusal bytes) (body_refusal bytes))
+refusal bytes = option_or (header_refusal bytes) (option_or (length_refusal bytes) (body_refusal bytes))
 
 -- bytes that are a message
 abbrev pub IsMessage : List ℕ → Type 0
@@ -82,4 +78,4 @@ IsMessage bytes = refusal bytes ≡ None
 
 -- what a message shows
 unfoldable pub shown : List ℕ → List Attr
-shown bytes = shown_after 0 (drop 20 bytes)
+shown bytes = shown_after 0 (drop header_size bytes)

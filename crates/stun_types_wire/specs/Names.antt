@@ -4,6 +4,7 @@ use Rattle.std.specs.Coded.{Coded, code_by, coded×, coded_ℕ, coded_list}
 use Rattle.std.specs.FinMap as map
 use Rattle.std.specs.Option.{unwrap_or}
 use Rattle.std.specs.Ordering.{nat_cmp}
+use Rattle.stun_types_wire.specs.Registry.{alternate_domain_kind, alternate_server_kind, error_code_kind, fingerprint_kind, integrity_kind, nonce_kind, password_algorithm_kind, password_algorithms_kind, realm_kind, sha256_kind, software_kind, unknown_attributes_kind, userhash_kind, username_kind, xor_mapped_address_kind, binding_method}
 
 -- names that were added, each by its number
 abbrev pub NamesByNumber : Type 0
@@ -26,26 +27,26 @@ named_code =
 
 -- the name of a method to which none was added
 abbrev pub known_method : ℕ → List ℕ
-known_method n = if n == 0x001 then codes "BINDING" else codes "unknown"
+known_method n = if n == binding_method then codes "BINDING" else codes "unknown"
 
 -- the name of a type to which none was added: RFC 8489's, for those of its types that are read here
 abbrev pub known_attribute : ℕ → List ℕ
 known_attribute n =
-    if n == 0x0006 then codes "USERNAME"
-    else if n == 0x0008 then codes "MESSAGE-INTEGRITY"
-    else if n == 0x0009 then codes "ERROR-CODE"
-    else if n == 0x000A then codes "UNKNOWN-ATTRIBUTES"
-    else if n == 0x0014 then codes "REALM"
-    else if n == 0x0015 then codes "NONCE"
-    else if n == 0x001C then codes "MESSAGE-INTEGRITY-SHA256"
-    else if n == 0x001D then codes "PASSWORD-ALGORITHM"
-    else if n == 0x001E then codes "USERHASH"
-    else if n == 0x0020 then codes "XOR-MAPPED-ADDRESS"
-    else if n == 0x8002 then codes "PASSWORD-ALGORITHMS"
-    else if n == 0x8003 then codes "ALTERNATE-DOMAIN"
-    else if n == 0x8022 then codes "SOFTWARE"
-    else if n == 0x8023 then codes "ALTERNATE-SERVER"
-    else if n == 0x8028 then codes "FINGERPRINT"
+    if n == username_kind then codes "USERNAME"
+    else if n == integrity_kind then codes "MESSAGE-INTEGRITY"
+    else if n == error_code_kind then codes "ERROR-CODE"
+    else if n == unknown_attributes_kind then codes "UNKNOWN-ATTRIBUTES"
+    else if n == realm_kind then codes "REALM"
+    else if n == nonce_kind then codes "NONCE"
+    else if n == sha256_kind then codes "MESSAGE-INTEGRITY-SHA256"
+    else if n == password_algorithm_kind then codes "PASSWORD-ALGORITHM"
+    else if n == userhash_kind then codes "USERHASH"
+    else if n == xor_mapped_address_kind then codes "XOR-MAPPED-ADDRESS"
+    else if n == password_algorithms_kind then codes "PASSWORD-ALGORITHMS"
+    else if n == alternate_domain_kind then codes "ALTERNATE-DOMAIN"
+    else if n == software_kind then codes "SOFTWARE"
+    else if n == alternate_server_kind then codes "ALTERNATE-SERVER"
+    else if n == fingerprint_kind then codes "FINGERPRINT"
     else codes "unknown"
 
 -- the name of a method: the one added last, or the known one

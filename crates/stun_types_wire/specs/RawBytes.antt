@@ -1,11 +1,11 @@
 -- Which bytes are one attribute, and which values a type takes.
 use Rattle.std.specs.Prelude.{ℕ, ◌+◌, ◌-◌, ◌==◌, min, not, nat_lt, nat_le, List, length, Option, Some, None, if◌then◌else◌}
+use Rattle.std.specs.Option.{option_or}
 use Rattle.std.specs.declared.ops.Bound.{Bound}
 use Rattle.std.specs.declared.ops.Bound.TheVariants.{Included, Excluded, Unbounded}
 use Rattle.stun_types_wire.specs.declared.error.StunParseError.{StunParseError}
 use Rattle.stun_types_wire.specs.declared.error.StunParseError.TheVariants.{Truncated, TooLarge, WrongAttributeImplementation}
 use Rattle.stun_types_wire.specs.Attributes.{Attr, length_at}
-use Rattle.stun_types_wire.specs.Grammar.{or_else}
 
 -- why no attribute's header stands at the front
 abbrev pub attribute_header_refusal : List ℕ → Option StunParseError
@@ -39,4 +39,4 @@ above_refusal Unbounded len = None
 unfoldable pub type_and_len_refusal : ℕ → Bound ℕ → Bound ℕ → Attr → Option StunParseError
 type_and_len_refusal kind least most a =
     if not (a.kind == kind) then Some WrongAttributeImplementation
-    else or_else (below_refusal least (length a.value)) (above_refusal most (length a.value))
+    else option_or (below_refusal least (length a.value)) (above_refusal most (length a.value))

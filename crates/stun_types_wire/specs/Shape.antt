@@ -3,16 +3,7 @@
 use Rattle.std.specs.Prelude.{◌≡◌, ◌⊎◌, ℕ, ◌≤◌, Bool, ◌||◌, ◌&&◌, ◌==◌, nat_lt, List, [], ◌∷◌, ◌++◌, map, length, drop, sum_by, if◌then◌else◌}
 use Rattle.std.specs.List.{AllByRecursion}
 use Rattle.stun_types_wire.specs.Attributes.{Attr, attr_size, attributes}
-
--- the types of the three attributes that end a message
-abbrev pub integrity_kind : ℕ
-integrity_kind = 0x0008
-
-abbrev pub sha256_kind : ℕ
-sha256_kind = 0x001C
-
-abbrev pub fingerprint_kind : ℕ
-fingerprint_kind = 0x8028
+use Rattle.stun_types_wire.specs.Registry.{fingerprint_kind, integrity_kind, sha256_kind}
 
 -- the place of a type among those that end a message, in their order: 0 for any other type
 abbrev pub rank : ℕ → ℕ

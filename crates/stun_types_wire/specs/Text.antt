@@ -4,7 +4,7 @@ use Rattle.std.specs.List.{flat_map, AllByRecursion}
 use Rattle.byteorder.specs.Endian.{big_bytes}
 use Rattle.stun_types_wire.specs.Attributes.{Attr, padding_len, kind_at}
 use Rattle.stun_types_wire.specs.Shape.{IsShape, kinds_of}
-use Rattle.stun_types_wire.specs.Grammar.{cookie}
+use Rattle.stun_types_wire.specs.Registry.{cookie}
 
 -- type, length of what follows, cookie, number
 unfoldable pub header_text : ℕ → ℕ → ℕ → List ℕ

@@ -6,9 +6,11 @@ ghost use Rattle.byteorder.specs.Endian.{big_bytes};
 ghost use Rattle.stun_types_wire.specs.Attributes.{IsPadded, padded, attr_at};
 ghost use Rattle.stun_types_wire.specs.RawBytes.{attribute_refusal, attribute_header_refusal, type_and_len_refusal, below_refusal, above_refusal};
 ghost use Rattle.stun_types_wire.specs.Text.{attribute_text};
+ghost use Rattle.stun_types_wire.specs.Registry.{first_optional_kind};
 
 use crate::data::Data;
 use crate::error::StunParseError;
+use crate::registry::FIRST_OPTIONAL_TYPE;
 use byteorder::{BigEndian, ByteOrder};
 use std::alloc::Global;
 use std::boxed::BoxedSlice;
@@ -20,15 +22,6 @@ use stun_types_base::memory::NoMemory;
 /// The type of an attribute. The field is public so that constants of types are literals.
 #[derive(Clone, Copy, Debug, PartialEq, Eq)]
 pub struct AttributeType(pub u16);
-
-/// The type of MESSAGE-INTEGRITY (RFC 8489, section 14.5).
-pub const MESSAGE_INTEGRITY: AttributeType = AttributeType(0x0008);
-
-/// The type of MESSAGE-INTEGRITY-SHA256 (RFC 8489, section 14.6).
-pub const MESSAGE_INTEGRITY_SHA256: AttributeType = AttributeType(0x001C);
-
-/// The type of FINGERPRINT (RFC 8489, section 14.7).
-pub const FINGERPRINT: AttributeType = AttributeType(0x8028);
 
 impl AttributeType {
     /// The type of a number.
@@ -47,9 +40,9 @@ impl AttributeType {
 
     /// Whether a receiver has to understand the attribute (RFC 8489, section 14).
     pub fn comprehension_required(self) -> bool
-        ensures { result ≡ nat_lt self.0 0x8000 }
+        ensures { result ≡ nat_lt self.0 first_optional_kind }
     {
-        self.0 < 0x8000
+        self.0 < FIRST_OPTIONAL_TYPE
     }
 }
 

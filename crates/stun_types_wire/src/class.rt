@@ -17,9 +17,6 @@ use stun_types_base::memory::NoMemory;
 #[derive(Clone, Copy, Debug, PartialEq, Eq)]
 pub struct Method(pub u16);
 
-/// BINDING (RFC 8489, section 18.2).
-pub const BINDING: Method = Method(0x001);
-
 impl Method {
     /// The method of a number.
     pub fn new(value: u16) -> Method

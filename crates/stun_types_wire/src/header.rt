@@ -6,7 +6,8 @@ ghost use Rattle.stun_types_wire.specs.Text.{header_text};
 
 use crate::class::MessageType;
 use crate::error::StunParseError;
-use crate::transaction::{MAGIC_COOKIE, TransactionId};
+use crate::registry::{HEADER_LENGTH, MAGIC_COOKIE};
+use crate::transaction::TransactionId;
 use byteorder::{BigEndian, ByteOrder};
 use std::marker::Model;
 
@@ -33,7 +34,7 @@ impl Model for MessageHeader {
 
 impl MessageHeader {
     /// How many bytes a header has.
-    pub const LENGTH: usize = 20;
+    pub const LENGTH: usize = HEADER_LENGTH;
 
     /// A header of these three.
     pub fn new(mtype: MessageType, length: u16, transaction_id: TransactionId) -> MessageHeader

@@ -6,6 +6,7 @@ ghost use Rattle.stun_types_wire.specs.Names.{method_name, attribute_name, known
 
 use crate::attribute::AttributeType;
 use crate::class::Method;
+use crate::registry;
 use std::alloc::Global;
 use std::collections::BTreeMap;
 use std::marker::Model;
@@ -102,8 +103,8 @@ impl AttributeType {
 fn known_method_name(method: Method) -> &'static str
     ensures { result.now ≡ known_method method.0 }
 {
-    match method.0 {
-        0x001 => "BINDING",
+    match method {
+        registry::BINDING => "BINDING",
         _ => "unknown",
     }
 }
@@ -112,22 +113,22 @@ fn known_method_name(method: Method) -> &'static str
 fn known_attribute_name(atype: AttributeType) -> &'static str
     ensures { result.now ≡ known_attribute atype.0 }
 {
-    match atype.0 {
-        0x0006 => "USERNAME",
-        0x0008 => "MESSAGE-INTEGRITY",
-        0x0009 => "ERROR-CODE",
-        0x000A => "UNKNOWN-ATTRIBUTES",
-        0x0014 => "REALM",
-        0x0015 => "NONCE",
-        0x001C => "MESSAGE-INTEGRITY-SHA256",
-        0x001D => "PASSWORD-ALGORITHM",
-        0x001E => "USERHASH",
-        0x0020 => "XOR-MAPPED-ADDRESS",
-        0x8002 => "PASSWORD-ALGORITHMS",
-        0x8003 => "ALTERNATE-DOMAIN",
-        0x8022 => "SOFTWARE",
-        0x8023 => "ALTERNATE-SERVER",
-        0x8028 => "FINGERPRINT",
+    match atype {
+        registry::USERNAME => "USERNAME",
+        registry::MESSAGE_INTEGRITY => "MESSAGE-INTEGRITY",
+        registry::ERROR_CODE => "ERROR-CODE",
+        registry::UNKNOWN_ATTRIBUTES => "UNKNOWN-ATTRIBUTES",
+        registry::REALM => "REALM",
+        registry::NONCE => "NONCE",
+        registry::MESSAGE_INTEGRITY_SHA256 => "MESSAGE-INTEGRITY-SHA256",
+        registry::PASSWORD_ALGORITHM => "PASSWORD-ALGORITHM",
+        registry::USERHASH => "USERHASH",
+        registry::XOR_MAPPED_ADDRESS => "XOR-MAPPED-ADDRESS",
+        registry::PASSWORD_ALGORITHMS => "PASSWORD-ALGORITHMS",
+        registry::ALTERNATE_DOMAIN => "ALTERNATE-DOMAIN",
+        registry::SOFTWARE => "SOFTWARE",
+        registry::ALTERNATE_SERVER => "ALTERNATE-SERVER",
+        registry::FINGERPRINT => "FINGERPRINT",
         _ => "unknown",
     }
 }

@@ -1,16 +1,13 @@
 //! The numbers of transactions.
 
 ghost use Rattle.std.specs.Prelude.{◌≡◌};
-ghost use Rattle.stun_types_base.specs.Words.{stream_after};
+ghost use Rattle.stun_types_base.specs.GeneratorWords.{stream_after};
 ghost use Rattle.stun_types_wire.specs.Generated.{drawn_number, number_words};
 
 use rand_core::Rng;
 use std::fmt;
 use std::marker::Model;
 use stun_types_base::words::draw_words;
-
-/// The cookie in every header (RFC 8489, section 5).
-pub const MAGIC_COOKIE: u32 = 0x2112_A442;
 
 /// The number of a transaction, of 96 bits: a response has that of its request.
 #[derive(Clone, Copy, Debug, PartialEq, Eq, PartialOrd, Ord)]
@@ -32,7 +29,7 @@ impl Model for TransactionId {
 
 impl TransactionId {
     /// A number of three words of 32 bits that are drawn from a generator, the first of them highest.
-    #[tactic(auto, unfolding(stun_types_base::specs::Words::words_of, crate::specs::Generated::drawn_number))]
+    #[tactic(auto, unfolding(stun_types_base::specs::GeneratorWords::words_of, crate::specs::Generated::drawn_number))]
     pub fn generate<R: Rng>(rng: &mut R) -> TransactionId
         ensures number { result ≡ drawn_number (R.stream rng.old) }
         ensures stream { R.stream rng.new ≡ stream_after number_words (R.stream rng.old) }
@@ -47,7 +44,7 @@ impl TransactionId {
 /// Prints `0x` and 24 hex digits.
 impl fmt::Display for TransactionId {
     ghost use Rattle.std.specs.Prelude.{Some};
-    ghost use Rattle.stun_types_wire.specs.Number.{number_text};
+    ghost use Rattle.stun_types_wire.specs.NumberText.{number_text};
 
     ghost output = { λ number. Some (number_text number) };
 

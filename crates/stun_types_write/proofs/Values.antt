@@ -8,7 +8,7 @@ use Rattle.stun_types_wire.specs.declared.error.StunParseError.TheVariants.{Inva
 use Rattle.stun_types_wire.specs.Attributes.{Attr}
 use Rattle.stun_types_wire.specs.RawBytes.{type_and_len_refusal}
 use Rattle.stun_types_write.specs.Adding.{attr_of}
-use Rattle.stun_types_write.specs.Reading.{value_refusal, utf8_refusal, text_read_refusal}
+use Rattle.stun_types_write.specs.ValueReading.{value_refusal, utf8_refusal, text_read_refusal}
 
 -- an attribute that is not refused has the type
 pub kind_told : (kind least most : ℕ) (a : Attr) → value_refusal kind least most a ≡ None → a.kind ≡ kind

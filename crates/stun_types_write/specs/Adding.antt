@@ -8,6 +8,7 @@ use Rattle.stun_types_wire.specs.Covered.{with_length}
 use Rattle.stun_types_wire.specs.Grammar.{header_refusal}
 use Rattle.stun_types_wire.specs.Text.{attribute_text}
 use Rattle.stun_types_write.specs.Drafts.{Draft}
+use Rattle.stun_types_wire.specs.Registry.{fingerprint_size, greatest_data, greatest_size, header_size}
 
 -- the attribute of a type and a value
 abbrev pub attr_of : ℕ → List ℕ → Attr
@@ -15,11 +16,7 @@ attr_of kind value = record { kind = kind; value = value }
 
 -- a message to which an attribute is added at the end
 unfoldable pub after_add : List ℕ → Attr → List ℕ
-after_add bytes a = with_length bytes (length bytes - 20 + attr_size a) ++ attribute_text a
-
--- the greatest size of a message: the length field has sixteen bits
-abbrev pub greatest_size : ℕ
-greatest_size = 20 + 65_535
+after_add bytes a = with_length bytes (length bytes - header_size + attr_size a) ++ attribute_text a
 
 -- a type among some
 abbrev pub has_kind : ℕ → List ℕ → Bool
@@ -36,7 +33,8 @@ room_refusal (Some most) end = if nat_lt most end then Some (TooSmall end most) 
 
 -- a message that would end here is longer than its length field can tell, or doesn't fit into the room
 abbrev pub size_refusal : Option ℕ → ℕ → Option StunWriteError
-size_refusal limit end = if nat_lt greatest_size end then Some (TooLarge 65_535 (end - 20)) else room_refusal limit end
+size_refusal limit end = if nat_lt greatest_size end then Some (TooLarge greatest_data (end - header_size))
+    else room_refusal limit end
 
 -- why so many bytes more don't fit
 abbrev pub growth_refusal : Draft → ℕ → Option StunWriteError
@@ -52,7 +50,7 @@ add_refusal draft size =
 -- why a FINGERPRINT is not added: the first cause in the order
 unfoldable pub fingerprint_add_refusal : Draft → Option StunWriteError
 fingerprint_add_refusal draft =
-    if draft.ended.fingerprint then Some FingerprintExists else growth_refusal draft 8
+    if draft.ended.fingerprint then Some FingerprintExists else growth_refusal draft fingerprint_size
 
 -- a message that was begun, and can be added to: its header is there, and its length fits
 pub record IsBegun (bytes : List ℕ) : Type 0 where

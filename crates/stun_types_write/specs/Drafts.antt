@@ -1,7 +1,8 @@
 -- What a writer holds, and what is written into it.
 use Rattle.std.specs.Prelude.{ℕ, ◌+◌, ◌≤◌, true, false, ◌==◌, List, [], ◌++◌, length, drop, Option, IfSome, if◌then◌else◌}
 use Rattle.stun_types_wire.specs.Attributes.{Attr, attr_size, attributes}
-use Rattle.stun_types_wire.specs.Shape.{integrity_kind, sha256_kind, fingerprint_kind, kinds_of}
+use Rattle.stun_types_wire.specs.Shape.{kinds_of}
+use Rattle.stun_types_wire.specs.Registry.{integrity_kind, sha256_kind, fingerprint_kind, header_size}
 use Rattle.stun_types_wire.specs.Text.{attribute_text}
 use Rattle.stun_types_write.specs.declared.ended.Ended.{Ended}
 
@@ -57,4 +58,4 @@ pushed_attribute a draft = record {
 
 -- the types of the attributes that stand behind the header
 abbrev pub kinds_written : List ℕ → List ℕ
-kinds_written bytes = kinds_of (attributes (drop 20 bytes))
+kinds_written bytes = kinds_of (attributes (drop header_size bytes))

@@ -3,5 +3,5 @@ pub mod Alls
 pub mod Drafts
 pub mod Lent
 pub mod Outcomes
-pub mod Reading
+pub mod ValueReading
 pub mod Walk

@@ -1,24 +1,25 @@
 -- What is left of a message that is begun, and of one that is added to.
-use Rattle.std.specs.Prelude.{◌≡◌, ℕ, ◌+◌, ◌≤◌, List, [], ◌∷◌, ◌++◌, length, drop, None}
+use Rattle.std.specs.Prelude.{◌≡◌, ◌≢◌, ℕ, ◌+◌, ◌≤◌, List, [], ◌∷◌, ◌++◌, length, drop, IsSome, None, Result, Err}
 use Rattle.stun_types_base.specs.Refusals.{IsNamed}
 use Rattle.stun_types_wire.specs.declared.error.StunWriteError.{StunWriteError}
 use Rattle.stun_types_wire.specs.declared.error.StunWriteError.TheVariants.{NoMemory}
 use Rattle.stun_types_wire.specs.Attributes.{Attr, attr_size}
 use Rattle.stun_types_wire.specs.Text.{message_text}
-use Rattle.stun_types_write.specs.Adding.{after_add, greatest_size, growth_refusal, IsBegun}
+use Rattle.stun_types_write.specs.Adding.{after_add, growth_refusal, IsBegun}
+use Rattle.stun_types_wire.specs.Registry.{greatest_size, header_size}
 use Rattle.stun_types_write.specs.Drafts.{Draft, HasRoom, ended_by, none_ended}
 
 -- nothing is written, and a header has room
 pub record CanBegin (draft : Draft) : Type 0 where
   pub empty : draft.bytes ≡ []
   pub ended : draft.ended ≡ none_ended
-  pub room : HasRoom draft 20
+  pub room : HasRoom draft header_size
 
 -- a message of this type and number was begun
 pub record IsBegunAs (mtype number : ℕ) (old new : Draft) : Type 0 where
   pub text : new.bytes ≡ message_text mtype number []
-  pub size : length new.bytes ≡ 20
-  pub behind : new.behind ≡ drop 20 old.behind
+  pub size : length new.bytes ≡ header_size
+  pub behind : new.behind ≡ drop header_size old.behind
   pub ended : new.ended ≡ none_ended
   pub limit : new.limit ≡ old.limit
   pub begun : IsBegun new.bytes
@@ -49,3 +50,7 @@ pub record Fits (draft : Draft) (size end : ℕ) : Type 0 where
 -- so many bytes more don't fit, for this cause
 abbrev pub IsTooLong : Draft → ℕ → StunWriteError → Type 0
 IsTooLong draft size = IsNamed NoMemory (growth_refusal draft size)
+
+-- a writer with a limit takes no memory: whatever it answers, no allocation failed
+abbrev pub TakesNoMemory : {A : Type 0} → Draft → Result A StunWriteError → Type 0
+TakesNoMemory draft result = IsSome draft.limit → result ≢ Err NoMemory

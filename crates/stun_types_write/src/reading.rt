@@ -2,7 +2,7 @@
 
 ghost use Rattle.std.specs.Prelude.{◌≡◌, ◌≤◌, ℕ, length, MatchResult, None};
 ghost use Rattle.stun_types_write.specs.Adding.{attr_of};
-ghost use Rattle.stun_types_write.specs.Reading.{IsNamed, value_refusal, text_read_refusal, utf8_refusal};
+ghost use Rattle.stun_types_write.specs.ValueReading.{IsNamed, value_refusal, text_read_refusal, utf8_refusal};
 
 use std::ops::Bound;
 use stun_types_wire::attribute::{AttributeType, RawAttribute};
@@ -30,7 +30,7 @@ pub fn value_of<'raw>(
 /// The text of an attribute of this type, with at most so many bytes. Refused, in this order:
 /// `WrongAttributeImplementation` where it has another type, `TooLarge` where it has more bytes,
 /// `InvalidAttributeData` where they are not UTF-8.
-#[tactic(auto, unfolding(crate::specs::Reading::text_read_refusal))]
+#[tactic(auto, unfolding(crate::specs::ValueReading::text_read_refusal))]
 pub fn text_of<'raw>(
     raw: &'raw RawAttribute<'_>,
     atype: AttributeType,

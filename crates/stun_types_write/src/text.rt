@@ -6,6 +6,7 @@ ghost use Rattle.stun_types_wire.specs.Attributes.{padded};
 ghost use Rattle.stun_types_wire.specs.Text.{attribute_text};
 ghost use Rattle.stun_types_write.specs.Adding.{attr_of};
 ghost use Rattle.stun_types_wire.specs.Covered.{with_length};
+ghost use Rattle.stun_types_wire.specs.Registry.{header_size};
 
 use byteorder::{BigEndian, ByteOrder};
 use stun_types_wire::attribute::{AttributeType, pad_attribute_len};
@@ -54,7 +55,7 @@ pub fn write_attribute_in_two(atype: AttributeType, front: &[u8], back: &[u8], d
 /// Writes the length of a message into its header.
 #[tactic(auto, unfolding(stun_types_wire::specs::Covered::with_length))]
 pub fn write_length(bytes: &mut [u8], n: u16)
-    requires { 20 ≤ length bytes.old }
+    requires { header_size ≤ length bytes.old }
     ensures { bytes.new ≡ with_length bytes.old n }
 {
     BigEndian::write_u16(&mut bytes[2..4], n);

@@ -5,6 +5,7 @@ ghost use Rattle.std.specs.Option.{option_map};
 ghost use Rattle.stun_types_write.specs.Adding.{has_kind, is_among};
 ghost use Rattle.stun_types_write.specs.Drafts.{kinds_written};
 ghost use Rattle.stun_types_write.specs.Walk.{IsStep};
+ghost use Rattle.stun_types_wire.specs.Registry.{header_size};
 
 use crate::among::has_type;
 use byteorder::{BigEndian, ByteOrder};
@@ -29,7 +30,7 @@ fn step(bytes: &[u8]) -> Option<(AttributeType, &[u8])>
 
 /// What stands behind the header.
 fn body(bytes: &[u8]) -> &[u8]
-    ensures { result.now ≡ drop 20 bytes.now }
+    ensures { result.now ≡ drop header_size bytes.now }
 {
     let (_, body) = bytes.split_at(bytes.len().min(20));
     body

@@ -5,7 +5,8 @@ ghost use Rattle.std.specs.Borrow.{Array, Lends, sem, u8 as byte};
 ghost use Rattle.std.specs.Option.{option_map};
 ghost use Rattle.stun_types_wire.specs.Attributes.{attr_size};
 ghost use Rattle.stun_types_wire.specs.Covered.{with_length};
-ghost use Rattle.stun_types_write.specs.Adding.{attr_of, greatest_size, has_kind, is_among};
+ghost use Rattle.stun_types_write.specs.Adding.{attr_of, has_kind, is_among};
+ghost use Rattle.stun_types_wire.specs.Registry.{greatest_size, header_size};
 ghost use Rattle.stun_types_write.specs.Lent.{with_all};
 ghost use Rattle.stun_types_write.specs.Drafts.{Draft, HasRoom, kinds_written, pushed, pushed_attribute, with_bytes};
 
@@ -61,7 +62,7 @@ pub trait MessageWrite {
 
     /// Sets the length in the header of a message.
     fn set_length(&mut self, n: u16)
-        requires { 20 ≤ length (draft self.old).bytes }
+        requires { header_size ≤ length (draft self.old).bytes }
         ensures { draft self.new
             ≡ with_bytes (draft self.old) (with_length (draft self.old).bytes n) };
 

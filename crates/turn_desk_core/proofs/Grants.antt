@@ -5,10 +5,10 @@ use Rattle.std.proofs.lemmas.Bool.{cases_Bool}
 use Rattle.std.proofs.lemmas.List.{length-append, append-nil}
 use Rattle.std.specs.declared.net.socket_addr.SocketAddr.{SocketAddr}
 use Rattle.rand_core.specs.Stream.{Stream}
-use Rattle.stun_types_wire.specs.declared.transport.TransportType.{TransportType}
+use Rattle.stun_types.specs.declared.transport.TransportType.{TransportType}
 use Rattle.stun_proto_judge.proofs.Judging.{not_both}
-use Rattle.stun_proto_server.specs.Server.{refreshed}
-use Rattle.stun_proto_server.specs.Validation.{known_of}
+use Rattle.stun_proto.specs.Server.{refreshed}
+use Rattle.stun_proto.specs.ServerValidation.{known_of}
 use Rattle.turn_desk_core.specs.declared.decision.Decision.{Decision}
 use Rattle.turn_desk_core.specs.declared.decision.Decision.TheVariants.{Refuse, Allocate, Refresh, Connect, Grant}
 use Rattle.turn_desk_core.specs.declared.grant.Grant as granted

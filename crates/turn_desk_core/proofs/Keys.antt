@@ -1,7 +1,6 @@
 -- What a validation keeps for its address, and the key that a reply to it is signed under.
-use Rattle.std.specs.Prelude.{◌≡◌, ◌≢◌, ℕ, ◌<◌, slice_index, Bool, true, false, cond, List, [], ◌∷◌, ◌++◌, Option, Some, None, IsSome, if◌then◌else◌}
+use Rattle.std.specs.Prelude.{◌≡◌, ◌≢◌, ℕ, ◌<◌, slice_index, Bool, true, false, cond, List, [], ◌∷◌, ◌++◌, Option, Some, None, IsSome, if◌then◌else◌, map as map_list}
 use Rattle.std.proofs.Common.{refl, sym, ap, ◌∙◌, subst, inl, inr}
-use Rattle.std.specs.Prelude.{map as map_list}
 use Rattle.std.proofs.lemmas.Bool.{cases_Bool}
 use Rattle.std.specs.Ordering.{is_eq}
 use Rattle.std.specs.Option.{option_map, option_and_then}
@@ -9,32 +8,30 @@ use Rattle.std.specs.Cmp.{eq_by_cmp_equiv}
 use Rattle.std.specs.FinMap as map
 use Rattle.std.specs.declared.net.socket_addr.SocketAddr.{SocketAddr}
 use Rattle.rand_core.specs.Stream.{Stream}
-use Rattle.stun_types_base.specs.SocketAddrs.{socket_addr_cmp, socket_addr_cmp_total}
-use Rattle.stun_types_wire.specs.declared.algorithm.IntegrityAlgorithm.{IntegrityAlgorithm}
-use Rattle.stun_types_wire.specs.declared.class.MessageClass.{MessageClass}
-use Rattle.stun_types_wire.specs.declared.class.MessageClass.TheVariants.{Request, Indication, Success, Error}
-use Rattle.stun_types_wire.specs.Attributes.{Attr}
-use Rattle.stun_types_wire.specs.Types.{is_response_class, type_of}
-use Rattle.stun_types_write.specs.Drafts.{Draft}
-use Rattle.stun_types_wire.specs.Text.{header_text, message_text}
-use Rattle.stun_types_integrity.specs.Credentials.{Key}
-use Rattle.stun_types_integrity.specs.Signing.{signing_refusal}
-use Rattle.stun_types_build.specs.Calls.{Integrity, IsWritten, Ordinary, after_calls}
-use Rattle.stun_types_grammar.specs.Reading.{IsReadAs}
-use Rattle.stun_types_laws.proofs.Composed.{composed_read, signed_read, signed_text_of}
-use Rattle.stun_proto_sign.specs.Addition.{Addition, Party, Signer, addition, addition_refusal, calls_of, texts_refusal, key_in}
-use Rattle.stun_proto_sign.specs.Stages.{IsMade}
+use Rattle.stun_types.specs.SocketAddrs.{socket_addr_cmp, socket_addr_cmp_total}
+use Rattle.stun_types.specs.IntegrityAlgorithms.{IntegrityAlgorithm}
+use Rattle.stun_types.specs.MessageClasses.{MessageClass, Request, Indication, Success, Error}
+use Rattle.stun_types.specs.Attributes.{Attr}
+use Rattle.stun_types.specs.Types.{is_response_class, type_of}
+use Rattle.stun_types.specs.Drafts.{Draft}
+use Rattle.stun_types.specs.Text.{header_text, message_text}
+use Rattle.stun_types.specs.Credentials.{Key}
+use Rattle.stun_types.specs.Signing.{signing_refusal}
+use Rattle.stun_types.specs.Calls.{Integrity, IsWritten, Ordinary, after_calls}
+use Rattle.stun_types.specs.MessageReading.{IsReadAs}
+use Rattle.stun_types_integrity_laws.proofs.Composed.{composed_read, signed_read, signed_text_of}
+use Rattle.stun_proto.specs.Addition.{Addition, Party, Signer, addition, addition_refusal, calls_of, texts_refusal, key_in}
+use Rattle.stun_proto.specs.AdditionStages.{IsMade}
 use Rattle.stun_proto_sign.proofs.Made.{made_written}
-use Rattle.stun_proto_judge.specs.Judgement.{IsRefused, Outcome, is_response, user_key}
-use Rattle.stun_proto_server.specs.Server.{Client, Server, nonce_at, has_standing_nonce, refreshed, with_outcome, set_outcome}
-use Rattle.stun_proto_server.specs.Signing.{addition_for, party_at, party_by_client, party_by_outcome, party_by_password}
-use Rattle.stun_proto_server.specs.Validation.{IsValidated, after_refusal, known_of, password_at}
-use Rattle.stun_types_wire.specs.Grammar.{number_at}
-use Rattle.stun_proto_judge.specs.declared.error.LongTermServerAuthError.{LongTermServerAuthError}
-use Rattle.stun_proto_judge.specs.declared.error.LongTermServerAuthError.TheVariants.{NoMemory}
-use Rattle.stun_proto_server.specs.declared.validation.LongTermServerValidation.{LongTermServerValidation}
-use Rattle.stun_proto_server.specs.declared.validation.LongTermServerValidation.TheVariants.{Validated}
-use Rattle.turn_desk_reply.specs.Replies.{IsReply, error_type, signed_attributes, signed_text, success_type}
+use Rattle.stun_proto.specs.Judgement.{IsRefused, Outcome, is_response, user_key}
+use Rattle.stun_proto.specs.Server.{Client, Server, nonce_at, has_standing_nonce, refreshed, with_outcome, set_outcome}
+use Rattle.stun_proto.specs.ServerSigning.{addition_for, party_at, party_by_client, party_by_outcome, party_by_password}
+use Rattle.stun_proto.specs.ServerValidation.{IsValidated, after_refusal, known_of, password_at}
+use Rattle.stun_types.specs.Grammar.{number_at}
+use Rattle.stun_proto.specs.ServerAuthErrors.{LongTermServerAuthError, NoMemory}
+use Rattle.stun_proto.specs.ServerValidations.{LongTermServerValidation, Validated}
+use Rattle.stun_types.specs.Objections.{error_type}
+use Rattle.turn_desk_reply.specs.Replies.{IsReply, signed_attributes, signed_text, success_type}
 use Rattle.turn_desk_core.specs.declared.verdict.Verdict.{Verdict}
 use Rattle.turn_desk_core.specs.Requests.{IsServed}
 use Rattle.turn_desk_core.specs.State.{State}

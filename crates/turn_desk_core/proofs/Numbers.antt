@@ -3,10 +3,10 @@ use Rattle.std.specs.Prelude.{ℕ, suc, ◌^◌, ◌<◌, slice_index, List, [],
 use Rattle.std.proofs.Common.{refl, arith, ltb}
 use Rattle.std.proofs.lemmas.Bool.{lt-ltb, and_from}
 use Rattle.std.specs.List.{list_all}
-use Rattle.stun_types_wire.specs.Grammar.{number_at}
-use Rattle.stun_types_grammar.specs.Headers.{AreBytes}
-use Rattle.stun_types_grammar.proofs.Converse.{has_text}
-use Rattle.turn_desk_reply.specs.Replies.{error_type}
+use Rattle.stun_types.specs.Grammar.{number_at}
+use Rattle.stun_types.specs.Headers.{AreBytes}
+use Rattle.stun_types_grammar_laws.proofs.Converse.{has_text}
+use Rattle.stun_types.specs.Objections.{error_type}
 use Rattle.turn_desk_core.specs.declared.verdict.Verdict.{Verdict}
 use Rattle.turn_desk_core.specs.declared.verdict.Verdict.TheVariants.{Fails, Allocates}
 use Rattle.turn_desk_core.specs.Requests.{IsServed}

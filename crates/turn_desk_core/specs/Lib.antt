@@ -1,4 +1,4 @@
-pub mod Lending
+pub mod AuthLending
 pub mod Requests
 pub mod State
 pub mod Steps

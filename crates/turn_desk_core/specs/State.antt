@@ -1,7 +1,7 @@
 -- What contracts see of a desk.
 use Rattle.std.specs.Prelude.{List, refl}
 use Rattle.std.specs.Coded.{Coded, code_by, coded×, coded_list}
-use Rattle.stun_proto_server.specs.Server.{Server, server_code}
+use Rattle.stun_proto.specs.Server.{Server, server_code}
 use Rattle.turn_desk_core.specs.contracts.grant.Grant as grant
 use Rattle.turn_desk_core.specs.declared.grant.Grant.{Grant}
 

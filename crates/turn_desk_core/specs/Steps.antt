@@ -4,20 +4,19 @@ use Rattle.std.specs.FinMap as map
 use Rattle.std.specs.Option.{option_and_then, option_map}
 use Rattle.std.specs.declared.net.socket_addr.SocketAddr.{SocketAddr}
 use Rattle.rand_core.specs.Stream.{Stream}
-use Rattle.stun_types_wire.specs.declared.algorithm.IntegrityAlgorithm.{IntegrityAlgorithm}
-use Rattle.stun_types_wire.specs.declared.transport.TransportType.{TransportType}
-use Rattle.stun_types_wire.specs.Attributes.{Attr}
-use Rattle.stun_types_wire.specs.Grammar.{number_at}
-use Rattle.stun_types_wire.specs.Text.{message_text}
-use Rattle.stun_types_grammar.specs.Reading.{IsReadAs}
-use Rattle.stun_types_integrity.specs.Credentials.{Key}
-use Rattle.stun_proto_sign.specs.Addition.{Party, key_in}
-use Rattle.stun_proto_judge.specs.declared.error.LongTermServerAuthError.{LongTermServerAuthError}
-use Rattle.stun_proto_judge.specs.declared.error.LongTermServerAuthError.TheVariants.{BadRequest, StaleNonce, NoMemory}
-use Rattle.stun_proto_judge.specs.Judgement.{IsRefused, user_key}
-use Rattle.stun_proto_server.specs.Server.{Server, nonce_at, refreshed, with_outcome}
-use Rattle.stun_proto_server.specs.Signing.{party_at}
-use Rattle.stun_proto_server.specs.Validation.{Accepts, IsAfterNoMemory, known_of}
+use Rattle.stun_types.specs.IntegrityAlgorithms.{IntegrityAlgorithm}
+use Rattle.stun_types.specs.declared.transport.TransportType.{TransportType}
+use Rattle.stun_types.specs.Attributes.{Attr}
+use Rattle.stun_types.specs.Grammar.{number_at}
+use Rattle.stun_types.specs.Text.{message_text}
+use Rattle.stun_types.specs.MessageReading.{IsReadAs}
+use Rattle.stun_types.specs.Credentials.{Key}
+use Rattle.stun_proto.specs.Addition.{Party, key_in}
+use Rattle.stun_proto.specs.ServerAuthErrors.{LongTermServerAuthError, BadRequest, StaleNonce, NoMemory}
+use Rattle.stun_proto.specs.Judgement.{IsRefused, user_key}
+use Rattle.stun_proto.specs.Server.{Server, nonce_at, refreshed, with_outcome}
+use Rattle.stun_proto.specs.ServerSigning.{party_at}
+use Rattle.stun_proto.specs.ServerValidation.{Accepts, IsAfterNoMemory, known_of}
 use Rattle.turn_desk_core.specs.declared.decision.Decision.{Decision}
 use Rattle.turn_desk_core.specs.declared.decision.Decision.TheVariants.{Allocate}
 use Rattle.turn_desk_core.specs.declared.grant.Grant as granted
@@ -25,7 +24,9 @@ use Rattle.turn_desk_core.specs.declared.verdict.Verdict.{Verdict}
 use Rattle.turn_desk_core.specs.Requests.{transport_asked}
 use Rattle.turn_desk_core.specs.State.{State}
 use Rattle.turn_desk_core.specs.Verdicts.{allocation, are_relayable, grants_of, reply_attributes, reply_type, verdict_on}
-use Rattle.turn_desk_reply.specs.Replies.{allocated_attributes, challenge_attributes, error_type, failure_attributes, signed_attributes, signed_text, success_type}
+use Rattle.stun_types.specs.Objections.{error_type}
+use Rattle.turn_desk_reply.specs.Replies.{allocated_attributes, challenge_attributes, failure_attributes, signed_attributes, signed_text, success_type}
+use Rattle.stun_types.specs.Registry.{bad_request_code, stale_nonce_code, unauthorized_code}
 
 -- ---- the key of a party
 
@@ -49,9 +50,9 @@ pub record IsSignedFor (server : Server) (from : SocketAddr) (kind number : ℕ)
 
 -- what the answer to a request shows that is refused: ERROR-CODE alone to one that is malformed, else a challenge
 abbrev pub refusal_attributes : LongTermServerAuthError → List ℕ → List ℕ → List Attr
-refusal_attributes BadRequest realm nonce = failure_attributes 400
-refusal_attributes StaleNonce realm nonce = challenge_attributes 438 realm nonce
-refusal_attributes _ realm nonce = challenge_attributes 401 realm nonce
+refusal_attributes BadRequest realm nonce = failure_attributes bad_request_code
+refusal_attributes StaleNonce realm nonce = challenge_attributes stale_nonce_code realm nonce
+refusal_attributes _ realm nonce = challenge_attributes unauthorized_code realm nonce
 
 -- a reply to a request that was turned away, which shows the nonce that is kept for the address
 pub record IsTurnedReply (server : Server) (from : SocketAddr) (bytes : List ℕ) (error : LongTermServerAuthError)

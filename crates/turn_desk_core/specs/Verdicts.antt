@@ -3,16 +3,19 @@ use Rattle.std.specs.Prelude.{ℕ, Bool, true, false, not, nat_lt, ◌||◌, Lis
 use Rattle.std.specs.Net.Addr.{is_ipv4}
 use Rattle.std.specs.Net.Socket.{socket_ip}
 use Rattle.std.specs.declared.net.socket_addr.SocketAddr.{SocketAddr}
-use Rattle.stun_types_wire.specs.declared.transport.TransportType.{TransportType}
-use Rattle.stun_types_wire.specs.Attributes.{Attr}
-use Rattle.stun_types_wire.specs.Grammar.{number_at}
-use Rattle.turn_desk_reply.specs.Replies.{allocated_attributes, error_type, failure_attributes, success_type}
+use Rattle.stun_types.specs.declared.transport.TransportType.{TransportType}
+use Rattle.stun_types.specs.Attributes.{Attr}
+use Rattle.stun_types.specs.Grammar.{number_at}
+use Rattle.stun_types.specs.Objections.{error_type}
+use Rattle.turn_desk_reply.specs.Replies.{allocated_attributes, failure_attributes, success_type}
 use Rattle.turn_desk_core.specs.declared.decision.Decision.{Decision}
 use Rattle.turn_desk_core.specs.declared.decision.Decision.TheVariants.{Refuse, Allocate, Refresh, Connect, Grant}
 use Rattle.turn_desk_core.specs.declared.grant.Grant as granted
 use Rattle.turn_desk_core.specs.declared.verdict.Verdict.{Verdict}
 use Rattle.turn_desk_core.specs.declared.verdict.Verdict.TheVariants.{Fails, Allocates}
-use Rattle.turn_desk_core.specs.Requests.{allocate_method, transport_asked}
+use Rattle.turn_desk_core.specs.Requests.{transport_asked}
+use Rattle.turn_types.specs.TurnRegistry.{allocate_method}
+use Rattle.stun_types.specs.Registry.{bad_request_code, greatest_code, least_code, server_error_code}
 
 -- whether two addresses are of distinct families
 abbrev pub are_distinct : Bool → Bool → Bool
@@ -28,20 +31,20 @@ are_relayable (a ∷ b ∷ c ∷ rest) = false
 
 -- the code of a refusal, where it is one from 300 to 699: else the refusal doesn't fit
 abbrev pub refused_code : ℕ → ℕ
-refused_code code = if nat_lt code 300 || nat_lt 699 code then 500 else code
+refused_code code = if nat_lt code least_code || nat_lt greatest_code code then server_error_code else code
 
 -- what becomes of an ALLOCATE that asks for a transport
 abbrev pub decided : TransportType → Decision → Verdict
 decided transport (Refuse code) = Fails (refused_code code)
 decided transport (Allocate addresses lifetime) = if are_relayable addresses
-    then Allocates transport addresses lifetime else Fails 500
-decided transport (Refresh lifetime) = Fails 500
-decided transport (Connect number) = Fails 500
-decided transport Grant = Fails 500
+    then Allocates transport addresses lifetime else Fails server_error_code
+decided transport (Refresh lifetime) = Fails server_error_code
+decided transport (Connect number) = Fails server_error_code
+decided transport Grant = Fails server_error_code
 
 -- what becomes of an ALLOCATE: it fails with 400 where it asks for no transport that there is
 abbrev pub verdict : Option TransportType → Decision → Verdict
-verdict None decision = Fails 400
+verdict None decision = Fails bad_request_code
 verdict (Some transport) decision = decided transport decision
 
 -- what becomes of a request that is served, by the transport that it asks for

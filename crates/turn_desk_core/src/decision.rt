@@ -1,7 +1,7 @@
 //! What a driver decides of a request that has been validated.
 
 use std::net::SocketAddr;
-use stun_types_base::list::ListOf;
+use stun_types::ListOf;
 
 /// What the driver of a desk decides of a request. The desk judges whether the decision fits the
 /// request's method.

@@ -3,19 +3,20 @@
 ghost use Rattle.std.specs.Prelude.{◌≡◌, ◌≢◌, ◌↔◌, ◌≤◌, ◌++◌, ◌∷◌, IfOk, OnErr, IsSome, None, MatchOption, MatchResult, [], ℕ, List, length, true};
 ghost use Rattle.std.specs.Borrow.{sem};
 ghost use Rattle.std.specs.declared.net.socket_addr.SocketAddr.{SocketAddr};
-ghost use Rattle.stun_types_base.specs.Words.{stream_after};
-ghost use Rattle.stun_types_wire.specs.Attributes.{Attr};
-ghost use Rattle.stun_types_wire.specs.Grammar.{number_at};
-ghost use Rattle.stun_types_wire.specs.declared.algorithm.IntegrityAlgorithm.{IntegrityAlgorithm};
-ghost use Rattle.stun_types_write.specs.Adding.{IsBegun};
-ghost use Rattle.stun_types_write.specs.Lent.{own_draft};
-ghost use Rattle.stun_types_integrity.specs.Signing.{signing_refusal};
-ghost use Rattle.stun_types_attribute.specs.Texts.{longest_text};
-ghost use Rattle.stun_proto_judge.specs.Judgement.{is_response};
-ghost use Rattle.stun_proto_server.specs.Server.{SameFor, nonce_at, words_drawn};
-ghost use Rattle.turn_desk_reply.specs.Replies.{IsReply, error_type};
+ghost use Rattle.stun_types.specs.GeneratorWords.{stream_after};
+ghost use Rattle.stun_types.specs.Attributes.{Attr};
+ghost use Rattle.stun_types.specs.Grammar.{number_at};
+ghost use Rattle.stun_types.specs.IntegrityAlgorithms.{IntegrityAlgorithm};
+ghost use Rattle.stun_types.specs.Adding.{IsBegun};
+ghost use Rattle.stun_types.specs.Lent.{own_draft};
+ghost use Rattle.stun_types.specs.Signing.{signing_refusal};
+ghost use Rattle.stun_types.specs.Registry.{longest_text};
+ghost use Rattle.stun_proto.specs.Judgement.{is_response};
+ghost use Rattle.stun_proto.specs.Server.{SameFor, nonce_at, words_drawn};
+ghost use Rattle.stun_types.specs.Objections.{error_type};
+ghost use Rattle.turn_desk_reply.specs.Replies.{IsReply};
 ghost use Rattle.turn_desk_core.specs.declared.grant.Grant.{Grant as Granted};
-ghost use Rattle.turn_desk_core.specs.Lending.{LendsAuth};
+ghost use Rattle.turn_desk_core.specs.AuthLending.{LendsAuth};
 ghost use Rattle.turn_desk_core.specs.Requests.{IsServed};
 ghost use Rattle.turn_desk_core.specs.Steps.{IsAnswer, IsAuthAfter, IsGranted, IsSignedFor, IsTurnedReply, key_at, refusal_attributes};
 ghost use Rattle.turn_desk_core.specs.Verdicts.{allocation, grants_of, reply_attributes, reply_type, verdict_on};
@@ -23,22 +24,19 @@ ghost use Rattle.turn_desk_core.specs.Verdicts.{allocation, grants_of, reply_att
 use crate::decision::Decision;
 use crate::grant::Grant;
 use crate::request::is_served;
-use crate::verdict::{Verdict, judge};
+use crate::verdict::{Verdict, verdict_on};
 use rand_core::Rng;
 use std::alloc::Global;
 use std::marker::Model;
 use std::net::SocketAddr;
-use stun_proto_agent::instant::Instant;
-use stun_proto_judge::error::LongTermServerAuthError;
-use stun_proto_server::long_term::LongTermServerAuth;
-use stun_types::TransportType;
+use stun_proto::Instant;
+use stun_proto::auth::{LongTermServerAuth, LongTermServerAuthError};
 use stun_types::attribute::ErrorCode;
 use stun_types::message::{Message, MessageWrite, MessageWriteVec};
-use stun_types_base::list::ListOf;
-use stun_types_base::memory::NoMemory;
+use stun_types::{ListOf, NoMemory, TransportType};
 use turn_desk_reply::allocated::allocated;
 use turn_desk_reply::failure::{challenge, failure};
-use turn_types_attribute::method::ALLOCATE;
+use turn_types::message::ALLOCATE;
 
 /// A small server core. Contracts see its authenticator and what it granted.
 #[derive(Debug, Drop)]
@@ -205,7 +203,7 @@ impl Desk {
         }) }
         ensures err { OnErr result (self.new ≡ self.old) }
     {
-        match judge(self.alloc, request, decision)? {
+        match verdict_on(self.alloc, request, decision)? {
             Verdict::Fails(code) => {
                 let reply = failure(self.alloc, request, code)?;
                 self.sign(reply, from)

@@ -1,9 +1,8 @@
 //! What a desk granted.
 
 use std::net::SocketAddr;
-use stun_types::TransportType;
 use stun_types::message::{Method, TransactionId};
-use stun_types_base::list::ListOf;
+use stun_types::{ListOf, TransportType};
 
 /// What was granted in answer to one request. Fields that the method has no use for are empty.
 #[derive(Debug, Drop)]

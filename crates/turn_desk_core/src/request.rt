@@ -1,15 +1,15 @@
 //! What a desk looks for in a request.
 
 ghost use Rattle.std.specs.Prelude.{◌≡◌, ◌↔◌, IsTrue, None};
-ghost use Rattle.stun_types_wire.specs.Grammar.{refusal};
+ghost use Rattle.stun_types.specs.Grammar.{refusal};
 ghost use Rattle.turn_desk_core.specs.Requests.{IsServed, protocol_transport, transport_asked};
 
 use std::convert::TryFrom;
 use stun_types::TransportType;
 use stun_types::attribute::AttributeStaticType;
 use stun_types::message::{Message, MessageClass};
-use turn_types_attribute::method::ALLOCATE;
-use turn_types_attribute::requested_transport::RequestedTransport;
+use turn_types::attribute::RequestedTransport;
+use turn_types::message::ALLOCATE;
 
 /// Whether a message is a request that a desk serves: an ALLOCATE.
 pub(crate) fn is_served(message: &Message) -> bool

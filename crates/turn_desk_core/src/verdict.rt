@@ -7,11 +7,9 @@ use crate::decision::Decision;
 use crate::request::transport_asked;
 use std::alloc::Global;
 use std::net::SocketAddr;
-use stun_types::TransportType;
 use stun_types::attribute::ErrorCode;
 use stun_types::message::Message;
-use stun_types_base::list::ListOf;
-use stun_types_base::memory::NoMemory;
+use stun_types::{ListOf, NoMemory, TransportType};
 
 /// What becomes of a request.
 #[derive(Debug, Drop)]
@@ -32,7 +30,7 @@ pub(crate) enum Verdict {
 /// What becomes of an ALLOCATE by what the driver decided. Where the request asks for no transport
 /// that there is, it fails with 400; where it is refused, with the code; where the decision doesn't
 /// fit, with 500. Where memory is refused, `NoMemory`.
-pub(crate) fn judge(
+pub(crate) fn verdict_on(
     alloc: Global,
     request: &Message,
     decision: &Decision,

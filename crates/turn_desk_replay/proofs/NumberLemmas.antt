@@ -6,7 +6,7 @@ use Rattle.std.specs.Str.{all_ascii_digits}
 use Rattle.std.specs.Str.Parse.{digits_value, ParsesUnsigned}
 use Rattle.std.proofs.lemmas.Bool.{ltb-true, leb-true, lt-ltb, le-leb}
 use Rattle.std.proofs.lemmas.Str.Parse.{numerals_by_value, tells_all_ascii_digits, parse_plain, not_in_digits, IsNumeralModel}
-use Rattle.turn_desk_replay.specs.Number.{number_within}
+use Rattle.turn_desk_replay.specs.TraceNumbers.{number_within}
 
 number_yes : (a b c d : Bool) (x : ℕ) → a ≡ true → b ≡ true → c ≡ true → d ≡ true
     → (if (a && b) && (c && d) then Some x else None) ≡ Some x

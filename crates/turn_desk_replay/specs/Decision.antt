@@ -4,7 +4,8 @@ use Rattle.std.specs.List.{slice_split}
 use Rattle.turn_desk_core.specs.declared.decision.Decision.{Decision}
 use Rattle.turn_desk_core.specs.declared.decision.Decision.TheVariants.{Refuse, Allocate, Refresh, Connect, Grant}
 use Rattle.turn_desk_replay.specs.Address.{AreAddresses}
-use Rattle.turn_desk_replay.specs.Number.{number_within}
+use Rattle.turn_desk_replay.specs.TraceNumbers.{number_within}
+use Rattle.stun_types.specs.Registry.{greatest_code, least_code}
 
 -- the word spells a number of 32 bits
 abbrev pub IsU32 : List ℕ → ℕ → Type 0
@@ -12,7 +13,7 @@ IsU32 word n = number_within 0 (2 ^ 32 - 1) word ≡ Some n
 
 -- a name and a number spell the decision
 abbrev pub IsNumbered : List ℕ → List ℕ → Decision → Type 0
-IsNumbered name word (Refuse code) = (name ≡ codes "refuse") × (number_within 300 699 word ≡ Some code)
+IsNumbered name word (Refuse code) = (name ≡ codes "refuse") × (number_within least_code greatest_code word ≡ Some code)
 IsNumbered name word (Allocate addresses lifetime) = ⊥
 IsNumbered name word (Refresh lifetime) = (name ≡ codes "refresh") × IsU32 word lifetime
 IsNumbered name word (Connect number) = (name ≡ codes "connect") × IsU32 word number

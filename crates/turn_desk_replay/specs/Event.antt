@@ -2,16 +2,16 @@
 use Rattle.std.specs.Prelude.{ℕ, ◌≡◌, List, [], ◌∷◌, Some}
 use Rattle.std.specs.Net.Grammar.{IsSocketText}
 use Rattle.turn_desk_replay.specs.declared.event.ToDesk.{ToDesk}
-use Rattle.turn_desk_replay.specs.Bytes.{named_bytes}
+use Rattle.turn_desk_replay.specs.Bytes.{first_bytes, named_bytes}
 use Rattle.turn_desk_replay.specs.Decision.{IsDecision}
-use Rattle.turn_desk_replay.specs.Number.{number, number_within}
+use Rattle.turn_desk_replay.specs.TraceNumbers.{number, number_within}
 
 -- the words, of which the last ones are a decision, spell bytes that reach the desk
 pub record IsToDeskOf (answers : List (List ℕ)) (now from bytes seed : List ℕ) (decision : List (List ℕ))
     (event : ToDesk) : Type 0 where
   pub moment : number now ≡ Some event.now
   pub source : IsSocketText from event.from
-  pub named : named_bytes answers bytes ≡ Some event.bytes.items
+  pub named : first_bytes (named_bytes answers bytes) ≡ Some event.bytes.items
   pub seeded : number_within 0 255 seed ≡ Some event.seed
   pub decided : IsDecision decision event.decision
 

@@ -3,7 +3,7 @@ pub mod Answer
 pub mod Bytes
 pub mod Decision
 pub mod Event
-pub mod Line
-pub mod Number
+pub mod TraceLines
+pub mod TraceNumbers
 pub mod Replay
 pub mod Setup

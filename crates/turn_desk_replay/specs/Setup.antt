@@ -2,8 +2,7 @@
 use Rattle.std.specs.Prelude.{ℕ, ◌≡◌, ◌≤◌, List, [], ◌∷◌, length, codes}
 use Rattle.turn_desk_replay.specs.declared.setup.Algorithms.{Algorithms}
 use Rattle.turn_desk_replay.specs.declared.setup.Algorithms.TheVariants.{Sha1}
-use Rattle.stun_proto_auth.specs.declared.feature.Feature.{Feature}
-use Rattle.stun_proto_auth.specs.declared.feature.Feature.TheVariants.{Auto, Required, Disabled}
+use Rattle.stun_proto.specs.Features.{Feature, Auto, Required, Disabled}
 use Rattle.turn_desk_replay.specs.declared.setup.TheConstants.{MAX_REALM, MAX_USERNAME}
 use Rattle.turn_desk_replay.specs.declared.setup.Setup.{Setup}
 use Rattle.turn_desk_replay.specs.declared.setup.Setup.TheVariants.{Desk, User}

@@ -10,8 +10,7 @@ use program_lines::refusal::LineError;
 use program_lines::word::pieces;
 use std::alloc::Global;
 use std::net::SocketAddr;
-use stun_types_base::list::ListOf;
-use stun_types_base::memory::NoMemory;
+use stun_types::{ListOf, NoMemory};
 
 /// The transport address that a word spells, as `192.0.2.1:3478` or `[2001:db8::1]:3478`.
 pub fn read_address(word: &str) -> Option<SocketAddr>

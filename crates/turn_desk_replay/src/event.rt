@@ -12,7 +12,7 @@ use crate::number::{read_seed, read_u64};
 use program_lines::refusal::LineError;
 use std::alloc::Global;
 use std::net::SocketAddr;
-use stun_proto_agent::instant::Instant;
+use stun_proto::Instant;
 use turn_desk_core::decision::Decision;
 
 /// A line that is answered.

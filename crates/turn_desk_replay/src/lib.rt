@@ -2,7 +2,7 @@
 //! prints what each is answered. `docs/TRACE.md` has the language.
 //!
 //! The words of a line are read as numbers ([`number`]), addresses ([`address`]), bytes
-//! ([`bytes`]), decisions ([`decision`]) and then as a [`line`]. The [`replay`](mod@replay) does
+//! ([`bytes`]), decisions ([`decision`]) and then as a [`line`]. The [`trace`] does
 //! what each line says.
 #![tactic(auto)]
 
@@ -13,5 +13,5 @@ pub mod decision;
 pub mod event;
 pub mod line;
 pub mod number;
-pub mod replay;
 pub mod setup;
+pub mod trace;

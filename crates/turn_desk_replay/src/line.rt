@@ -2,7 +2,7 @@
 
 ghost use Rattle.std.specs.Prelude.{◌≡◌, Ok, Err, IfOk, MatchOption, map};
 ghost use Rattle.turn_desk_replay.specs.declared.line.Line.{Line};
-ghost use Rattle.turn_desk_replay.specs.Line.{IsLine, IsLineOf};
+ghost use Rattle.turn_desk_replay.specs.TraceLines.{IsLine, IsLineOf};
 
 use crate::answer::Answer;
 use crate::event::{Event, read_to_desk};

@@ -1,13 +1,16 @@
 //! Numbers of a trace: decimal digits alone, with no sign; zeros may lead.
 
 ghost use Rattle.std.specs.Prelude.{◌≡◌, ◌-◌, ◌^◌, ◌≤◌, IfSome};
-ghost use Rattle.turn_desk_replay.specs.Number.{number_within};
+ghost use Rattle.turn_desk_replay.specs.TraceNumbers.{number_within};
+ghost use Rattle.stun_types.specs.Registry.{greatest_code, least_code};
+
+use stun_types::registry;
 
 /// The least error code that a decision may have.
-pub const LEAST_CODE: u16 = 300;
+pub const LEAST_CODE: u16 = registry::MIN_ERROR_CODE;
 
 /// The greatest error code that a decision may have.
-pub const GREATEST_CODE: u16 = 699;
+pub const GREATEST_CODE: u16 = registry::MAX_ERROR_CODE;
 
 /// The number that a word of digits alone spells in decimal. None where another character stands
 /// in the word, where there is no digit, and for 2^64 and more.
@@ -56,7 +59,7 @@ pub fn read_seed(word: &str) -> Option<u8>
 
 /// An error code: 300 to 699 (RFC 8489, section 14.8).
 pub fn read_code(word: &str) -> Option<u16>
-    ensures { result ≡ number_within 300 699 word.now }
+    ensures { result ≡ number_within least_code greatest_code word.now }
 {
     let code = read_within(word, LEAST_CODE as u64, GREATEST_CODE as u64)?;
     Some(code as u16)

@@ -2,17 +2,18 @@
 
 ghost use Rattle.std.specs.Prelude.{◌≡◌, ◌≢◌, MatchOption, map};
 ghost use Rattle.turn_desk_replay.specs.declared.setup.Algorithms.{Algorithms};
-ghost use Rattle.stun_proto_auth.specs.declared.feature.Feature.{Feature};
+ghost use Rattle.stun_proto.specs.Features.{Feature};
 ghost use Rattle.turn_desk_replay.specs.declared.setup.Setup.{Setup};
 ghost use Rattle.turn_desk_replay.specs.Setup.{algorithms_word, anonymity_word, IsDesk, IsUser};
 
-use stun_proto_auth::feature::Feature as Anonymity;
+use stun_proto::auth::Feature as Anonymity;
+use stun_types::registry;
 
 /// The most bytes of a realm (RFC 8489, section 14.9).
-pub const MAX_REALM: usize = 763;
+pub const MAX_REALM: usize = registry::MAX_TEXT_LENGTH;
 
 /// The most bytes of a user's name (RFC 8489, section 14.3).
-pub const MAX_USERNAME: usize = 513;
+pub const MAX_USERNAME: usize = registry::MAX_USERNAME_LENGTH;
 
 /// The algorithms that a desk supports.
 #[derive(Clone, Copy, Debug, PartialEq, Eq)]

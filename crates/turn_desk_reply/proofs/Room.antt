@@ -3,24 +3,26 @@ use Rattle.std.specs.Prelude.{option_to_list, slice_get}
 use Rattle.std.proofs.Common.{◌≡◌, ℕ, ◌+◌, ◌≤◌, List, [], ◌∷◌, ◌++◌, length, Option, None, Some, refl, sym, ap, subst, ◌∙◌, append_assoc, arith}
 use Rattle.std.specs.declared.net.socket_addr.SocketAddr.{SocketAddr}
 use Rattle.std.proofs.lemmas.Bool.{le-ltb}
-use Rattle.stun_types_base.specs.Refusals.{IsCause}
+use Rattle.stun_types.specs.Refusals.{IsCause}
 use Rattle.byteorder.specs.Endian.{big_bytes}
-use Rattle.stun_types_wire.specs.declared.error.StunWriteError.{StunWriteError}
-use Rattle.stun_types_wire.specs.declared.error.StunWriteError.TheVariants.{AttributeExists, FingerprintExists, IntegrityFailed, MessageIntegrityExists, NoMemory, OutOfRange, TooLarge, TooSmall}
-use Rattle.stun_types_wire.specs.Attributes.{Attr, attr_size}
-use Rattle.stun_types_wire.specs.Text.{body_text, message_text}
-use Rattle.stun_types_write.specs.Adding.{add_refusal, attr_of}
-use Rattle.stun_types_write.specs.Drafts.{Draft, empty}
-use Rattle.stun_types_write.specs.Outcomes.{IsAdded}
-use Rattle.stun_types_build.specs.Calls.{IsComposed}
+use Rattle.stun_types.specs.WriteErrors.{StunWriteError, AttributeExists, FingerprintExists, IntegrityFailed, MessageIntegrityExists, NoMemory, OutOfRange, TooLarge, TooSmall}
+use Rattle.stun_types.specs.Attributes.{Attr, attr_size}
+use Rattle.stun_types.specs.Text.{body_text, message_text}
+use Rattle.stun_types.specs.Adding.{add_refusal, attr_of}
+use Rattle.stun_types.specs.Drafts.{Draft, empty}
+use Rattle.stun_types.specs.Outcomes.{IsAdded}
+use Rattle.stun_types.specs.Calls.{IsComposed}
 use Rattle.stun_types_build.proofs.Taken.{composed_more}
-use Rattle.stun_types_address.specs.Addresses.{address_value}
-use Rattle.stun_types_address.specs.Xor.{xored}
-use Rattle.stun_types_attribute.specs.Errors.{CodeAndOther, error_refusal, reason_of}
-use Rattle.stun_types_attribute.specs.Texts.{longest_text, text_refusal}
-use Rattle.turn_desk_reply.specs.Replies.{error_attribute, relayed_attribute, relayed_attributes}
+use Rattle.stun_types.specs.Addresses.{address_value}
+use Rattle.stun_types.specs.Xor.{xored}
+use Rattle.stun_types.specs.ErrorCodes.{CodeAndOther, error_refusal, reason_of}
+use Rattle.stun_types.specs.Texts.{text_refusal}
+use Rattle.stun_types.specs.Registry.{longest_text, xor_mapped_address_kind}
+use Rattle.stun_types.specs.Objections.{error_attribute}
+use Rattle.turn_desk_reply.specs.Replies.{relayed_attribute, relayed_attributes}
 use Rattle.turn_desk_reply.proofs.Adding.{relayed-parts}
 use Rattle.turn_desk_reply.proofs.Sizes.{allocated-length, body-length, lifetime_of, mapped_of, no_body, reason-short, relayed-length, text-length, xored_short}
+use Rattle.turn_types.specs.TurnRegistry.{lifetime_kind}
 
 -- where there is no cause, an error is want of memory
 pub only_memory : (refusal : Option StunWriteError) (error : StunWriteError) → IsCause NoMemory refusal error → refusal ≡ None → error ≡ NoMemory
@@ -106,19 +108,19 @@ first-length kind number own (Some addr) =
 pub lifetime_room : (kind m n : ℕ) (relayed : List SocketAddr) (from : SocketAddr) (first second : Option SocketAddr) (old two : Draft) (seconds : ℕ)
     → m ≡ n → length relayed ≤ 2 → first ≡ slice_get relayed 0 → second ≡ slice_get relayed 1 → old ≡ empty [] None
     → IsComposed kind m (relayed_attributes m (option_to_list first) ++ relayed_attributes m (option_to_list second)) old two
-    → add_refusal two (attr_size (attr_of 0x000D (big_bytes 4 seconds))) ≡ None
+    → add_refusal two (attr_size (attr_of lifetime_kind (big_bytes 4 seconds))) ≡ None
 lifetime_room kind m n relayed from first second old two seconds number few one other new composed =
     let all = relayed_attributes n relayed in
     let r2 = relayed-parts kind m n relayed first second old two number few one other composed in
     let short = prefix-length kind n all (lifetime_of seconds ∷ mapped_of n from ∷ []) (allocated-length kind n seconds from relayed few) in
-    room_left kind n all old two (attr_size (attr_of 0x000D (big_bytes 4 seconds))) new r2 short (omega arith)
+    room_left kind n all old two (attr_size (attr_of lifetime_kind (big_bytes 4 seconds))) new r2 short (omega arith)
 
 -- for XOR-MAPPED-ADDRESS, behind LIFETIME
 pub mapped_room : (kind m n : ℕ) (relayed : List SocketAddr) (from : SocketAddr) (first second : Option SocketAddr) (old two three : Draft) (seconds : ℕ) (mapped : List ℕ)
     → m ≡ n → length relayed ≤ 2 → first ≡ slice_get relayed 0 → second ≡ slice_get relayed 1 → old ≡ empty [] None
     → IsComposed kind m (relayed_attributes m (option_to_list first) ++ relayed_attributes m (option_to_list second)) old two
-    → IsAdded (attr_of 0x000D (big_bytes 4 seconds)) two three → add_refusal two (attr_size (attr_of 0x000D (big_bytes 4 seconds))) ≡ None
-    → mapped ≡ xored m (address_value from) → add_refusal three (attr_size (attr_of 0x0020 mapped)) ≡ None
+    → IsAdded (attr_of lifetime_kind (big_bytes 4 seconds)) two three → add_refusal two (attr_size (attr_of lifetime_kind (big_bytes 4 seconds))) ≡ None
+    → mapped ≡ xored m (address_value from) → add_refusal three (attr_size (attr_of xor_mapped_address_kind mapped)) ≡ None
 mapped_room kind m n relayed from first second old two three seconds mapped number few one other new composed added accepted seen =
     let all = relayed_attributes n relayed in
     let r2 = relayed-parts kind m n relayed first second old two number few one other composed in
@@ -126,5 +128,5 @@ mapped_room kind m n relayed from first second old two three seconds mapped numb
     let whole = subst (λ (l : List Attr). length (message_text kind n l) ≤ 4096) (sym (append_assoc all (lifetime_of seconds ∷ []) (mapped_of n from ∷ []))) (allocated-length kind n seconds from relayed few) in
     let short = prefix-length kind n (all ++ lifetime_of seconds ∷ []) (mapped_of n from ∷ []) whole in
     let fits = xored_short m (address_value from) in
-    let size : attr_size (attr_of 0x0020 (xored m (address_value from))) ≤ 4096 = omega (arith, fits) in
-    room_left kind n (all ++ lifetime_of seconds ∷ []) old three (attr_size (attr_of 0x0020 mapped)) new r3 short (rw seen size)
+    let size : attr_size (attr_of xor_mapped_address_kind (xored m (address_value from))) ≤ 4096 = omega (arith, fits) in
+    room_left kind n (all ++ lifetime_of seconds ∷ []) old three (attr_size (attr_of xor_mapped_address_kind mapped)) new r3 short (rw seen size)

@@ -6,19 +6,20 @@ use Rattle.std.specs.List.{AllByRecursion}
 use Rattle.std.proofs.lemmas.Bool.{le-ltb}
 use Rattle.std.proofs.lemmas.List.{length-append}
 use Rattle.byteorder.specs.Endian.{big_bytes}
-use Rattle.stun_types_wire.specs.declared.algorithm.IntegrityAlgorithm.{IntegrityAlgorithm}
-use Rattle.stun_types_wire.specs.declared.algorithm.IntegrityAlgorithm.TheVariants.{Sha1, Sha256}
-use Rattle.stun_types_wire.specs.Attributes.{Attr, attr_size}
-use Rattle.stun_types_wire.specs.Text.{header_text, attribute_text, body_text, message_text}
-use Rattle.stun_types_write.specs.Drafts.{Draft, empty, none_ended}
-use Rattle.stun_types_build.specs.Calls.{IsComposed, IsOrdinary}
+use Rattle.stun_types.specs.IntegrityAlgorithms.{IntegrityAlgorithm, Sha1, Sha256}
+use Rattle.stun_types.specs.Attributes.{Attr, attr_size}
+use Rattle.stun_types.specs.Text.{header_text, attribute_text, body_text, message_text}
+use Rattle.stun_types.specs.Drafts.{Draft, empty, none_ended}
+use Rattle.stun_types.specs.Calls.{IsComposed, IsOrdinary}
 use Rattle.stun_types_build.proofs.Adds.{length-attribute_text}
-use Rattle.stun_types_address.specs.Addresses.{address_value}
-use Rattle.stun_types_address.specs.Xor.{xor_bytes, xored, octets_mask}
-use Rattle.stun_types_attribute.specs.Errors.{CodeAndOther, reason_for, reason_of}
-use Rattle.stun_types_attribute.specs.Texts.{longest_text}
-use Rattle.stun_types_integrity.specs.Signing.{order_refusal, signing_refusal}
-use Rattle.turn_desk_reply.specs.Replies.{IsReply, allocated_attributes, challenge_attributes, error_attribute, failure_attributes, relayed_attribute}
+use Rattle.stun_types.specs.Addresses.{address_value}
+use Rattle.stun_types.specs.Xor.{xor_bytes, xored, octets_mask}
+use Rattle.stun_types.specs.ErrorCodes.{CodeAndOther, reason_for, reason_of}
+use Rattle.stun_types.specs.Registry.{longest_text, nonce_kind, realm_kind, xor_mapped_address_kind}
+use Rattle.stun_types.specs.Signing.{order_refusal, signing_refusal}
+use Rattle.stun_types.specs.Objections.{error_attribute}
+use Rattle.turn_desk_reply.specs.Replies.{IsReply, allocated_attributes, challenge_attributes, failure_attributes, relayed_attribute}
+use Rattle.turn_types.specs.TurnRegistry.{lifetime_kind}
 
 -- an xor is no longer than what it is made with
 xor_short : (bytes mask : List ℕ) → length (xor_bytes bytes mask) ≤ length mask
@@ -83,10 +84,10 @@ signable reply none free short Sha256 = rw (none, free, le-ltb (20 + 65_535) (le
 
 -- the attributes of a success but for the relayed addresses
 abbrev pub lifetime_of : ℕ → Attr
-lifetime_of lifetime = record { kind = 0x000D; value = big_bytes 4 lifetime }
+lifetime_of lifetime = record { kind = lifetime_kind; value = big_bytes 4 lifetime }
 
 abbrev pub mapped_of : ℕ → SocketAddr → Attr
-mapped_of number from = record { kind = 0x0020; value = xored number (address_value from) }
+mapped_of number from = record { kind = xor_mapped_address_kind; value = xored number (address_value from) }
 
 pub end-length : (number lifetime : ℕ) (from : SocketAddr) → length (body_text (lifetime_of lifetime ∷ mapped_of number from ∷ [])) ≤ 32
 end-length number lifetime from =
@@ -131,8 +132,8 @@ failure-length kind number code =
 pub challenge-length : (kind number code : ℕ) (realm nonce : List ℕ) → length realm ≤ longest_text → length nonce ≤ longest_text → length (message_text kind number (challenge_attributes code realm nonce)) ≤ 4096
 challenge-length kind number code realm nonce r m =
     let reason = reason-short code in
-    let a : Attr = record { kind = 0x0014; value = realm } in
-    let b : Attr = record { kind = 0x0015; value = nonce } in
+    let a : Attr = record { kind = realm_kind; value = realm } in
+    let b : Attr = record { kind = nonce_kind; value = nonce } in
     let text = text-length kind number (challenge_attributes code realm nonce) in
     let s1 = body-length (a ∷ b ∷ []) (error_attribute code) in
     let s2 = body-length (b ∷ []) a in

@@ -3,29 +3,23 @@ use Rattle.std.specs.Prelude.{◌≡◌, ℕ, List, [], ◌∷◌, ◌++◌, map
 use Rattle.std.specs.List.{AllByRecursion}
 use Rattle.std.specs.declared.net.socket_addr.SocketAddr.{SocketAddr}
 use Rattle.byteorder.specs.Endian.{big_bytes}
-use Rattle.stun_types_wire.specs.declared.algorithm.IntegrityAlgorithm.{IntegrityAlgorithm}
-use Rattle.stun_types_wire.specs.declared.class.MessageClass.TheVariants.{Success, Error}
-use Rattle.stun_types_wire.specs.Attributes.{Attr, kind_at}
-use Rattle.stun_types_wire.specs.Types.{method_of, type_of}
-use Rattle.stun_types_wire.specs.Text.{message_text}
-use Rattle.stun_types_write.specs.Drafts.{Draft, empty}
-use Rattle.stun_types_build.specs.Calls.{IsComposed, IsOrdinary}
-use Rattle.stun_types_address.specs.Addresses.{address_value}
-use Rattle.stun_types_address.specs.Xor.{xored}
-use Rattle.stun_types_attribute.specs.Errors.{error_value, reason_for}
-use Rattle.stun_types_integrity.specs.Signing.{signature, signing_refusal}
-
--- the type of the error response to a request
-abbrev pub error_type : List ℕ → ℕ
-error_type request = type_of Error (method_of (kind_at request))
+use Rattle.stun_types.specs.IntegrityAlgorithms.{IntegrityAlgorithm}
+use Rattle.stun_types.specs.MessageClasses.{Success}
+use Rattle.stun_types.specs.Attributes.{Attr, kind_at}
+use Rattle.stun_types.specs.Types.{method_of, type_of}
+use Rattle.stun_types.specs.Text.{message_text}
+use Rattle.stun_types.specs.Drafts.{Draft, empty}
+use Rattle.stun_types.specs.Calls.{IsComposed, IsOrdinary}
+use Rattle.stun_types.specs.Addresses.{address_value}
+use Rattle.stun_types.specs.Xor.{xored}
+use Rattle.stun_types.specs.Objections.{error_attribute}
+use Rattle.stun_types.specs.Signing.{signature, signing_refusal}
+use Rattle.turn_types.specs.TurnRegistry.{lifetime_kind, xor_relayed_address_kind}
+use Rattle.stun_types.specs.Registry.{nonce_kind, realm_kind, xor_mapped_address_kind}
 
 -- the type of the success response to a request
 abbrev pub success_type : List ℕ → ℕ
 success_type request = type_of Success (method_of (kind_at request))
-
--- ERROR-CODE, with the reason that goes with the code
-abbrev pub error_attribute : ℕ → Attr
-error_attribute code = record { kind = 0x0009; value = error_value (record { code = code; reason = reason_for code }) }
 
 -- what an error response shows: ERROR-CODE
 abbrev pub failure_attributes : ℕ → List Attr
@@ -35,13 +29,13 @@ failure_attributes code = error_attribute code ∷ []
 abbrev pub challenge_attributes : ℕ → List ℕ → List ℕ → List Attr
 challenge_attributes code realm nonce =
     error_attribute code
-    ∷ record { kind = 0x0014; value = realm }
-    ∷ record { kind = 0x0015; value = nonce }
+    ∷ record { kind = realm_kind; value = realm }
+    ∷ record { kind = nonce_kind; value = nonce }
     ∷ []
 
 -- XOR-RELAYED-ADDRESS of an address, in a message of this number
 abbrev pub relayed_attribute : ℕ → SocketAddr → Attr
-relayed_attribute number addr = record { kind = 0x0016; value = xored number (address_value addr) }
+relayed_attribute number addr = record { kind = xor_relayed_address_kind; value = xored number (address_value addr) }
 
 abbrev pub relayed_attributes : ℕ → List SocketAddr → List Attr
 relayed_attributes number addrs = map (relayed_attribute number) addrs
@@ -51,8 +45,8 @@ relayed_attributes number addrs = map (relayed_attribute number) addrs
 abbrev pub allocated_attributes : ℕ → List SocketAddr → ℕ → SocketAddr → List Attr
 allocated_attributes number relayed lifetime from =
     relayed_attributes number relayed
-    ++ record { kind = 0x000D; value = big_bytes 4 lifetime }
-    ∷ record { kind = 0x0020; value = xored number (address_value from) }
+    ++ record { kind = lifetime_kind; value = big_bytes 4 lifetime }
+    ∷ record { kind = xor_mapped_address_kind; value = xored number (address_value from) }
     ∷ []
 
 -- a reply that is written: a message was begun, and these ordinary attributes were added; nothing but

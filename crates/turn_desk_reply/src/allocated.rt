@@ -2,23 +2,22 @@
 
 ghost use Rattle.std.specs.Prelude.{◌≡◌, ◌≤◌, ◌++◌, length, ℕ, List, None, IfOk, IfErr, OnOk, option_to_list};
 ghost use Rattle.std.specs.Option.{option_copied};
-ghost use Rattle.stun_types_wire.specs.Attributes.{Attr, attr_size, kind_at};
-ghost use Rattle.stun_types_wire.specs.Types.{class_of};
-ghost use Rattle.stun_types_wire.specs.Grammar.{number_at};
-ghost use Rattle.stun_types_wire.specs.declared.class.MessageClass.TheVariants.{Request};
-ghost use Rattle.stun_types_write.specs.Adding.{IsBegun, add_refusal};
-ghost use Rattle.stun_types_write.specs.Drafts.{Draft};
-ghost use Rattle.stun_types_write.specs.Lent.{own_draft};
-ghost use Rattle.stun_types_build.specs.Calls.{IsComposed};
+ghost use Rattle.stun_types.specs.Attributes.{Attr, attr_size, kind_at};
+ghost use Rattle.stun_types.specs.Types.{class_of};
+ghost use Rattle.stun_types.specs.Grammar.{number_at};
+ghost use Rattle.stun_types.specs.MessageClasses.{Request};
+ghost use Rattle.stun_types.specs.Adding.{IsBegun, add_refusal};
+ghost use Rattle.stun_types.specs.Drafts.{Draft};
+ghost use Rattle.stun_types.specs.Lent.{own_draft};
+ghost use Rattle.stun_types.specs.Calls.{IsComposed};
 ghost use Rattle.turn_desk_reply.specs.Replies.{IsReply, allocated_attributes, relayed_attribute, relayed_attributes, success_type};
 
 use std::alloc::Global;
 use std::net::SocketAddr;
+use stun_types::NoMemory;
 use stun_types::attribute::XorMappedAddress;
 use stun_types::message::{Message, MessageWriteVec, StunWriteError, TransactionId, add_as};
-use stun_types_base::memory::NoMemory;
-use turn_types_attribute::lifetime::Lifetime;
-use turn_types_attribute::xor_relayed_address::XorRelayedAddress;
+use turn_types::attribute::{Lifetime, XorRelayedAddress};
 
 /// The success response to an ALLOCATE that came from an address: it shows XOR-RELAYED-ADDRESS for
 /// each relayed address, in order, LIFETIME in seconds, and XOR-MAPPED-ADDRESS of where the request

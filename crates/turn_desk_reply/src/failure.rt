@@ -1,25 +1,26 @@
 //! Error responses (RFC 8489, section 6.3.4).
 
 ghost use Rattle.std.specs.Prelude.{◌≡◌, ◌≤◌, IfOk, IfErr, length};
-ghost use Rattle.stun_types_wire.specs.Attributes.{kind_at};
-ghost use Rattle.stun_types_wire.specs.Types.{class_of};
-ghost use Rattle.stun_types_wire.specs.Grammar.{number_at};
-ghost use Rattle.stun_types_wire.specs.declared.class.MessageClass.TheVariants.{Request};
-ghost use Rattle.stun_types_attribute.specs.Texts.{longest_text};
-ghost use Rattle.stun_types_write.specs.Lent.{own_draft};
-ghost use Rattle.turn_desk_reply.specs.Replies.{IsReply, challenge_attributes, error_type, failure_attributes};
+ghost use Rattle.stun_types.specs.Attributes.{kind_at};
+ghost use Rattle.stun_types.specs.Types.{class_of};
+ghost use Rattle.stun_types.specs.Grammar.{number_at};
+ghost use Rattle.stun_types.specs.MessageClasses.{Request};
+ghost use Rattle.stun_types.specs.Registry.{longest_text, greatest_code, least_code};
+ghost use Rattle.stun_types.specs.Lent.{own_draft};
+ghost use Rattle.stun_types.specs.Objections.{error_type};
+ghost use Rattle.turn_desk_reply.specs.Replies.{IsReply, challenge_attributes, failure_attributes};
 
 use std::alloc::Global;
+use stun_types::NoMemory;
 use stun_types::attribute::{ErrorCode, Nonce, Realm};
 use stun_types::message::{Message, MessageWriteVec, StunWriteError, add_as};
-use stun_types_base::memory::NoMemory;
 
 /// The error response to a request that shows the code, with the reason that goes with it, and
 /// nothing else. Where memory is refused, `NoMemory`.
 pub fn failure(alloc: Global, request: &Message, code: u16) -> Result<MessageWriteVec, NoMemory>
     requires request { class_of (kind_at request.now) ≡ Request }
-    requires least { 300 ≤ code }
-    requires most { code ≤ 699 }
+    requires least { least_code ≤ code }
+    requires most { code ≤ greatest_code }
     ensures { IfOk result (λ reply. IsReply (error_type request.now) (number_at request.now)
         (failure_attributes code) (own_draft reply)) }
 {
@@ -41,8 +42,8 @@ pub fn challenge(
     nonce: &str,
 ) -> Result<MessageWriteVec, NoMemory>
     requires request { class_of (kind_at request.now) ≡ Request }
-    requires least { 300 ≤ code }
-    requires most { code ≤ 699 }
+    requires least { least_code ≤ code }
+    requires most { code ≤ greatest_code }
     requires realm { length realm.now ≤ longest_text }
     requires nonce { length nonce.now ≤ longest_text }
     ensures { IfOk result (λ reply. IsReply (error_type request.now) (number_at request.now)
@@ -62,8 +63,8 @@ fn write_failure(
     code: u16,
 ) -> Result<MessageWriteVec, StunWriteError>
     requires request { class_of (kind_at request.now) ≡ Request }
-    requires least { 300 ≤ code }
-    requires most { code ≤ 699 }
+    requires least { least_code ≤ code }
+    requires most { code ≤ greatest_code }
     ensures reply { IfOk result (λ reply. IsReply (error_type request.now) (number_at request.now)
         (failure_attributes code) (own_draft reply)) }
     ensures memory { IfErr result (λ error. error ≡ StunWriteError.NoMemory) }
@@ -83,8 +84,8 @@ fn write_challenge(
     nonce: &str,
 ) -> Result<MessageWriteVec, StunWriteError>
     requires request { class_of (kind_at request.now) ≡ Request }
-    requires least { 300 ≤ code }
-    requires most { code ≤ 699 }
+    requires least { least_code ≤ code }
+    requires most { code ≤ greatest_code }
     requires realm { length realm.now ≤ longest_text }
     requires nonce { length nonce.now ≤ longest_text }
     ensures reply { IfOk result (λ reply. IsReply (error_type request.now) (number_at request.now)

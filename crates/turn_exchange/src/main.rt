@@ -8,12 +8,12 @@
 //! twice, with which the exchange ends.
 #![tactic(auto)]
 
-mod exchange;
 mod requests;
 mod step;
+mod steps;
 
-use crate::exchange::Exchange;
 use crate::step::STEPS;
+use crate::steps::Exchange;
 use std::io;
 use std::process::ExitCode;
 

@@ -2,9 +2,9 @@
 //! into lent bytes; and what writers tell.
 
 ghost use Rattle.std.specs.Prelude.{◌≡◌, ◌<◌, ◌^◌, length, IfOk};
-ghost use Rattle.stun_types_wire.specs.Shape.{rank};
-ghost use Rattle.stun_types_write.specs.Adding.{IsBegun};
-ghost use Rattle.stun_types_write.specs.Outcomes.{CanBegin};
+ghost use Rattle.stun_types.specs.Shape.{rank};
+ghost use Rattle.stun_types.specs.Adding.{IsBegun};
+ghost use Rattle.stun_types.specs.Outcomes.{CanBegin};
 
 use crate::samples::{credentials_of_samples, credentials_of_user};
 use rand_chacha::ChaCha20Rng;
@@ -292,11 +292,7 @@ fn make_add<W: MessageWrite>(
         Add::Algorithm => add_raw(writer, AttributeType(0x001D), &[0, 2, 0, 0]),
         Add::Lifetime => add_raw(writer, AttributeType(0x000D), &[0, 0, 2, 0x58]),
         Add::Transport => add_raw(writer, AttributeType(0x0019), &[17, 0, 0, 0]),
-        Add::Zeros(count) => {
-            let mut zeros = Vec::new(alloc);
-            zeros.resize(usize::from(count), 0)?;
-            add_raw(writer, AttributeType(0x0022), zeros.as_slice())
-        }
+        Add::Zeros(count) => add_zeros(alloc, writer, count)?,
         Add::Username(name) => writer.add_attribute(&Username::new(alloc, name)?),
         Add::Realm(realm) => writer.add_attribute(&Realm::new(alloc, realm)?),
         Add::Nonce(nonce) => writer.add_attribute(&Nonce::new(alloc, nonce)?),
@@ -322,6 +318,20 @@ fn make_add<W: MessageWrite>(
         Add::Fingerprint => writer.add_fingerprint(),
     };
     Ok(answer)
+}
+
+/// Adds an attribute of a type that nothing names, with so many zeros.
+fn add_zeros<W: MessageWrite>(
+    alloc: Global,
+    writer: &mut W,
+    count: u16,
+) -> Result<Result<(), StunWriteError>, Fail>
+    requires { IsBegun (W.draft writer.old).bytes }
+    ensures { IsBegun (W.draft writer.new).bytes }
+{
+    let mut zeros = Vec::new(alloc);
+    zeros.resize(usize::from(count), 0)?;
+    Ok(add_raw(writer, AttributeType(0x0022), zeros.as_slice()))
 }
 
 /// Adds what a line asks for, and is answered as it says. What is refused changes nothing.

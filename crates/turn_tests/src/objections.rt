@@ -1,10 +1,10 @@
 //! Error responses to requests of whose attributes something is wrong.
 
 ghost use Rattle.std.specs.Prelude.{◌≡◌};
-ghost use Rattle.stun_types_wire.specs.Attributes.{kind_at};
-ghost use Rattle.stun_types_wire.specs.Types.{class_of};
-ghost use Rattle.stun_types_wire.specs.declared.class.MessageClass.TheVariants.{Request};
-ghost use Rattle.stun_types_write.specs.Outcomes.{CanBegin};
+ghost use Rattle.stun_types.specs.Attributes.{kind_at};
+ghost use Rattle.stun_types.specs.Types.{class_of};
+ghost use Rattle.stun_types.specs.MessageClasses.{Request};
+ghost use Rattle.stun_types.specs.Outcomes.{CanBegin};
 
 use crate::samples::UNSIGNED;
 use std::alloc::Global;

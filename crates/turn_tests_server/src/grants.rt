@@ -11,9 +11,7 @@ use std::process::Abort;
 use std::test::Fail;
 use stun_types::TransportType;
 use stun_types::message::{Method, TransactionId};
-use turn_desk_core::decision::Decision;
-use turn_desk_core::desk::Desk;
-use turn_desk_core::grant::Grant;
+use turn_desk::{Decision, Desk, Grant};
 use turn_desk_replay::event::{ToDesk, read_to_desk};
 
 /// A request that is challenged, with a number of its own.

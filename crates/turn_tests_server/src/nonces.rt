@@ -6,11 +6,11 @@ use rand_core::SeedableRng;
 use std::net::SocketAddr;
 use std::test::Fail;
 use std::time::Duration;
-use stun_proto_agent::instant::Instant;
-use stun_proto_auth::feature::Feature;
-use stun_proto_auth::nonce::{NONCE_WORDS, NonceFeatures, write_nonce};
-use stun_proto_auth::supported::SupportedIntegrity;
-use stun_proto_server::long_term::LongTermServerAuth;
+use stun_proto::Instant;
+use stun_proto::auth::{
+    Feature, LongTermServerAuth, NONCE_WORDS, NonceFeatures, SupportedIntegrity,
+};
+use stun_proto_auth::nonce::write_nonce;
 use stun_types::message::IntegrityAlgorithm;
 
 const MINUTE: u64 = 60_000_000_000;

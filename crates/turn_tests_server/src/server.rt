@@ -1,10 +1,10 @@
 //! A server's calls by themselves: what it answers to messages and keeps of them, and what it signs.
 
 ghost use Rattle.std.specs.Prelude.{[], ◌≡◌, IfOk};
-ghost use Rattle.stun_types_wire.specs.Text.{message_text};
-ghost use Rattle.stun_types_wire.specs.Types.{type_of};
-ghost use Rattle.stun_types_write.specs.Adding.{IsBegun};
-ghost use Rattle.stun_types_write.specs.Drafts.{none_ended};
+ghost use Rattle.stun_types.specs.Text.{message_text};
+ghost use Rattle.stun_types.specs.Types.{type_of};
+ghost use Rattle.stun_types.specs.Adding.{IsBegun};
+ghost use Rattle.stun_types.specs.Drafts.{none_ended};
 
 use crate::rows::words;
 use rand_chacha::ChaCha20Rng;
@@ -13,12 +13,11 @@ use std::alloc::Global;
 use std::net::SocketAddr;
 use std::process::Abort;
 use std::test::Fail;
-use stun_proto_agent::instant::Instant;
-use stun_proto_judge::error::{
-    LongTermServerAuthError as Error, LongTermServerAuthErrorReason as Reason,
+use stun_proto::Instant;
+use stun_proto::auth::{
+    LongTermServerAuth, LongTermServerAuthError as Error, LongTermServerAuthErrorReason as Reason,
+    LongTermServerValidation,
 };
-use stun_proto_server::long_term::LongTermServerAuth;
-use stun_proto_server::validation::LongTermServerValidation;
 use stun_types::NoMemory;
 use stun_types::message::{
     IntegrityAlgorithm, LongTermCredentials, Message, MessageClass, MessageType, MessageWrite,
@@ -61,29 +60,29 @@ integrity-failed 000300582112a44200000000000000000000739200190004110000000006000
 # a MESSAGE-INTEGRITY of four bytes
 integrity-failed 000300482112a44200000000000000000000739200190004110000000006000475736572001400057265616c6d0000000015001d6f624d61744a6f733251414141677969446249435877504461513168610000000008000401020304";
 
-/// What was done before, the class of a message without attributes, where it goes, how many bytes the server
+/// The class of a message without attributes, what was done before, where it goes, how many bytes the server
 /// tells of a request or else of a response, and what it makes of the message.
 const REPLIES: &str = "\
 # the client's last message was validated as one of `user`, whose password is `pass`, or `word` by now
-validated success 192.168.0.1:1000 24 010300182112a44200000000000000000000739200080014eec19a641d62befa07d8b46ac8b92b04c34e0b22
-validated error 192.168.0.1:1000 24 011300182112a442000000000000000000007392000800143407f870569d9e53aa550a3a39607ac86710c8d4
-validated request 192.168.0.1:1000 80 000300502112a4420000000000000000000073920006000475736572001400057265616c6d0000000015001d6f624d61744a6f7332514141416779694462494358775044615131686100000000080014ab4fe3eb6c9068ec18ea4bf9df6251fc4fb0a2df
-validated indication 192.168.0.1:1000 24 001300002112a442000000000000000000007392
-word success 192.168.0.1:1000 24 010300182112a442000000000000000000007392000800147e6be2dee3aacbbceaeb6b16ab3f2f69e7155dd3
+success validated 192.168.0.1:1000 24 010300182112a44200000000000000000000739200080014eec19a641d62befa07d8b46ac8b92b04c34e0b22
+error validated 192.168.0.1:1000 24 011300182112a442000000000000000000007392000800143407f870569d9e53aa550a3a39607ac86710c8d4
+request validated 192.168.0.1:1000 80 000300502112a4420000000000000000000073920006000475736572001400057265616c6d0000000015001d6f624d61744a6f7332514141416779694462494358775044615131686100000000080014ab4fe3eb6c9068ec18ea4bf9df6251fc4fb0a2df
+indication validated 192.168.0.1:1000 24 001300002112a442000000000000000000007392
+success word 192.168.0.1:1000 24 010300182112a442000000000000000000007392000800147e6be2dee3aacbbceaeb6b16ab3f2f69e7155dd3
 # another user was removed, or this one
-other error 192.168.0.1:1000 24 011300182112a442000000000000000000007392000800143407f870569d9e53aa550a3a39607ac86710c8d4
-removed success 192.168.0.1:1000 0 refused
-removed error 192.168.0.1:1000 0 refused
-removed indication 192.168.0.1:1000 0 refused
+error other 192.168.0.1:1000 24 011300182112a442000000000000000000007392000800143407f870569d9e53aa550a3a39607ac86710c8d4
+success removed 192.168.0.1:1000 0 refused
+error removed 192.168.0.1:1000 0 refused
+indication removed 192.168.0.1:1000 0 refused
 # its last message was not validated, the first one of all or a later one
-stranger error 192.168.0.1:1000 48 011300302112a442000000000000000000007392001400057265616c6d0000000015001d6f624d61744a6f73325141414167796944624943587750446151316861000000
-stranger success 192.168.0.1:1000 48 refused
-stranger request 192.168.0.1:1000 0 refused
-stranger indication 192.168.0.1:1000 48 refused
-refused success 192.168.0.1:1000 48 refused
+error stranger 192.168.0.1:1000 48 011300302112a442000000000000000000007392001400057265616c6d0000000015001d6f624d61744a6f73325141414167796944624943587750446151316861000000
+success stranger 192.168.0.1:1000 48 refused
+request stranger 192.168.0.1:1000 0 refused
+indication stranger 192.168.0.1:1000 48 refused
+success refused 192.168.0.1:1000 48 refused
 # to another address
-validated success 192.168.0.1:1001 0 refused
-validated error 192.168.0.1:1001 0 refused";
+success validated 192.168.0.1:1001 0 refused
+error validated 192.168.0.1:1001 0 refused";
 
 const CLIENT: &str = "192.168.0.1:1000";
 
@@ -247,7 +246,7 @@ fn is_signed(
 /// A server makes of a message what a row says.
 fn reply_holds(rt: &(impl Abort + AllocGlobal), row: &str) -> Result<(), Fail> {
     let words = words(rt.alloc(), row)?;
-    let [before, class, to, size, expected] = words.as_slice() else {
+    let [class, before, to, size, expected] = words.as_slice() else {
         return if words.is_empty() {
             Ok(())
         } else {

@@ -14,9 +14,7 @@ use stun_types::attribute::{
 use stun_types::laws::written_and_read;
 use stun_types::message::{IntegrityAlgorithm, StunParseError, StunWriteError, TransactionId};
 use stun_types::prelude::Attribute;
-use turn_types_attribute::lifetime::Lifetime;
-use turn_types_attribute::requested_transport::RequestedTransport;
-use turn_types_attribute::xor_relayed_address::XorRelayedAddress;
+use turn_types::attribute::{Lifetime, RequestedTransport, XorRelayedAddress};
 
 const MD5: PasswordAlgorithmValue = PasswordAlgorithmValue::MD5;
 
@@ -309,7 +307,12 @@ fn values_over_their_limits(rt: HostRuntime) -> Result<(), Fail> {
         Some(TOO_SMALL),
     ];
     assert_eq!(rt; refused, expected);
-    // a list of no algorithms is made and written, and is not read
+    Ok(())
+}
+
+/// A list of no algorithms is made and written, and is not read.
+#[test]
+fn no_algorithms_are_not_read(rt: HostRuntime) -> Result<(), Fail> {
     let none = PasswordAlgorithms::new(rt.alloc(), &[])?;
     let truncated = StunParseError::Truncated {
         expected: 4,

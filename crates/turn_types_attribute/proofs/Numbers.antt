@@ -3,8 +3,8 @@ use Rattle.std.proofs.Common.{◌≡◌, ℕ, ◌^◌, ◌<◌, List, [], length
 use Rattle.std.proofs.lemmas.Nat.{be_bytes_4}
 use Rattle.byteorder.specs.Endian.{big_bytes, big_number}
 use Rattle.byteorder.specs.Numbers.{big_number-reads_back}
-use Rattle.stun_types_write.specs.Adding.{attr_of}
-use Rattle.stun_types_write.specs.Reading.{value_refusal}
+use Rattle.stun_types.specs.Adding.{attr_of}
+use Rattle.stun_types.specs.ValueReading.{value_refusal}
 use Rattle.stun_types_write.proofs.Values.{value_is_accepted}
 
 -- the bytes of the number that four bytes tell

@@ -1,1 +1,2 @@
 pub mod Transports
+pub mod TurnRegistry

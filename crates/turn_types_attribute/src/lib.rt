@@ -2,6 +2,6 @@
 #![tactic(auto)]
 
 pub mod lifetime;
-pub mod method;
+pub mod registry;
 pub mod requested_transport;
 pub mod xor_relayed_address;

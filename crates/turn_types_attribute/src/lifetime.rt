@@ -1,22 +1,21 @@
 //! LIFETIME (RFC 8656, section 18.2).
 
 ghost use Rattle.std.specs.Prelude.{◌≡◌, None, length, MatchResult};
-ghost use Rattle.stun_types_write.specs.Reading.{IsNamed};
+ghost use Rattle.stun_types.specs.ValueReading.{IsNamed, value_refusal};
 ghost use Rattle.byteorder.specs.Endian.{big_bytes, big_number};
-ghost use Rattle.stun_types_write.specs.Reading.{value_refusal};
+ghost use Rattle.turn_types_attribute.specs.TurnRegistry.{lifetime_kind};
 
+use crate::registry;
 use byteorder::{BigEndian, ByteOrder};
 use std::alloc::Global;
 use std::convert::TryFrom;
 use std::marker::Model;
-use stun_types_base::memory::NoMemory;
-use stun_types_wire::attribute::{AttributeType, RawAttribute};
-use stun_types_wire::error::StunParseError;
-use stun_types_write::attribute::{
-    Attribute, AttributeFromRaw, AttributeStaticType, AttributeWrite,
+use stun_types::NoMemory;
+use stun_types::attribute::{
+    Attribute, AttributeFromRaw, AttributeStaticType, AttributeType, AttributeWrite, RawAttribute,
+    value_of, write_attribute,
 };
-use stun_types_write::reading::value_of;
-use stun_types_write::text::write_attribute;
+use stun_types::message::StunParseError;
 
 /// For how many seconds an allocation stands without a refresh (RFC 8656, section 18.2). Any number
 /// of 32 bits is lawful. Contracts see the number.
@@ -50,15 +49,15 @@ impl Lifetime {
 }
 
 impl AttributeStaticType for Lifetime {
-    ghost TYPE = { record { 0 = 0x000D } };
+    ghost TYPE = { record { 0 = lifetime_kind } };
 
-    const TYPE: AttributeType = AttributeType(0x000D);
+    const TYPE: AttributeType = registry::LIFETIME;
 }
 
 impl Attribute for Lifetime {
     ghost use Rattle.byteorder.specs.Endian.{big_bytes};
 
-    ghost kind = { λ _. 0x000D };
+    ghost kind = { λ _. lifetime_kind };
 
     ghost value = { big_bytes 4 };
 
@@ -86,15 +85,15 @@ impl AttributeWrite for Lifetime {
 /// where it is another type, `Truncated` where the value is shorter, `TooLarge` where it is longer.
 impl<'a, 'raw> TryFrom<&'raw RawAttribute<'a>> for Lifetime {
     ghost use Rattle.std.specs.Prelude.{◌≡◌, MatchResult, Some, None};
-    ghost use Rattle.stun_types_write.specs.Reading.{IsNamed};
+    ghost use Rattle.stun_types.specs.ValueReading.{IsNamed, value_refusal};
     ghost use Rattle.byteorder.specs.Endian.{big_number};
-    ghost use Rattle.stun_types_write.specs.Reading.{value_refusal};
 
     type Error = StunParseError;
 
     ghost try_from_gives = { λ raw result. MatchResult result
-        (λ read. (value_refusal 0x000D 4 4 raw.now ≡ None) × (read ≡ big_number 4 raw.now.value))
-        (IsNamed (value_refusal 0x000D 4 4 raw.now)) };
+        (λ read. (value_refusal lifetime_kind 4 4 raw.now ≡ None) × (read
+        ≡ big_number 4 raw.now.value))
+        (IsNamed (value_refusal lifetime_kind 4 4 raw.now)) };
 
     fn try_from(raw: &'raw RawAttribute<'a>) -> Result<Lifetime, StunParseError> {
         let seconds = seconds_of(raw)?;
@@ -105,9 +104,9 @@ impl<'a, 'raw> TryFrom<&'raw RawAttribute<'a>> for Lifetime {
 /// Refused as `try_from` is; no memory is taken.
 impl<'a> AttributeFromRaw<'a> for Lifetime {
     ghost use Rattle.std.specs.Prelude.{false};
-    ghost use Rattle.stun_types_write.specs.Reading.{value_refusal};
+    ghost use Rattle.stun_types.specs.ValueReading.{value_refusal};
 
-    ghost read_refusal = { value_refusal 0x000D 4 4 };
+    ghost read_refusal = { value_refusal lifetime_kind 4 4 };
 
     ghost read_value = { λ value. value };
 
@@ -130,9 +129,10 @@ impl<'a> AttributeFromRaw<'a> for Lifetime {
 
 /// The number in the value of a LIFETIME. Refused as `try_from` is.
 fn seconds_of(raw: &RawAttribute<'_>) -> Result<u32, StunParseError>
-    ensures { MatchResult result (λ seconds. (value_refusal 0x000D 4 4 raw.now ≡ None)
-        × (raw.now.kind ≡ 0x000D) × (seconds ≡ big_number 4 raw.now.value)
-        × (big_bytes 4 seconds ≡ raw.now.value)) (IsNamed (value_refusal 0x000D 4 4 raw.now)) }
+    ensures { MatchResult result (λ seconds. (value_refusal lifetime_kind 4 4 raw.now ≡ None)
+        × (raw.now.kind ≡ lifetime_kind) × (seconds ≡ big_number 4 raw.now.value)
+        × (big_bytes 4 seconds ≡ raw.now.value)) (IsNamed
+        (value_refusal lifetime_kind 4 4 raw.now)) }
 {
     let value = value_of(raw, Lifetime::TYPE, 4, 4)?;
     Ok(number_of(value))

@@ -1,21 +1,20 @@
 //! REQUESTED-TRANSPORT (RFC 8656, section 18.8).
 
 ghost use Rattle.std.specs.Prelude.{◌≡◌, None, MatchResult, slice_index};
-ghost use Rattle.stun_types_write.specs.Reading.{IsNamed};
-ghost use Rattle.stun_types_write.specs.Reading.{value_refusal};
+ghost use Rattle.stun_types.specs.ValueReading.{IsNamed, value_refusal};
 ghost use Rattle.turn_types_attribute.specs.Transports.{transport_value};
+ghost use Rattle.turn_types_attribute.specs.TurnRegistry.{requested_transport_kind};
 
+use crate::registry;
 use std::alloc::Global;
 use std::convert::TryFrom;
 use std::marker::Model;
-use stun_types_base::memory::NoMemory;
-use stun_types_wire::attribute::{AttributeType, RawAttribute};
-use stun_types_wire::error::StunParseError;
-use stun_types_write::attribute::{
-    Attribute, AttributeFromRaw, AttributeStaticType, AttributeWrite,
+use stun_types::NoMemory;
+use stun_types::attribute::{
+    Attribute, AttributeFromRaw, AttributeStaticType, AttributeType, AttributeWrite, RawAttribute,
+    value_of, write_attribute,
 };
-use stun_types_write::reading::value_of;
-use stun_types_write::text::write_attribute;
+use stun_types::message::StunParseError;
 
 /// The transport by which an allocation is to reach its peers (RFC 8656, section 18.8): a number of
 /// a protocol as in the header of IPv4, from 0 to 255. Contracts see the number.
@@ -34,9 +33,9 @@ impl Model for RequestedTransport {
 
 impl RequestedTransport {
     /// The number of TCP.
-    pub const TCP: u8 = 6;
+    pub const TCP: u8 = registry::TCP;
     /// The number of UDP, the one that RFC 8656 itself allows.
-    pub const UDP: u8 = 17;
+    pub const UDP: u8 = registry::UDP;
 
     /// The REQUESTED-TRANSPORT of a protocol.
     pub fn new(protocol: u8) -> RequestedTransport
@@ -61,15 +60,15 @@ impl RequestedTransport {
 }
 
 impl AttributeStaticType for RequestedTransport {
-    ghost TYPE = { record { 0 = 0x0019 } };
+    ghost TYPE = { record { 0 = requested_transport_kind } };
 
-    const TYPE: AttributeType = AttributeType(0x0019);
+    const TYPE: AttributeType = registry::REQUESTED_TRANSPORT;
 }
 
 impl Attribute for RequestedTransport {
     ghost use Rattle.turn_types_attribute.specs.Transports.{transport_value};
 
-    ghost kind = { λ _. 0x0019 };
+    ghost kind = { λ _. requested_transport_kind };
 
     ghost value = { transport_value };
 
@@ -98,14 +97,14 @@ impl AttributeWrite for RequestedTransport {
 /// `TooLarge` where it is longer.
 impl<'a, 'raw> TryFrom<&'raw RawAttribute<'a>> for RequestedTransport {
     ghost use Rattle.std.specs.Prelude.{◌≡◌, MatchResult, Some, None, slice_index};
-    ghost use Rattle.stun_types_write.specs.Reading.{IsNamed};
-    ghost use Rattle.stun_types_write.specs.Reading.{value_refusal};
+    ghost use Rattle.stun_types.specs.ValueReading.{IsNamed, value_refusal};
 
     type Error = StunParseError;
 
     ghost try_from_gives = { λ raw result. MatchResult result
-        (λ read. (value_refusal 0x0019 4 4 raw.now ≡ None) × (read ≡ slice_index raw.now.value 0))
-        (IsNamed (value_refusal 0x0019 4 4 raw.now)) };
+        (λ read. (value_refusal requested_transport_kind 4 4 raw.now ≡ None) × (read
+        ≡ slice_index raw.now.value 0))
+        (IsNamed (value_refusal requested_transport_kind 4 4 raw.now)) };
 
     fn try_from(raw: &'raw RawAttribute<'a>) -> Result<RequestedTransport, StunParseError> {
         let protocol = protocol_of(raw)?;
@@ -116,10 +115,10 @@ impl<'a, 'raw> TryFrom<&'raw RawAttribute<'a>> for RequestedTransport {
 /// Refused as `try_from` is; no memory is taken.
 impl<'a> AttributeFromRaw<'a> for RequestedTransport {
     ghost use Rattle.std.specs.Prelude.{false, slice_index};
-    ghost use Rattle.stun_types_write.specs.Reading.{value_refusal};
+    ghost use Rattle.stun_types.specs.ValueReading.{value_refusal};
     ghost use Rattle.turn_types_attribute.specs.Transports.{transport_value};
 
-    ghost read_refusal = { value_refusal 0x0019 4 4 };
+    ghost read_refusal = { value_refusal requested_transport_kind 4 4 };
 
     ghost read_value = { λ value. transport_value (slice_index value 0) };
 
@@ -146,9 +145,10 @@ impl<'a> AttributeFromRaw<'a> for RequestedTransport {
 
 /// The number in the value of a REQUESTED-TRANSPORT. Refused as `try_from` is.
 fn protocol_of(raw: &RawAttribute<'_>) -> Result<u8, StunParseError>
-    ensures { MatchResult result (λ protocol. (value_refusal 0x0019 4 4 raw.now ≡ None)
-        × (raw.now.kind ≡ 0x0019) × (protocol ≡ slice_index raw.now.value 0))
-        (IsNamed (value_refusal 0x0019 4 4 raw.now)) }
+    ensures { MatchResult result (λ protocol. (value_refusal requested_transport_kind 4 4 raw.now
+        ≡ None)
+        × (raw.now.kind ≡ requested_transport_kind) × (protocol ≡ slice_index raw.now.value 0))
+        (IsNamed (value_refusal requested_transport_kind 4 4 raw.now)) }
 {
     let value = value_of(raw, RequestedTransport::TYPE, 4, 4)?;
     Ok(value[0])

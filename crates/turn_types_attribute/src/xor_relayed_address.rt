@@ -1,22 +1,22 @@
 //! XOR-RELAYED-ADDRESS (RFC 8656, section 18.5).
 
 ghost use Rattle.std.specs.Prelude.{Some, ◌≡◌};
-ghost use Rattle.stun_types_write.specs.Reading.{IsNamed};
-ghost use Rattle.stun_types_address.specs.Addresses.{address_of, address_value};
-ghost use Rattle.stun_types_address.specs.Xor.{xored};
+ghost use Rattle.stun_types.specs.ValueReading.{IsNamed};
+ghost use Rattle.stun_types.specs.Addresses.{address_of, address_value};
+ghost use Rattle.stun_types.specs.Xor.{xored};
+ghost use Rattle.turn_types_attribute.specs.TurnRegistry.{xor_relayed_address_kind};
 
+use crate::registry;
 use std::alloc::Global;
 use std::convert::TryFrom;
 use std::marker::Model;
 use std::net::SocketAddr;
-use stun_types_address::address::XorSocketAddr;
-use stun_types_base::memory::NoMemory;
-use stun_types_wire::attribute::{AttributeType, RawAttribute};
-use stun_types_wire::error::StunParseError;
-use stun_types_wire::transaction::TransactionId;
-use stun_types_write::attribute::{
-    Attribute, AttributeFromRaw, AttributeStaticType, AttributeWrite,
+use stun_types::NoMemory;
+use stun_types::attribute::{
+    Attribute, AttributeFromRaw, AttributeStaticType, AttributeType, AttributeWrite, RawAttribute,
+    XorSocketAddr,
 };
+use stun_types::message::{StunParseError, TransactionId};
 
 /// The address that a server gave to an allocation, xored as a XOR-MAPPED-ADDRESS is (RFC 8656, section
 /// 18.5). Contracts see the bytes of the value.
@@ -54,13 +54,13 @@ impl XorRelayedAddress {
 }
 
 impl AttributeStaticType for XorRelayedAddress {
-    ghost TYPE = { record { 0 = 0x0016 } };
+    ghost TYPE = { record { 0 = xor_relayed_address_kind } };
 
-    const TYPE: AttributeType = AttributeType(0x0016);
+    const TYPE: AttributeType = registry::XOR_RELAYED_ADDRESS;
 }
 
 impl Attribute for XorRelayedAddress {
-    ghost kind = { λ _. 0x0016 };
+    ghost kind = { λ _. xor_relayed_address_kind };
 
     ghost value = { λ a. a };
 
@@ -90,14 +90,15 @@ impl AttributeWrite for XorRelayedAddress {
 /// has not the 8 bytes of IPv4 or the 20 of IPv6.
 impl<'a, 'raw> TryFrom<&'raw RawAttribute<'a>> for XorRelayedAddress {
     ghost use Rattle.std.specs.Prelude.{◌≡◌, MatchResult, Some, None};
-    ghost use Rattle.stun_types_write.specs.Reading.{IsNamed};
-    ghost use Rattle.stun_types_address.specs.Addresses.{address_again, address_read_refusal};
+    ghost use Rattle.stun_types.specs.ValueReading.{IsNamed};
+    ghost use Rattle.stun_types.specs.Addresses.{address_again, address_read_refusal};
 
     type Error = StunParseError;
 
     ghost try_from_gives = { λ raw result. MatchResult result
-        (λ read. (address_read_refusal 0x0016 raw.now ≡ None)
-        × (read ≡ address_again raw.now.value)) (IsNamed (address_read_refusal 0x0016 raw.now)) };
+        (λ read. (address_read_refusal xor_relayed_address_kind raw.now ≡ None)
+        × (read ≡ address_again raw.now.value))
+        (IsNamed (address_read_refusal xor_relayed_address_kind raw.now)) };
 
     fn try_from(raw: &'raw RawAttribute<'a>) -> Result<XorRelayedAddress, StunParseError> {
         let addr = XorSocketAddr::from_raw_of_type(raw, XorRelayedAddress::TYPE)?;
@@ -108,9 +109,9 @@ impl<'a, 'raw> TryFrom<&'raw RawAttribute<'a>> for XorRelayedAddress {
 /// Refused as `try_from` is; no memory is taken.
 impl<'a> AttributeFromRaw<'a> for XorRelayedAddress {
     ghost use Rattle.std.specs.Prelude.{false};
-    ghost use Rattle.stun_types_address.specs.Addresses.{address_again, address_read_refusal};
+    ghost use Rattle.stun_types.specs.Addresses.{address_again, address_read_refusal};
 
-    ghost read_refusal = { address_read_refusal 0x0016 };
+    ghost read_refusal = { address_read_refusal xor_relayed_address_kind };
 
     ghost read_value = { address_again };
 

@@ -1,5 +1,5 @@
 use Rattle.std.proofs.Common.{◌≤◌, length, take}
-use Rattle.stun_types_write.specs.Adding.{IsBegun}
+use Rattle.stun_types.specs.Adding.{IsBegun}
 use Rattle.stun_bench.specs.Lifetimes.{GrowsBy}
 use Rattle.stun_bench.proofs.adds.add_lifetimes.Given as goal
 

@@ -1,6 +1,6 @@
 use Rattle.std.proofs.Common.{◌≡◌, map}
 use Rattle.std.specs.Option.{option_or}
-use Rattle.stun_types_wire.specs.Grammar.{shown}
+use Rattle.stun_types.specs.Grammar.{shown}
 use Rattle.stun_proto_judge.specs.Claims.{last_of_kind}
 use Rattle.stun_proto_judge.proofs.claim.last_attribute.Given as goal
 

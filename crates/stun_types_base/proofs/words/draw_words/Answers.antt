@@ -2,7 +2,7 @@ use Rattle.std.proofs.Common.{◌≡◌, ◌<◌, ◌≢◌, length, arith, sym,
 use Rattle.std.proofs.lemmas.List.FromFn.{fill_by_all}
 use Rattle.std.proofs.lemmas.List.{length-replicate}
 use Rattle.std.proofs.lemmas.Grind.{common_steps}
-use Rattle.stun_types_base.specs.Words.{stream_after, word_at, words_of}
+use Rattle.stun_types_base.specs.GeneratorWords.{stream_after, word_at, words_of}
 use Rattle.stun_types_base.proofs.WordLemmas.{stream_after-zero, drawn}
 use Rattle.stun_types_base.proofs.words.draw_words.Goals as goal
 

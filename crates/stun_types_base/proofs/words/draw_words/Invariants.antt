@@ -1,5 +1,5 @@
 use Rattle.std.proofs.Common.{◌≡◌, ◌<◌, ℕ, get_or, length}
-use Rattle.stun_types_base.specs.Words.{stream_after, word_at}
+use Rattle.stun_types_base.specs.GeneratorWords.{stream_after, word_at}
 use Rattle.stun_types_base.proofs.words.draw_words.Given as goal
 
 abbrev pub invariant-loop-word : goal.invariant-loop-word

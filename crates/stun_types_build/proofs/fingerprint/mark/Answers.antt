@@ -1,9 +1,9 @@
 use Rattle.std.proofs.Common.{ℕ, List, ◌-◌, ap, ◌∙◌}
 use Rattle.stun_types_wire.specs.Covered.{with_length}
 use Rattle.stun_types_wire.specs.Fingerprints.{fingerprint_value}
-use Rattle.stun_types_wire.specs.Shape.{fingerprint_kind}
+use Rattle.stun_types_wire.specs.Registry.{fingerprint_kind}
 use Rattle.stun_types_write.specs.Adding.{attr_of}
-use Rattle.stun_types_fingerprint.specs.Fingerprints.{turned_bytes}
+use Rattle.stun_types_fingerprint.specs.FingerprintValues.{turned_bytes}
 use Rattle.stun_types_build.proofs.Added.{marked, pushed_long}
 use Rattle.stun_types_build.proofs.fingerprint.mark.Goals as goal
 

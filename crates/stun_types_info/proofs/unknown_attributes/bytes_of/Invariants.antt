@@ -1,5 +1,5 @@
 use Rattle.std.proofs.Common.{◌≡◌, ◌*◌, ◌≤◌, length, take, map}
-use Rattle.stun_types_info.specs.Types.{types_told}
+use Rattle.stun_types_info.specs.UnknownTypes.{types_told}
 use Rattle.stun_types_info.proofs.unknown_attributes.bytes_of.Given as goal
 
 -- the types before the index are told, in two bytes each

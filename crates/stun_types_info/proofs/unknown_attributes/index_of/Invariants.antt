@@ -1,7 +1,7 @@
 use Rattle.std.proofs.Common.{◌≡◌, ◌||◌, ℕ, length}
 use Rattle.stun_types_write.specs.Adding.{has_kind}
-use Rattle.stun_types_info.specs.Marks.{is_marked}
-use Rattle.stun_types_info.specs.Types.{types_told}
+use Rattle.stun_types_info.specs.TypeMarks.{is_marked}
+use Rattle.stun_types_info.specs.UnknownTypes.{types_told}
 use Rattle.stun_types_info.proofs.unknown_attributes.index_of.Given as goal
 
 -- a type is marked, or told by what is left, where it is told by all

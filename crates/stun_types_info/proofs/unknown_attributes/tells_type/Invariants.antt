@@ -1,6 +1,6 @@
 use Rattle.std.proofs.Common.{◌≡◌, length}
 use Rattle.stun_types_write.specs.Adding.{has_kind}
-use Rattle.stun_types_info.specs.Types.{types_told}
+use Rattle.stun_types_info.specs.UnknownTypes.{types_told}
 use Rattle.stun_types_info.proofs.unknown_attributes.tells_type.Given as goal
 
 -- the type is told by what is left where it is told by all

@@ -2,7 +2,7 @@ use Rattle.std.proofs.Common.{◌≡◌, ◌+◌, ◌*◌, ◌^◌, ◌<◌, ℕ
 use Rattle.std.specs.Prelude.{sum_by}
 use Rattle.stun_types_wire.specs.Attributes.{attr_size, attributes}
 use Rattle.stun_types_wire.specs.Grammar.{shown}
-use Rattle.stun_types_message.specs.Marks.{IsListing}
+use Rattle.stun_types_message.specs.MarkedTypes.{IsListing}
 use Rattle.stun_types_message.specs.Objections.{unknown_kinds}
 use Rattle.stun_types_message.proofs.Listing.{listed_with}
 use Rattle.stun_types_message.proofs.check.unknown_types.Given as goal

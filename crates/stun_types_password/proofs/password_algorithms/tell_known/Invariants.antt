@@ -1,6 +1,6 @@
 use Rattle.std.proofs.Common.{◌≡◌, length}
 use Rattle.std.specs.List.{list_all}
-use Rattle.stun_types_password.specs.Algorithms.{is_known}
+use Rattle.stun_types_password.specs.PasswordAlgorithmNumbers.{is_known}
 use Rattle.stun_types_password.specs.Entries.{numbers_told}
 use Rattle.stun_types_password.proofs.password_algorithms.tell_known.Given as goal
 

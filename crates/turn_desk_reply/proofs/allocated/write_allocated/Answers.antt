@@ -1,10 +1,10 @@
 use Rattle.std.proofs.Common.{rules, ◌≡◌, []}
 use Rattle.std.specs.Prelude.{option_to_list, slice_get}
 use Rattle.std.specs.Option.{option_copied}
-use Rattle.stun_types_wire.specs.Grammar.{number_at}
-use Rattle.stun_types_wire.specs.declared.error.StunWriteError.TheVariants.{NoMemory}
-use Rattle.stun_types_write.specs.Lent.{own_draft}
-use Rattle.stun_types_build.specs.Calls.{IsComposed}
+use Rattle.stun_types.specs.Grammar.{number_at}
+use Rattle.stun_types.specs.WriteErrors.{NoMemory}
+use Rattle.stun_types.specs.Lent.{own_draft}
+use Rattle.stun_types.specs.Calls.{IsComposed}
 use Rattle.stun_types_build.proofs.Taken.{composed_none}
 use Rattle.turn_desk_reply.specs.Replies.{relayed_attributes, success_type}
 use Rattle.turn_desk_reply.proofs.Adding.{allocated_composed, second_of}

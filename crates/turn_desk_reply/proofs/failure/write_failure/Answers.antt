@@ -1,12 +1,12 @@
 use Rattle.std.proofs.Common.{rules, ◌≡◌, ◌∷◌, [], refl, subst}
-use Rattle.stun_types_wire.specs.Attributes.{Attr}
-use Rattle.stun_types_wire.specs.Grammar.{number_at}
-use Rattle.stun_types_wire.specs.declared.error.StunWriteError.TheVariants.{NoMemory}
-use Rattle.stun_types_write.specs.Lent.{own_draft}
-use Rattle.stun_types_build.specs.Calls.{IsComposed}
+use Rattle.stun_types.specs.Attributes.{Attr}
+use Rattle.stun_types.specs.Grammar.{number_at}
+use Rattle.stun_types.specs.WriteErrors.{NoMemory}
+use Rattle.stun_types.specs.Lent.{own_draft}
+use Rattle.stun_types.specs.Calls.{IsComposed}
 use Rattle.stun_types_build.proofs.Taken.{composed_more, composed_none}
 use Rattle.stun_types_message.proofs.Refusing.{default_error}
-use Rattle.turn_desk_reply.specs.Replies.{error_type}
+use Rattle.stun_types.specs.Objections.{error_type}
 use Rattle.turn_desk_reply.proofs.Room.{code_accepted, error_room, only_memory}
 use Rattle.turn_desk_reply.proofs.Sizes.{failure_reply}
 use Rattle.turn_desk_reply.proofs.failure.write_failure.Goals as goal

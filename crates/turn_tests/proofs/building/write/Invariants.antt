@@ -1,4 +1,4 @@
-use Rattle.stun_types_write.specs.Adding.{IsBegun}
+use Rattle.stun_types.specs.Adding.{IsBegun}
 use Rattle.turn_tests.proofs.building.write.Given as goal
 
 -- the message that was begun can be added to

@@ -1,6 +1,6 @@
 use Rattle.std.proofs.Common.{◌≡◌, ℕ, List, None, ap, ◌∙◌}
 use Rattle.std.specs.FinMap as map
-use Rattle.stun_types_base.specs.Words.{words_of}
+use Rattle.stun_types.specs.GeneratorWords.{words_of}
 use Rattle.stun_proto_auth.specs.declared.nonce.TheConstants.{NONCE_WORDS}
 use Rattle.stun_proto_auth.specs.Nonce.{nonce_text, features_offered}
 use Rattle.stun_proto_server.specs.Server.{Server}

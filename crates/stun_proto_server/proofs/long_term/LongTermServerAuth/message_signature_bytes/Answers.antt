@@ -1,6 +1,6 @@
 use Rattle.std.proofs.Common.{ap, ◌∙◌}
 use Rattle.stun_proto_sign.specs.Sizes.{size_of_addition}
-use Rattle.stun_proto_server.specs.Signing.{addition_for, class_asked}
+use Rattle.stun_proto_server.specs.ServerSigning.{addition_for, class_asked}
 use Rattle.stun_proto_server.proofs.Signed.{same_size}
 use Rattle.stun_proto_server.proofs.long_term.LongTermServerAuth.message_signature_bytes.Goals as goal
 

@@ -1,6 +1,6 @@
 use Rattle.std.proofs.Common.{refl, sym, ◌∙◌}
 use Rattle.stun_proto_server.specs.Server.{refreshed}
-use Rattle.stun_proto_server.specs.Validation.{known_of}
+use Rattle.stun_proto_server.specs.ServerValidation.{known_of}
 use Rattle.stun_proto_server.proofs.Apart.{same_for-then}
 use Rattle.stun_proto_server.proofs.Validated.{accepted_by_same, response_draws_none, response_is_refused}
 use Rattle.stun_proto_server.proofs.long_term.LongTermServerAuth.validate_incoming_message.Goals as goal

@@ -1,5 +1,5 @@
 use Rattle.std.proofs.Common.{◌≡◌, ◌/◌, ◌<◌, ℕ, List, length, ap, ◌∙◌, arith}
-use Rattle.stun_types_info.specs.Marks.{is_marked}
+use Rattle.stun_types_info.specs.TypeMarks.{is_marked}
 use Rattle.stun_types_info.proofs.TypeMarks.{mark_test}
 use Rattle.stun_types_info.proofs.type_index.TypeIndex.has.Goals as goal
 

@@ -1,5 +1,5 @@
 use Rattle.std.proofs.Common.{◌≡◌, ◌/◌, ◌<◌, ◌||◌, eqb, ℕ, List, length, ap, ◌∙◌, arith}
-use Rattle.stun_types_info.specs.Marks.{is_marked}
+use Rattle.stun_types_info.specs.TypeMarks.{is_marked}
 use Rattle.stun_types_info.proofs.TypeMarks.{marked_more}
 use Rattle.stun_types_info.proofs.type_index.TypeIndex.mark.Goals as goal
 

@@ -1,7 +1,7 @@
 use Rattle.std.specs.Prelude.{◌<◌, slice_index}
 use Rattle.std.proofs.Common.{rules, arith, ◌≢◌, inl, inr, List, ℕ, subst, sym, refl}
-use Rattle.stun_proto_judge.specs.declared.error.LongTermServerAuthError.TheVariants.{NoMemory}
-use Rattle.stun_proto_server.specs.Server.{SameFor}
+use Rattle.stun_proto.specs.ServerAuthErrors.{NoMemory}
+use Rattle.stun_proto.specs.Server.{SameFor}
 use Rattle.turn_desk_core.specs.Requests.{IsServed}
 use Rattle.turn_desk_core.specs.State.{State}
 use Rattle.turn_desk_core.specs.Steps.{IsAnswer}

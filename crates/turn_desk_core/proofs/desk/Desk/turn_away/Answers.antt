@@ -1,6 +1,6 @@
 use Rattle.std.proofs.Common.{rules, ◌≡◌, Some, subst}
-use Rattle.stun_types_write.specs.Lent.{own_draft}
-use Rattle.stun_proto_server.specs.Server.{nonce_at}
+use Rattle.stun_types.specs.Lent.{own_draft}
+use Rattle.stun_proto.specs.Server.{nonce_at}
 use Rattle.turn_desk_core.specs.State.{State}
 use Rattle.turn_desk_core.specs.Steps.{IsTurnedReply}
 use Rattle.turn_desk_core.proofs.Keys.{turned}

@@ -1,0 +1,35 @@
+-- The lines of the input.
+use Rattle.std.specs.Prelude.{ℕ, ◌≡◌, ◌⊎◌, List, [], ◌∷◌, codes, true, Some}
+use Rattle.program_lines.specs.Cut.{says_nothing}
+use Rattle.program_lines.specs.LowerHex.{word_bytes}
+use Rattle.program_lines.specs.LineWords.{AreWords}
+use Rattle.stun_inspect.specs.declared.line.Line.{Line}
+use Rattle.stun_inspect.specs.declared.line.Line.TheVariants.{User, Password, Message, Raw}
+
+-- the words are one, which spells the bytes
+abbrev pub SpellBytes : List (List ℕ) → List ℕ → Type 0
+SpellBytes [] bytes = ⊥
+SpellBytes (word ∷ []) bytes = word_bytes word ≡ Some bytes
+SpellBytes (word ∷ more ∷ rest) bytes = ⊥
+
+-- a name and the words behind it spell the line
+abbrev pub IsNamed : List ℕ → List (List ℕ) → Line → Type 0
+IsNamed name rest (User n r p) = (name ≡ codes "user") × (rest ≡ n.now ∷ r.now ∷ p.now ∷ [])
+IsNamed name rest (Password p) = (name ≡ codes "password") × (rest ≡ p.now ∷ [])
+IsNamed name rest (Message bytes) = (name ≡ codes "message") × SpellBytes rest bytes.items
+IsNamed name rest (Raw bytes) = (name ≡ codes "raw") × SpellBytes rest bytes.items
+
+-- the words spell the line
+abbrev pub IsLineOf : List (List ℕ) → Line → Type 0
+IsLineOf [] line = ⊥
+IsLineOf (name ∷ rest) line = IsNamed name rest line
+
+-- the words of the text spell the line
+pub record IsLine (text : List ℕ) (line : Line) : Type 0 where
+  pub words : List (List ℕ)
+  pub parted : AreWords text words
+  pub spelled : IsLineOf words line
+
+-- the line says nothing, or can be read
+abbrev pub IsReadable : List ℕ → Type 0
+IsReadable text = (says_nothing text ≡ true) ⊎ ((line : Line) × IsLine text line)

@@ -1,0 +1,169 @@
+//! The input, line by line.
+
+ghost use Rattle.std.specs.Prelude.{◌≡◌, ◌≢◌, ◌+◌, Err, OnOk};
+ghost use Rattle.std.specs.List.{AllByRecursion};
+ghost use Rattle.program_lines.specs.Cut.{lines_of};
+ghost use Rattle.program_lines.specs.Input.{TakesAll, TakesAtMost, TakesLines};
+ghost use Rattle.stun_inspect.specs.InspectLines.{IsReadable};
+ghost use Rattle.stun_inspect.specs.Printed.{Prints, PrintsText};
+
+use crate::line::{Line, read_line};
+use crate::message::{message_in_words, raw_in_words};
+use crate::names::names;
+use program_lines::cut::{cut_line, is_skipped};
+use program_lines::input::{InputError, MAX_INPUT, read_input};
+use program_lines::status::Status;
+use program_lines::stop::{Stop, flush, print_stop, stop_at};
+use std::alloc::Global;
+use std::io::{Read, Write};
+use stun_types::message::{LongTermCredentials, MessageIntegrityCredentials, ShortTermCredentials};
+use stun_types::{Names, NoMemory};
+
+/// Reads an input whole, and prints of each line that gives bytes what they are. At the first bad
+/// line it prints `bad trace: line N`, lines counted from 1; where memory is refused `no memory`;
+/// where the input can't be read or is too long `read fault`. After a failed write nothing more is
+/// printed.
+pub(crate) fn inspect<I: Read, O: Write>(alloc: Global, input: &mut I, output: &mut O) -> Status
+    // At most one byte more than the longest input is taken from the reader.
+    ensures taken { TakesAtMost (MAX_INPUT + 1) (I.remaining input.old) (I.remaining input.new) }
+    // Where the input was read, it is all that the reader had.
+    ensures whole { result ≢ Status.Fault → result ≢ Status.NoMemory
+        → TakesAll MAX_INPUT (I.remaining input.old) (I.remaining input.new) }
+    // Where it ended well, each line says nothing or can be read.
+    ensures done { result ≡ Status.Done → TakesLines IsReadable (I.remaining input.old)
+        (I.remaining input.new) }
+    ensures printed { Prints result (O.contents output.old) (O.contents output.new) }
+{
+    match inspect_input(alloc, input, output) {
+        Ok(()) => flush(output, Status::Done),
+        Err(stop) => print_stop(output, stop),
+    }
+}
+
+/// Reads an input whole, and prints what its lines give.
+fn inspect_input<I: Read, O: Write>(
+    alloc: Global,
+    input: &mut I,
+    output: &mut O,
+) -> Result<(), Stop>
+    ensures taken { TakesAtMost (MAX_INPUT + 1) (I.remaining input.old) (I.remaining input.new) }
+    ensures whole { result ≢ Err Stop.Unread → result ≢ Err Stop.NoMemory
+        → TakesAll MAX_INPUT (I.remaining input.old) (I.remaining input.new) }
+    ensures done { OnOk result (TakesLines IsReadable (I.remaining input.old)
+        (I.remaining input.new)) }
+    ensures printed { result ≢ Err Stop.Unwritten
+        → PrintsText (O.contents output.old) (O.contents output.new) }
+{
+    match read_input(alloc, input) {
+        Ok(text) => inspect_text(alloc, text.as_slice(), output),
+        Err(InputError::NoMemory) => Err(Stop::NoMemory),
+        Err(InputError::Fault) => Err(Stop::Unread),
+    }
+}
+
+/// What is kept from line to line.
+#[derive(Debug, Drop)]
+struct Inspector {
+    alloc: Global,
+    names: Names,
+    /// Those of the last line that gave some.
+    credentials: Option<MessageIntegrityCredentials>,
+}
+
+impl Inspector {
+    /// One that has read no line.
+    fn new(alloc: Global) -> Result<Inspector, NoMemory> {
+        Ok(Inspector {
+            alloc,
+            names: names(alloc)?,
+            credentials: None,
+        })
+    }
+
+    /// What is printed of a line: nothing of one that gives credentials.
+    fn in_words(&mut self, line: Line<'_>) -> Result<String, NoMemory> {
+        match line {
+            Line::User {
+                name,
+                realm,
+                password,
+            } => {
+                let name = String::from_str(self.alloc, name)?;
+                let realm = String::from_str(self.alloc, realm)?;
+                let password = String::from_str(self.alloc, password)?;
+                let key = LongTermCredentials::new(name, password).to_key(self.alloc, realm)?;
+                self.credentials = Some(MessageIntegrityCredentials::from(key));
+                Ok(String::new(self.alloc))
+            }
+            Line::Password(password) => {
+                let password = String::from_str(self.alloc, password)?;
+                let credentials = ShortTermCredentials::new(password);
+                self.credentials = Some(MessageIntegrityCredentials::from(credentials));
+                Ok(String::new(self.alloc))
+            }
+            Line::Message(bytes) => {
+                let credentials = self.credentials.as_ref();
+                message_in_words(self.alloc, bytes.as_slice(), credentials, &self.names)
+            }
+            Line::Raw(bytes) => raw_in_words(self.alloc, bytes.as_slice(), &self.names),
+        }
+    }
+}
+
+/// Prints what the lines of a text give.
+fn inspect_text<O: Write>(alloc: Global, text: &[u8], output: &mut O) -> Result<(), Stop>
+    ensures read { OnOk result (AllByRecursion IsReadable (lines_of text.now)) }
+    ensures printed { result ≢ Err Stop.Unwritten
+        → PrintsText (O.contents output.old) (O.contents output.new) }
+{
+    let Ok(mut inspector) = Inspector::new(alloc) else {
+        return Err(Stop::NoMemory);
+    };
+    let mut rest = text;
+    let mut number = 0usize;
+    'lines: loop {
+        let (line, after) = cut_line(rest);
+        number = number.saturating_add(1);
+        if let Err(stop) = inspect_line(&mut inspector, number, line, output) {
+            return Err(stop);
+        }
+        let Some(after) = after else {
+            return Ok(());
+        };
+        rest = after;
+    }
+}
+
+/// Prints what one line gives, where it gives something.
+fn inspect_line<O: Write>(
+    inspector: &mut Inspector,
+    number: usize,
+    line: &[u8],
+    output: &mut O,
+) -> Result<(), Stop>
+    ensures read { OnOk result (IsReadable line.now) }
+    ensures printed { result ≢ Err Stop.Unwritten
+        → PrintsText (O.contents output.old) (O.contents output.new) }
+{
+    if is_skipped(line) {
+        return Ok(());
+    }
+    match read_line(inspector.alloc, line) {
+        Ok(read) => match inspector.in_words(read) {
+            Ok(words) => print(words.as_str(), output),
+            Err(NoMemory) => Err(Stop::NoMemory),
+        },
+        Err(error) => Err(stop_at(number, error)),
+    }
+}
+
+/// Prints a text.
+fn print<O: Write>(text: &str, output: &mut O) -> Result<(), Stop>
+    ensures printed { result ≢ Err Stop.Unwritten
+        → PrintsText (O.contents output.old) (O.contents output.new) }
+{
+    match output.write_all(text.as_bytes()) {
+        Ok(()) => Ok(()),
+        Err(_) => Err(Stop::Unwritten),
+    }
+}

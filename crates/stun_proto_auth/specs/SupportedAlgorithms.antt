@@ -1,0 +1,24 @@
+-- Lists of integrity algorithms.
+use Rattle.std.specs.Prelude.{Bool, true, false, if◌then◌else◌, List, [], ◌∷◌, ◌++◌}
+use Rattle.std.specs.List.{list_any}
+use Rattle.stun_types.specs.IntegrityAlgorithms.{IntegrityAlgorithm, Sha1, Sha256}
+
+-- whether two algorithms are the same
+abbrev pub is_same_algorithm : IntegrityAlgorithm → IntegrityAlgorithm → Bool
+is_same_algorithm Sha1 Sha1 = true
+is_same_algorithm Sha256 Sha256 = true
+is_same_algorithm Sha1 Sha256 = false
+is_same_algorithm Sha256 Sha1 = false
+
+-- the list with an algorithm at its end, or the list itself where it has that algorithm
+abbrev pub with_algorithm : List IntegrityAlgorithm → IntegrityAlgorithm → List IntegrityAlgorithm
+with_algorithm algorithms algorithm =
+    if list_any (is_same_algorithm algorithm) algorithms then algorithms else algorithms ++ algorithm ∷ []
+
+-- whether a server has to tell its clients of password algorithms: it supports anything but Sha1
+-- alone (RFC 8489, section 9.2)
+abbrev pub needs_password_algorithms : List IntegrityAlgorithm → Bool
+needs_password_algorithms [] = true
+needs_password_algorithms (Sha1 ∷ []) = false
+needs_password_algorithms (Sha256 ∷ []) = true
+needs_password_algorithms (first ∷ second ∷ others) = true

@@ -1,0 +1,143 @@
+//! The judgement of a message.
+
+ghost use Rattle.std.specs.Prelude.{◌≡◌, ◌≢◌, ℕ, List, Some, None, Err, IfOk, IfErr, OnOk, MatchResult, false};
+ghost use Rattle.stun_types.specs.Grammar.{shown};
+ghost use Rattle.stun_types.specs.MessageValidation.{last_algorithm};
+ghost use Rattle.stun_types.specs.IntegrityAlgorithms.{IntegrityAlgorithm as Algorithm};
+ghost use Rattle.stun_types.specs.Credentials.{long_term_key};
+ghost use Rattle.stun_types.specs.Integrity.{Validates};
+ghost use Rattle.stun_proto_judge.specs.Claims.{claimed};
+ghost use Rattle.stun_proto_judge.specs.Judgement.{IsAccepted, IsRefused, ServerAccepts, claim_refusal, is_response, user_key};
+
+use crate::claim::Claim;
+use crate::error::LongTermServerAuthError;
+use crate::known::Known;
+use crate::user::ValidatedUser;
+use std::alloc::Global;
+use stun_types::message::{IntegrityAlgorithm, IntegrityKey, Message};
+
+/// Whether a server takes a message that is no response for one of its user's, by what the message
+/// claims and what the server knows; the answer is the user, and the algorithm of the last
+/// integrity attribute. Refused, in this order: `Unauthorized` where the message shows no integrity
+/// attribute; `BadRequest` where it shows neither the name of a user nor a hash of it, no realm or
+/// no nonce; `StaleNonce` where the nonce is not the one that stands; `BadRequest` where password
+/// algorithms are inconsistent; `Unauthorized` where it names no user of the server;
+/// `IntegrityFailed` where the digest is wrong. Where nothing refuses the message and memory is refused
+/// for the name, `NoMemory`.
+pub fn judge_message(
+    alloc: Global,
+    message: &Message<'_>,
+    claim: &Claim<'_>,
+    known: &Known<'_>,
+) -> Result<ValidatedUser, LongTermServerAuthError>
+    requires claim { claim.now ≡ claimed message.now }
+    requires no_response { is_response message.now ≡ false }
+    ensures valid { IfOk result (λ user.
+        ServerAccepts known.now message.now user.algorithm user.name) }
+    ensures accepted { (algorithm : Algorithm) (name : List ℕ)
+        → ServerAccepts known.now message.now algorithm name → MatchResult result
+        (λ user. user ≡ record { name = name; algorithm = algorithm })
+        (λ error. error ≡ LongTermServerAuthError.NoMemory) }
+    ensures refused { IfErr result (λ error. error ≢ LongTermServerAuthError.NoMemory
+        → IsRefused known.now message.now error) }
+    // Memory is asked for only where the message is accepted.
+    ensures memory { result ≡ Err LongTermServerAuthError.NoMemory
+        → IsAccepted known.now message.now }
+{
+    // The paths are taken below. That a message which the server accepts is answered with its user is
+    // proved here, once for all of them.
+    decide(alloc, message, claim, known)
+}
+
+/// The judgement, path by path: it answers as `judge_message` does.
+#[tactic(auto, using(crate::proofs::Judging::accepts, crate::proofs::Judging::refuses_claim, crate::proofs::Judging::refuses_digest))]
+fn decide(
+    alloc: Global,
+    message: &Message<'_>,
+    claim: &Claim<'_>,
+    known: &Known<'_>,
+) -> Result<ValidatedUser, LongTermServerAuthError>
+    requires claim { claim.now ≡ claimed message.now }
+    requires no_response { is_response message.now ≡ false }
+    ensures valid { IfOk result (λ user.
+        ServerAccepts known.now message.now user.algorithm user.name) }
+    ensures refused { IfErr result (λ error. error ≢ LongTermServerAuthError.NoMemory
+        → IsRefused known.now message.now error) }
+    ensures memory { result ≡ Err LongTermServerAuthError.NoMemory
+        → IsAccepted known.now message.now }
+{
+    let pending = check(claim, known)?;
+    validate_user(message, &pending, known.realm())?;
+    let name = String::from_str(alloc, pending.name)?;
+    Ok(ValidatedUser::new(name, pending.algorithm))
+}
+
+/// A claim of which only the digest is left to be looked at.
+#[derive(Drop)]
+struct Pending<'a> {
+    algorithm: IntegrityAlgorithm,
+    name: &'a str,
+    password: &'a str,
+}
+
+/// Holds a claim against what is known. Refused as `judge_message` is, but for the digest.
+#[tactic(auto, unfolding(crate::specs::Judgement::claim_refusal))]
+fn check<'a>(
+    claim: &'a Claim<'_>,
+    known: &Known<'a>,
+) -> Result<Pending<'a>, LongTermServerAuthError>
+    ensures passed { IfOk result (λ pending. (claim_refusal known.now claim.now ≡ None)
+        × (claim.now.integrity ≡ Some pending.algorithm)
+        × (claim.now.username ≡ Some pending.name.now)
+        × (known.now.password ≡ Some pending.password.now)) }
+    ensures refused { IfErr result (λ error. (claim_refusal known.now claim.now ≡ Some error)
+        × (error ≢ LongTermServerAuthError.NoMemory)) }
+{
+    let algorithm = claim.check_integrity()?;
+    claim.check_parts()?;
+    claim.check_nonce(known)?;
+    claim.check_algorithms(known)?;
+    match (claim.username(), known.password()) {
+        (Some(name), Some(password)) => Ok(Pending {
+            algorithm,
+            name,
+            password,
+        }),
+        _ => Err(LongTermServerAuthError::Unauthorized),
+    }
+}
+
+/// Whether a message validates under the key of a user in a realm. Refused with `IntegrityFailed`.
+fn validate_user(
+    message: &Message<'_>,
+    pending: &Pending<'_>,
+    realm: &str,
+) -> Result<(), LongTermServerAuthError>
+    requires { last_algorithm (shown message.now) ≡ Some pending.now.algorithm }
+    ensures valid { OnOk result ((text : List ℕ)
+        × Validates message.now
+        (user_key realm.now pending.now.name.now pending.now.password.now pending.now.algorithm)
+        pending.now.algorithm text) }
+    ensures refused { IfErr result (λ error.
+        (error ≡ LongTermServerAuthError.IntegrityFailed pending.now.algorithm)
+        × ((text : List ℕ) → ¬ Validates message.now
+        (user_key realm.now pending.now.name.now pending.now.password.now pending.now.algorithm)
+        pending.now.algorithm text)) }
+{
+    let key = key_in(pending, realm);
+    match message.validate_integrity_with_key(&key) {
+        Ok(_) => Ok(()),
+        Err(error) => Err(LongTermServerAuthError::of_digest(pending.algorithm, error)),
+    }
+}
+
+/// The key of the user in a realm.
+fn key_in<'a>(pending: &Pending<'_>, realm: &str) -> IntegrityKey<'a>
+    ensures { result ≡ long_term_key (record {
+      username = pending.now.name.now;
+      password = pending.now.password.now;
+      realm = realm.now;
+    }) pending.now.algorithm }
+{
+    IntegrityKey::long_term(pending.name, realm, pending.password, pending.algorithm)
+}

@@ -1,0 +1,61 @@
+-- What a server holds a message against, and what a validation leaves (RFC 8489, section 9.2.4).
+use Rattle.std.specs.Prelude.{◌≡◌, ◌⊎◌, ℕ, false, List, Option, Some, None, if◌then◌else◌}
+use Rattle.std.specs.FinMap as map
+use Rattle.std.specs.declared.net.socket_addr.SocketAddr.{SocketAddr}
+use Rattle.rand_core.specs.Stream.{Stream}
+use Rattle.stun_types.specs.IntegrityAlgorithms.{IntegrityAlgorithm}
+use Rattle.stun_proto_judge.specs.Claims.{claimed}
+use Rattle.stun_proto_judge.specs.Judgement.{Knowledge, IsAccepted, ServerAccepts, is_response}
+use Rattle.stun_proto_server.specs.declared.validation.LongTermServerValidation.{LongTermServerValidation}
+use Rattle.stun_proto_server.specs.declared.validation.LongTermServerValidation.TheVariants.{Validated}
+use Rattle.stun_proto_server.specs.Server.{Server, has_standing_nonce, nonce_at, refreshed, with_outcome, words_drawn}
+
+-- the password of the user of a name, where there is a name and such a user
+abbrev pub password_at : Server → Option (List ℕ) → Option (List ℕ)
+password_at server None = None
+password_at server (Some name) = map.get server.users name
+
+-- what a server knows that concerns a message from an address
+abbrev pub known_of : Server → SocketAddr → List ℕ → Knowledge
+known_of server from bytes = record {
+  realm = server.realm;
+  algorithms = server.algorithms;
+  nonce = nonce_at server from;
+  password = password_at server (claimed bytes).username;
+}
+
+-- a server accepts a message from an address, by an algorithm, as that of a user
+abbrev pub Accepts : Server → SocketAddr → List ℕ → IntegrityAlgorithm → List ℕ → Type 0
+Accepts server from bytes algorithm name = ServerAccepts (known_of server from bytes) bytes algorithm name
+
+-- how many words a validation draws
+abbrev pub words_of_validation : Server → SocketAddr → List ℕ → ℕ → ℕ
+words_of_validation server from bytes now = if is_response bytes then 0 else words_drawn server from now
+
+-- the server after a refusal for another cause than memory
+abbrev pub after_refusal : Server → SocketAddr → List ℕ → ℕ → Stream → Server
+after_refusal server from bytes now stream = if is_response bytes then server
+    else with_outcome (refreshed server from now stream) from None
+
+-- the server after a refusal for memory: as it was, or with a nonce that stands for the address
+abbrev pub IsAfterNoMemory : Server → SocketAddr → ℕ → Stream → Server → Type 0
+IsAfterNoMemory server from now stream new = (new ≡ server) ⊎ (new ≡ refreshed server from now stream)
+
+-- memory is wanted of a message from an address: it is no response, and a nonce is due, or the
+-- message is accepted and the name of its user is to be kept
+pub record WantsMemory (server : Server) (from : SocketAddr) (bytes : List ℕ) (now : ℕ) (stream : Stream) : Type 0 where
+  pub no_response : is_response bytes ≡ false
+  pub due : (has_standing_nonce server from now ≡ false)
+      ⊎ IsAccepted (known_of (refreshed server from now stream) from bytes) bytes
+
+-- a validation by an algorithm: the server accepts the message as that of a user, and keeps the
+-- user and the algorithm for the address
+pub record IsValidatedBy (server : Server) (from : SocketAddr) (bytes : List ℕ) (algorithm : IntegrityAlgorithm)
+    (new : Server) : Type 0 where
+  pub name : List ℕ
+  pub accepts : Accepts server from bytes algorithm name
+  pub kept : new ≡ with_outcome server from (Some (record { name = name; algorithm = algorithm }))
+
+-- what the answer says
+abbrev pub IsValidated : Server → SocketAddr → List ℕ → LongTermServerValidation → Server → Type 0
+IsValidated server from bytes (Validated algorithm) new = IsValidatedBy server from bytes algorithm new

@@ -1,3 +1,0 @@
-pub mod Fingerprinted
-pub mod Headers
-pub mod Reading

@@ -1,0 +1,3 @@
+pub mod Fingerprinted
+pub mod Headers
+pub mod MessageReading

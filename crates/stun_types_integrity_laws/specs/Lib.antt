@@ -1,0 +1,2 @@
+pub mod UnsignedCalls
+pub mod Same

@@ -1,0 +1,11 @@
+use Rattle.std.proofs.Common.{length}
+use Rattle.stun_types_grammar_laws.proofs.Scan.{Continues}
+use Rattle.stun_types_message.specs.ShapeStages.{stage_rank}
+use Rattle.stun_types_message.proofs.parsed.scan.Given as goal
+
+-- what is still to be shown and refused stays the same
+abbrev pub invariant-loop-rest : goal.invariant-loop-rest
+invariant-loop-rest l = Continues (stage_rank l.stage) l.rest l.fn.bytes
+
+abbrev pub decreases-loop-rest : goal.decreases-loop-rest
+decreases-loop-rest l = length l.rest

@@ -1,0 +1,225 @@
+-- The numbers of the protocol, each once: methods, types of attributes, codes of errors, limits and
+-- sizes (RFC 8489). `src/registry.rt` has the same numbers for the code.
+use Rattle.std.specs.Prelude.{ℕ, ◌+◌, List, [], ◌∷◌, take}
+
+-- ---- the header (section 5)
+
+-- the four bytes of the cookie
+abbrev pub cookie : List ℕ
+cookie = 0x21 ∷ 0x12 ∷ 0xA4 ∷ 0x42 ∷ []
+
+-- its first half, with which a port is xored (section 14.2)
+abbrev pub cookie_front : List ℕ
+cookie_front = take 2 cookie
+
+-- how many bytes a header has
+abbrev pub header_size : ℕ
+header_size = 20
+
+-- how many bytes follow a header at most: the length field has sixteen bits
+abbrev pub greatest_data : ℕ
+greatest_data = 65_535
+
+-- how many bytes a message has at most
+abbrev pub greatest_size : ℕ
+greatest_size = header_size + greatest_data
+
+-- ---- methods (section 18.2)
+
+-- BINDING
+abbrev pub binding_method : ℕ
+binding_method = 0x001
+
+-- ---- types of attributes (section 18.3)
+
+-- the first type that a receiver need not understand (section 14)
+abbrev pub first_optional_kind : ℕ
+first_optional_kind = 0x8000
+
+-- USERNAME (section 14.3)
+abbrev pub username_kind : ℕ
+username_kind = 0x0006
+
+-- MESSAGE-INTEGRITY (section 14.5)
+abbrev pub integrity_kind : ℕ
+integrity_kind = 0x0008
+
+-- ERROR-CODE (section 14.8)
+abbrev pub error_code_kind : ℕ
+error_code_kind = 0x0009
+
+-- UNKNOWN-ATTRIBUTES (section 14.13)
+abbrev pub unknown_attributes_kind : ℕ
+unknown_attributes_kind = 0x000A
+
+-- REALM (section 14.9)
+abbrev pub realm_kind : ℕ
+realm_kind = 0x0014
+
+-- NONCE (section 14.10)
+abbrev pub nonce_kind : ℕ
+nonce_kind = 0x0015
+
+-- MESSAGE-INTEGRITY-SHA256 (section 14.6)
+abbrev pub sha256_kind : ℕ
+sha256_kind = 0x001C
+
+-- PASSWORD-ALGORITHM (section 14.12)
+abbrev pub password_algorithm_kind : ℕ
+password_algorithm_kind = 0x001D
+
+-- USERHASH (section 14.4)
+abbrev pub userhash_kind : ℕ
+userhash_kind = 0x001E
+
+-- XOR-MAPPED-ADDRESS (section 14.2)
+abbrev pub xor_mapped_address_kind : ℕ
+xor_mapped_address_kind = 0x0020
+
+-- PASSWORD-ALGORITHMS (section 14.11)
+abbrev pub password_algorithms_kind : ℕ
+password_algorithms_kind = 0x8002
+
+-- ALTERNATE-DOMAIN (section 14.16)
+abbrev pub alternate_domain_kind : ℕ
+alternate_domain_kind = 0x8003
+
+-- SOFTWARE (section 14.14)
+abbrev pub software_kind : ℕ
+software_kind = 0x8022
+
+-- ALTERNATE-SERVER (section 14.15)
+abbrev pub alternate_server_kind : ℕ
+alternate_server_kind = 0x8023
+
+-- FINGERPRINT (section 14.7)
+abbrev pub fingerprint_kind : ℕ
+fingerprint_kind = 0x8028
+
+-- ---- codes of errors (section 18.4; RFC 8656, section 19; RFC 6062, section 6.3; RFC 8445, section 16.2)
+
+-- the least code
+abbrev pub least_code : ℕ
+least_code = 300
+
+-- the greatest code
+abbrev pub greatest_code : ℕ
+greatest_code = 699
+
+-- the client should try another server
+abbrev pub try_alternate_code : ℕ
+try_alternate_code = 300
+
+-- the request is malformed
+abbrev pub bad_request_code : ℕ
+bad_request_code = 400
+
+-- the request lacks the right credentials
+abbrev pub unauthorized_code : ℕ
+unauthorized_code = 401
+
+-- the request is right, and not allowed
+abbrev pub forbidden_code : ℕ
+forbidden_code = 403
+
+-- the request has an attribute that has to be understood, and is not
+abbrev pub unknown_attribute_code : ℕ
+unknown_attribute_code = 420
+
+-- there is no allocation where one is needed, or the other way round
+abbrev pub allocation_mismatch_code : ℕ
+allocation_mismatch_code = 437
+
+-- the nonce is no longer valid
+abbrev pub stale_nonce_code : ℕ
+stale_nonce_code = 438
+
+-- the server has no addresses of the family
+abbrev pub family_not_supported_code : ℕ
+family_not_supported_code = 440
+
+-- the credentials are not those of the allocation
+abbrev pub wrong_credentials_code : ℕ
+wrong_credentials_code = 441
+
+-- the transport is not supported
+abbrev pub unsupported_transport_code : ℕ
+unsupported_transport_code = 442
+
+-- the peer is of another family than the allocation
+abbrev pub family_mismatch_code : ℕ
+family_mismatch_code = 443
+
+-- there is a connection to the peer already
+abbrev pub connection_exists_code : ℕ
+connection_exists_code = 446
+
+-- the connection to the peer failed
+abbrev pub connection_failure_code : ℕ
+connection_failure_code = 447
+
+-- the user has as many allocations as are allowed
+abbrev pub quota_reached_code : ℕ
+quota_reached_code = 486
+
+-- both ICE agents have one role
+abbrev pub role_conflict_code : ℕ
+role_conflict_code = 487
+
+-- the server failed
+abbrev pub server_error_code : ℕ
+server_error_code = 500
+
+-- the server lacks what the request needs
+abbrev pub insufficient_capacity_code : ℕ
+insufficient_capacity_code = 508
+
+-- ---- limits and sizes, in bytes where nothing else is said
+
+-- how many bytes a USERNAME has at most (section 14.3)
+abbrev pub longest_username : ℕ
+longest_username = 513
+
+-- how many bytes a REALM, a NONCE or a reason has at most (sections 14.8 to 14.10)
+abbrev pub longest_text : ℕ
+longest_text = 763
+
+-- how many bytes a SOFTWARE has at most (section 14.14)
+abbrev pub longest_software : ℕ
+longest_software = 763
+
+-- how many bytes an ALTERNATE-DOMAIN has at most (section 14.16)
+abbrev pub longest_domain : ℕ
+longest_domain = 255
+
+-- how many bytes a value has at most: its length has sixteen bits (section 14)
+abbrev pub longest_value : ℕ
+longest_value = 65_535
+
+-- how many bytes a USERHASH has (section 14.4)
+abbrev pub userhash_length : ℕ
+userhash_length = 32
+
+-- how many bytes an HMAC-SHA1 has (section 14.5)
+abbrev pub sha1_length : ℕ
+sha1_length = 20
+
+-- how many bytes an HMAC-SHA256 has (section 14.6)
+abbrev pub sha256_length : ℕ
+sha256_length = 32
+
+-- how many bytes of an HMAC-SHA256 are left at least where it is cut short (section 14.6)
+abbrev pub least_sha256_length : ℕ
+least_sha256_length = 16
+
+-- how many algorithms a PASSWORD-ALGORITHMS has at most here, where the RFC sets no limit
+abbrev pub most_algorithms : ℕ
+most_algorithms = 8
+
+-- how many bytes a whole FINGERPRINT has, header and value (section 14.7)
+abbrev pub fingerprint_size : ℕ
+fingerprint_size = 8
+
+-- what the CRC-32 of a FINGERPRINT is combined with: STUN in letters (section 14.7)
+abbrev pub fingerprint_mask : ℕ
+fingerprint_mask = 0x5354_554E
