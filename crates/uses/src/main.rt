@@ -1,0 +1,183 @@
+//! Callers of the libraries, each with a contract of its own. The program calls each of them, and prints
+//! a line or two of what it answers.
+#![tactic(auto)]
+
+mod answers;
+mod message;
+mod samples;
+mod served;
+mod validating;
+
+use crate::answers::{redirect, reject};
+use crate::message::{Looked, lifetime, look, sign};
+use crate::samples::{PASSWORD, SAMPLE, UNSIGNED};
+use crate::served::{allocate, serve};
+use crate::validating::validate;
+use rand_chacha::ChaCha20Rng;
+use rand_core::SeedableRng;
+use std::alloc::Global;
+use std::io;
+use std::net::{IpAddr, Ipv4Addr, Ipv6Addr, SocketAddr};
+use stun_proto::Instant;
+use stun_proto::auth::LongTermServerAuth;
+use stun_types::NoMemory;
+use stun_types::attribute::ErrorCode;
+use stun_types::message::{
+    IntegrityAlgorithm, LongTermCredentials, LongTermKeyCredentials, Message, MessageClass,
+    MessageIntegrityCredentials, MessageWriteMutSlice, ShortTermCredentials, TransactionId,
+};
+use stun_types::prelude::{MessageWrite, MessageWriteExt};
+
+fn main(rt: HostRuntime) -> anyhow::Result<()> {
+    look_at_samples(&rt)?;
+    read_lifetimes(&rt, rt.alloc())?;
+    validate_sample(&rt, rt.alloc())?;
+    answer_sample(&rt, rt.alloc())?;
+    serve_user(&rt, rt.alloc())?;
+    challenge_client(&rt, rt.alloc())
+}
+
+/// Looks into the sample, and into bytes that are no message.
+fn look_at_samples(rt: &impl Print) -> anyhow::Result<()> {
+    for bytes in [SAMPLE, PASSWORD.as_bytes()] {
+        match look(bytes) {
+            Ok(told) => print_looked(rt, &told)?,
+            Err(error) => println!(rt; "look: no message: {error}")?,
+        }
+    }
+    Ok(())
+}
+
+/// Prints what a message tells.
+fn print_looked(rt: &impl Print, told: &Looked<'_>) -> io::Result<()> {
+    let class = match told.class {
+        MessageClass::Request => "request",
+        MessageClass::Indication => "indication",
+        MessageClass::Success => "success response",
+        MessageClass::Error => "error response",
+    };
+    let signed = if told.is_signed { "signed" } else { "unsigned" };
+    println!(rt;
+        "look: a {signed} {class} of method {}, number {}",
+        told.method.0, told.number
+    )?;
+    match &told.user {
+        Some(user) => print_hex(rt, "look: user", user.value()),
+        None => println!(rt; "look: no user"),
+    }
+}
+
+/// Reads the LIFETIME of a request that shows one, and of one that shows none.
+fn read_lifetimes(rt: &impl Print, alloc: Global) -> anyhow::Result<()> {
+    for bytes in [UNSIGNED, SAMPLE] {
+        match lifetime(alloc, &Message::from_bytes(bytes)?)? {
+            Some(seconds) => println!(rt; "lifetime: {seconds} seconds")?,
+            None => println!(rt; "lifetime: none is shown")?,
+        }
+    }
+    Ok(())
+}
+
+/// Validates the sample under its password, and under another one.
+fn validate_sample(rt: &impl Print, alloc: Global) -> anyhow::Result<()> {
+    for password in [PASSWORD, "pass"] {
+        let secret = ShortTermCredentials::new(String::from_str(alloc, password)?);
+        match validate(SAMPLE, &MessageIntegrityCredentials::from(secret)) {
+            Ok(IntegrityAlgorithm::Sha1) => println!(rt; "validate: signed by HMAC-SHA1")?,
+            Ok(IntegrityAlgorithm::Sha256) => println!(rt; "validate: signed by HMAC-SHA256")?,
+            Err(error) => println!(rt; "validate: refused: {error}")?,
+        }
+    }
+    Ok(())
+}
+
+/// Answers the sample with an error response, and sends its client to other servers, by a response in
+/// lent bytes.
+fn answer_sample(rt: &impl Print, alloc: Global) -> anyhow::Result<()> {
+    let request = Message::from_bytes(SAMPLE)?;
+    if !request.has_class(MessageClass::Request) {
+        return Ok(());
+    }
+    let rejected = reject(alloc, &request, ErrorCode::FORBIDDEN)?;
+    print_hex(rt, "reject", rejected.as_slice())?;
+    let servers = [
+        SocketAddr::new(IpAddr::V4(Ipv4Addr::new(192, 0, 2, 1)), 3478),
+        SocketAddr::new(
+            IpAddr::V6(Ipv6Addr::new(0x2001, 0xdb8, 0, 0, 0, 0, 0, 1)),
+            3479,
+        ),
+    ];
+    let mut bytes = [0; 128];
+    let writer = MessageWriteMutSlice::new(&mut bytes);
+    let mut writer = Message::builder_error(&request, writer)?;
+    writer.add_attribute(&ErrorCode::builder(ErrorCode::TRY_ALTERNATE).build(alloc)?)?;
+    redirect(&mut writer, &servers)?;
+    print_hex(rt, "redirect", writer.data())?;
+    Ok(())
+}
+
+/// Signs a request under a nonce that was never drawn, and under the one that the server then keeps for
+/// the client, and has the server answer both.
+fn serve_user(rt: &impl Print, alloc: Global) -> anyhow::Result<()> {
+    let mut server = server(alloc)?;
+    let user = user(alloc)?.to_key(alloc, String::from_str(alloc, "realm")?)?;
+    let from = SocketAddr::new(IpAddr::V4(Ipv4Addr::new(192, 0, 2, 9)), 50_000);
+    let mut words = ChaCha20Rng::from_seed([0; 32]);
+    for _ in 0..2 {
+        let nonce = server.nonce_for_client(from).unwrap_or("none");
+        let signed = sign(alloc, TransactionId::from(7u128), &user, nonce)?;
+        print_hex(rt, "sign", signed.as_slice())?;
+        let request = Message::from_bytes(signed.as_slice())?;
+        if !request.has_class(MessageClass::Request) {
+            return Ok(());
+        }
+        match serve(
+            alloc,
+            &mut server,
+            &request,
+            from,
+            Instant::ZERO,
+            &mut words,
+        ) {
+            Ok(reply) => print_hex(rt, "serve", reply.as_slice())?,
+            Err(error) => println!(rt; "serve: refused: {error}")?,
+        }
+    }
+    Ok(())
+}
+
+/// Hands a request that is not signed to a desk, and bytes that are no ALLOCATE request.
+fn challenge_client(rt: &impl Print, alloc: Global) -> anyhow::Result<()> {
+    let from = SocketAddr::new(IpAddr::V4(Ipv4Addr::new(192, 0, 2, 9)), 50_000);
+    for bytes in [UNSIGNED, SAMPLE] {
+        let mut words = ChaCha20Rng::from_seed([0; 32]);
+        match allocate(alloc, bytes, from, &mut words)? {
+            Some(reply) => print_hex(rt, "allocate", reply.as_slice())?,
+            None => println!(rt; "allocate: no reply")?,
+        }
+    }
+    Ok(())
+}
+
+/// The user `user`.
+fn user(alloc: Global) -> Result<LongTermCredentials, NoMemory> {
+    let name = String::from_str(alloc, "user")?;
+    let password = String::from_str(alloc, "pass")?;
+    Ok(LongTermCredentials::new(name, password))
+}
+
+/// A server of the realm `realm` that knows the user.
+fn server(alloc: Global) -> Result<LongTermServerAuth, NoMemory> {
+    let mut server = LongTermServerAuth::new(alloc, String::from_str(alloc, "realm")?);
+    server.add_user(user(alloc)?)?;
+    Ok(server)
+}
+
+/// Prints bytes in lower case hex behind a name.
+fn print_hex(rt: &impl Print, name: &str, bytes: &[u8]) -> io::Result<()> {
+    print!(rt; "{name}: ")?;
+    for byte in bytes {
+        print!(rt; "{byte:02x}")?;
+    }
+    println!(rt)
+}

@@ -1,0 +1,66 @@
+//! The server's side: requests that are validated and answered, and a desk that challenges.
+
+ghost use Rattle.std.specs.Prelude.{◌≡◌, ℕ, List, IfOk, MatchOption, OnOk};
+ghost use Rattle.stun_types.specs.Attributes.{kind_at};
+ghost use Rattle.stun_types.specs.IntegrityAlgorithms.{IntegrityAlgorithm};
+ghost use Rattle.stun_types.specs.MessageClasses.{Request};
+ghost use Rattle.stun_types.specs.Types.{class_of};
+ghost use Rattle.stun_proto.specs.Server.{refreshed};
+ghost use Rattle.stun_proto.specs.ServerValidation.{Accepts};
+ghost use Rattle.turn_desk.specs.Requests.{IsServed};
+
+use rand_core::Rng;
+use std::alloc::Global;
+use std::net::{IpAddr, Ipv4Addr, SocketAddr};
+use stun_proto::Instant;
+use stun_proto::auth::LongTermServerAuth;
+use stun_types::message::{LongTermCredentials, Message, MessageWriteVec};
+use stun_types::prelude::MessageWrite;
+use stun_types::{ListOf, NoMemory};
+use turn_desk::{Decision, Desk};
+
+/// Answers a request of a user of the server with a success response, signed under the key by which the
+/// request is validated. Refused where it is no such request.
+pub(crate) fn serve<R: Rng>(
+    alloc: Global,
+    server: &mut LongTermServerAuth,
+    request: &Message,
+    from: SocketAddr,
+    now: Instant,
+    words: &mut R,
+) -> anyhow::Result<Vec<u8>>
+    requires { class_of (kind_at request.now) ≡ Request }
+    ensures { OnOk result ((algorithm : IntegrityAlgorithm) × (name : List ℕ)
+        × Accepts (refreshed server.old from now (R.stream words.old)) from request.now
+        algorithm name) }
+{
+    server.validate_incoming_message(request, from, now, words)?;
+    let reply = Message::builder_success(request, MessageWriteVec::new(alloc))?;
+    let reply = server.sign_outgoing_message(reply, from)?;
+    Ok(reply.finish())
+}
+
+/// The reply of a new desk, which knows one user and relays 203.0.113.5:50000 for ten minutes, to bytes
+/// that came from an address. `None` where they are no ALLOCATE request.
+pub(crate) fn allocate<R: Rng>(
+    alloc: Global,
+    bytes: &[u8],
+    from: SocketAddr,
+    words: &mut R,
+) -> Result<Option<Vec<u8>>, NoMemory>
+    ensures { IfOk result (λ reply.
+        MatchOption reply (¬ IsServed bytes.now) (λ _. IsServed bytes.now)) }
+{
+    let mut server = LongTermServerAuth::new(alloc, String::from_str(alloc, "realm")?);
+    let name = String::from_str(alloc, "user")?;
+    let password = String::from_str(alloc, "pass")?;
+    server.add_user(LongTermCredentials::new(name, password))?;
+    let mut addresses = ListOf::new(alloc);
+    addresses.push(SocketAddr::new(IpAddr::V4(Ipv4Addr::new(203, 0, 113, 5)), 50_000))?;
+    let decision = Decision::Allocate {
+        addresses,
+        lifetime: 600,
+    };
+    let mut desk = Desk::new(alloc, server);
+    desk.handle(bytes, from, Instant::ZERO, &decision, words)
+}
