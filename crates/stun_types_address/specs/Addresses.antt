@@ -8,15 +8,16 @@ use Rattle.byteorder.specs.Endian.{big_bytes, big_number}
 use Rattle.stun_types_wire.specs.declared.error.StunParseError.{StunParseError}
 use Rattle.stun_types_wire.specs.declared.error.StunParseError.TheVariants.{Truncated, TooLarge, WrongAttributeImplementation, InvalidAttributeData}
 use Rattle.stun_types_wire.specs.Attributes.{Attr}
+use Rattle.stun_types_wire.specs.Registry.{ipv4_family, ipv4_value_size, ipv6_family, ipv6_value_size}
 
 -- a zero, the family, the port, the octets of the address
 abbrev pub value_of_parts : ℕ → ℕ → List ℕ → List ℕ
 value_of_parts family port octets = 0 ∷ family ∷ (big_bytes 2 port ++ octets)
 
--- the value of an address: family 1 is IPv4, family 2 is IPv6
+-- the value of an address
 abbrev pub address_value : SocketAddr → List ℕ
-address_value (V4 a) = value_of_parts 1 (v4_port a) (ipv4_octets (v4_ip a))
-address_value (V6 a) = value_of_parts 2 (v6_port a) (ipv6_octets (v6_ip a))
+address_value (V4 a) = value_of_parts ipv4_family (v4_port a) (ipv4_octets (v4_ip a))
+address_value (V6 a) = value_of_parts ipv6_family (v6_port a) (ipv6_octets (v6_ip a))
 
 -- the address of IPv4 behind the family
 abbrev pub v4_of : List ℕ → SocketAddr
@@ -34,8 +35,8 @@ v6_of value = V6 (record {
 -- the address that a value tells: none where the family is none
 abbrev pub address_of : List ℕ → Option SocketAddr
 address_of value =
-    if slice_index value 1 == 1 then Some (v4_of value)
-    else if slice_index value 1 == 2 then Some (v6_of value)
+    if slice_index value 1 == ipv4_family then Some (v4_of value)
+    else if slice_index value 1 == ipv6_family then Some (v6_of value)
     else None
 
 -- an address without the flow information and the scope, which have no bytes
@@ -54,8 +55,8 @@ length_refusal n value =
 unfoldable pub address_refusal : List ℕ → Option StunParseError
 address_refusal value =
     if nat_lt (length value) 4 then Some (Truncated 4 (length value))
-    else if slice_index value 1 == 1 then length_refusal 8 value
-    else if slice_index value 1 == 2 then length_refusal 20 value
+    else if slice_index value 1 == ipv4_family then length_refusal ipv4_value_size value
+    else if slice_index value 1 == ipv6_family then length_refusal ipv6_value_size value
     else Some InvalidAttributeData
 
 -- why a type and a value are not an address of this type

@@ -6,19 +6,21 @@ ghost use Rattle.byteorder.specs.Endian.{big_bytes};
 ghost use Rattle.stun_types_address.specs.Addresses.{address_again, address_of, address_refusal, address_value, length_refusal, value_of_parts};
 ghost use Rattle.std.specs.Net.Addr.{octets_of, segments_of};
 ghost use Rattle.stun_types_address.specs.Xor.{octets_mask, xor_bytes, xored};
-ghost use Rattle.stun_types_wire.specs.Registry.{cookie_front};
+ghost use Rattle.stun_types_wire.specs.Registry.{cookie_front, ipv4_family, ipv4_value_size, ipv6_family, ipv6_value_size};
 
 use std::net::{Ipv4Addr, Ipv6Addr, SocketAddr, SocketAddrV4, SocketAddrV6};
 use stun_types_wire::error::StunParseError;
-use stun_types_wire::registry::{COOKIE_FRONT, MAGIC_COOKIE};
+use stun_types_wire::registry::{
+    COOKIE_FRONT, IPV4_FAMILY, IPV4_VALUE_LENGTH, IPV6_FAMILY, IPV6_VALUE_LENGTH, MAGIC_COOKIE,
+};
 use stun_types_wire::transaction::TransactionId;
 
 /// The IPv4 address of a port and octets.
 #[tactic(auto, using(crate::proofs::Bytes::v4_is_accepted))]
 pub(crate) fn v4_address(port: u16, octets: [u8; 4]) -> SocketAddr
-    ensures value { address_value result ≡ value_of_parts 1 port octets }
-    ensures told { Some result ≡ address_of (value_of_parts 1 port octets) }
-    ensures accepted { address_refusal (value_of_parts 1 port octets) ≡ None }
+    ensures value { address_value result ≡ value_of_parts ipv4_family port octets }
+    ensures told { Some result ≡ address_of (value_of_parts ipv4_family port octets) }
+    ensures accepted { address_refusal (value_of_parts ipv4_family port octets) ≡ None }
 {
     SocketAddr::V4(SocketAddrV4::new(Ipv4Addr::from_octets(octets), port))
 }
@@ -26,9 +28,9 @@ pub(crate) fn v4_address(port: u16, octets: [u8; 4]) -> SocketAddr
 /// The IPv6 address of a port and octets, with no flow information and no scope.
 #[tactic(auto, using(crate::proofs::Bytes::v6_is_accepted, crate::proofs::Bytes::sixteen_again))]
 pub(crate) fn v6_address(port: u16, octets: &[u8; 16]) -> SocketAddr
-    ensures value { address_value result ≡ value_of_parts 2 port octets.now }
-    ensures told { Some result ≡ address_of (value_of_parts 2 port octets.now) }
-    ensures accepted { address_refusal (value_of_parts 2 port octets.now) ≡ None }
+    ensures value { address_value result ≡ value_of_parts ipv6_family port octets.now }
+    ensures told { Some result ≡ address_of (value_of_parts ipv6_family port octets.now) }
+    ensures accepted { address_refusal (value_of_parts ipv6_family port octets.now) ≡ None }
 {
     SocketAddr::V6(SocketAddrV6::new(Ipv6Addr::from_octets(*octets), port, 0, 0))
 }
@@ -71,8 +73,8 @@ pub(crate) fn read_address(value: &[u8]) -> Result<SocketAddr, StunParseError>
         });
     }
     match value[1] {
-        1 => read_v4(value),
-        2 => read_v6(value),
+        IPV4_FAMILY => read_v4(value),
+        IPV6_FAMILY => read_v6(value),
         _ => Err(StunParseError::InvalidAttributeData),
     }
 }
@@ -81,14 +83,14 @@ pub(crate) fn read_address(value: &[u8]) -> Result<SocketAddr, StunParseError>
 #[tactic(auto, using(crate::proofs::Bytes::parts_again))]
 fn read_v4(value: &[u8]) -> Result<SocketAddr, StunParseError>
     requires front { 4 ≤ length value.now }
-    requires family { slice_index value.now 1 ≡ 1 }
-    ensures { MatchResult result (λ addr. (length_refusal 8 value.now ≡ None)
+    requires family { slice_index value.now 1 ≡ ipv4_family }
+    ensures { MatchResult result (λ addr. (length_refusal ipv4_value_size value.now ≡ None)
         × (address_value addr ≡ address_again value.now)
         × (Some addr ≡ address_of (address_again value.now))
         × (address_refusal (address_again value.now) ≡ None))
-        (IsNamed (length_refusal 8 value.now)) }
+        (IsNamed (length_refusal ipv4_value_size value.now)) }
 {
-    check_length(value, 8)?;
+    check_length(value, IPV4_VALUE_LENGTH)?;
     let mut octets = [0; 4];
     octets.copy_from_slice(&value[4..]);
     Ok(v4_address(port_in(value), octets))
@@ -98,14 +100,14 @@ fn read_v4(value: &[u8]) -> Result<SocketAddr, StunParseError>
 #[tactic(auto, using(crate::proofs::Bytes::parts_again))]
 fn read_v6(value: &[u8]) -> Result<SocketAddr, StunParseError>
     requires front { 4 ≤ length value.now }
-    requires family { slice_index value.now 1 ≡ 2 }
-    ensures { MatchResult result (λ addr. (length_refusal 20 value.now ≡ None)
+    requires family { slice_index value.now 1 ≡ ipv6_family }
+    ensures { MatchResult result (λ addr. (length_refusal ipv6_value_size value.now ≡ None)
         × (address_value addr ≡ address_again value.now)
         × (Some addr ≡ address_of (address_again value.now))
         × (address_refusal (address_again value.now) ≡ None))
-        (IsNamed (length_refusal 20 value.now)) }
+        (IsNamed (length_refusal ipv6_value_size value.now)) }
 {
-    check_length(value, 20)?;
+    check_length(value, IPV6_VALUE_LENGTH)?;
     let mut octets = [0; 16];
     octets.copy_from_slice(&value[4..]);
     Ok(v6_address(port_in(value), &octets))

@@ -15,6 +15,7 @@ use std::net::SocketAddr;
 use stun_types_base::memory::NoMemory;
 use stun_types_wire::attribute::{AttributeType, RawAttribute};
 use stun_types_wire::error::StunParseError;
+use stun_types_wire::registry::{IPV4_FAMILY, IPV6_FAMILY};
 use stun_types_wire::transaction::TransactionId;
 use stun_types_write::text::write_attribute_in_two;
 
@@ -106,11 +107,11 @@ impl MappedSocketAddr {
         let mut value = Vec::with_capacity(alloc, self.length() as usize)?;
         match self.addr {
             SocketAddr::V4(v4) => {
-                value.extend_from_slice(&front_of(1, v4.port()))?;
+                value.extend_from_slice(&front_of(IPV4_FAMILY, v4.port()))?;
                 value.extend_from_slice(&v4.ip().octets())?;
             }
             SocketAddr::V6(v6) => {
-                value.extend_from_slice(&front_of(2, v6.port()))?;
+                value.extend_from_slice(&front_of(IPV6_FAMILY, v6.port()))?;
                 value.extend_from_slice(&v6.ip().octets())?;
             }
         }
@@ -126,10 +127,20 @@ impl MappedSocketAddr {
     {
         match self.addr {
             SocketAddr::V4(v4) => {
-                write_attribute_in_two(atype, &front_of(1, v4.port()), &v4.ip().octets(), dest);
+                write_attribute_in_two(
+                    atype,
+                    &front_of(IPV4_FAMILY, v4.port()),
+                    &v4.ip().octets(),
+                    dest,
+                );
             }
             SocketAddr::V6(v6) => {
-                write_attribute_in_two(atype, &front_of(2, v6.port()), &v6.ip().octets(), dest);
+                write_attribute_in_two(
+                    atype,
+                    &front_of(IPV6_FAMILY, v6.port()),
+                    &v6.ip().octets(),
+                    dest,
+                );
             }
         }
     }

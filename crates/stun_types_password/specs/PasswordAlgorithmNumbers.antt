@@ -4,13 +4,14 @@ use Rattle.stun_types_wire.specs.declared.algorithm.IntegrityAlgorithm.{Integrit
 use Rattle.stun_types_wire.specs.declared.algorithm.IntegrityAlgorithm.TheVariants.{Sha1, Sha256}
 use Rattle.stun_types_wire.specs.declared.error.StunParseError.{StunParseError}
 use Rattle.stun_types_wire.specs.declared.error.StunParseError.TheVariants.{InvalidAttributeData}
+use Rattle.stun_types_wire.specs.Registry.{md5_number, sha256_number}
 use Rattle.stun_types_password.specs.declared.algorithm.PasswordAlgorithmValue.{PasswordAlgorithmValue}
 use Rattle.stun_types_password.specs.declared.algorithm.PasswordAlgorithmValue.TheVariants.{MD5, SHA256}
 
 -- the number of an algorithm
 abbrev pub number_of : PasswordAlgorithmValue → ℕ
-number_of MD5 = 1
-number_of SHA256 = 2
+number_of MD5 = md5_number
+number_of SHA256 = sha256_number
 
 -- the algorithm of message integrity whose keys an algorithm makes (RFC 8489, sections 18.5.1.1 and 18.5.1.2)
 abbrev pub integrity_of : PasswordAlgorithmValue → IntegrityAlgorithm

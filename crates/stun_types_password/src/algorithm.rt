@@ -9,6 +9,7 @@ use byteorder::{BigEndian, ByteOrder};
 use std::fmt;
 use stun_types_wire::algorithm::IntegrityAlgorithm;
 use stun_types_wire::error::StunParseError;
+use stun_types_wire::registry::{MD5_NUMBER, SHA256_NUMBER};
 
 /// An algorithm by which a key is made of a name, a realm and a password (RFC 8489, section 18.5).
 #[derive(Clone, Copy, Debug, PartialEq, Eq)]
@@ -36,8 +37,8 @@ impl PasswordAlgorithmValue {
         ensures { result ≡ number_of self }
     {
         match self {
-            PasswordAlgorithmValue::MD5 => 1,
-            PasswordAlgorithmValue::SHA256 => 2,
+            PasswordAlgorithmValue::MD5 => MD5_NUMBER,
+            PasswordAlgorithmValue::SHA256 => SHA256_NUMBER,
         }
     }
 
@@ -48,8 +49,8 @@ impl PasswordAlgorithmValue {
             × (number_refusal number ≡ None)) (IsNamed (number_refusal number)) }
     {
         match number {
-            1 => Ok(PasswordAlgorithmValue::MD5),
-            2 => Ok(PasswordAlgorithmValue::SHA256),
+            MD5_NUMBER => Ok(PasswordAlgorithmValue::MD5),
+            SHA256_NUMBER => Ok(PasswordAlgorithmValue::SHA256),
             _ => Err(StunParseError::InvalidAttributeData),
         }
     }

@@ -223,3 +223,31 @@ fingerprint_size = 8
 -- what the CRC-32 of a FINGERPRINT is combined with: STUN in letters (section 14.7)
 abbrev pub fingerprint_mask : ℕ
 fingerprint_mask = 0x5354_554E
+
+-- ---- families of addresses (section 14.1)
+
+-- the number of IPv4
+abbrev pub ipv4_family : ℕ
+ipv4_family = 1
+
+-- the number of IPv6
+abbrev pub ipv6_family : ℕ
+ipv6_family = 2
+
+-- how many bytes the value of an address of IPv4 has
+abbrev pub ipv4_value_size : ℕ
+ipv4_value_size = 8
+
+-- how many bytes the value of an address of IPv6 has
+abbrev pub ipv6_value_size : ℕ
+ipv6_value_size = 20
+
+-- ---- password algorithms (section 18.5)
+
+-- the number of MD5
+abbrev pub md5_number : ℕ
+md5_number = 1
+
+-- the number of SHA-256
+abbrev pub sha256_number : ℕ
+sha256_number = 2

@@ -172,3 +172,25 @@ pub const FINGERPRINT_SIZE: usize = 8;
 
 /// What the CRC-32 of a FINGERPRINT is combined with: STUN in letters (section 14.7).
 pub const FINGERPRINT_MASK: u32 = 0x5354_554E;
+
+// ---- families of addresses (section 14.1)
+
+/// The number of IPv4.
+pub const IPV4_FAMILY: u8 = 1;
+
+/// The number of IPv6.
+pub const IPV6_FAMILY: u8 = 2;
+
+/// How many bytes the value of an address of IPv4 has.
+pub const IPV4_VALUE_LENGTH: usize = 8;
+
+/// How many bytes the value of an address of IPv6 has.
+pub const IPV6_VALUE_LENGTH: usize = 20;
+
+// ---- password algorithms (section 18.5)
+
+/// The number of MD5.
+pub const MD5_NUMBER: u16 = 1;
+
+/// The number of SHA-256.
+pub const SHA256_NUMBER: u16 = 2;
