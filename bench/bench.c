@@ -33,6 +33,14 @@ enum {
     UNKNOWN_ATTRIBUTES = 0x000a,
     LIFETIME = 0x000d,
     MESSAGE_INTEGRITY_SHA256 = 0x001c,
+    CHANNEL = 0x4001,
+    PAYLOAD = 1200,             // of a frame that is written
+    FRAME_DATA = 60,            // of each frame of a stream
+    FRAME_SIZE = 64,            // with its header
+    FRAMES_FEW = 10,            // in one piece
+    FRAMES_MORE = 100,
+    FRAMES_MANY = 1000,
+    FRAMES_MOST = 1024,         // 64 kB
 };
 
 // ---- what the static library exports; a slice is a pointer and a length
@@ -97,6 +105,10 @@ size_t stun_bench_mark_lent_sha1(const uint8_t *password, size_t password_len,
                                  size_t out_len);
 size_t stun_bench_add_lifetimes(const uint32_t *each, size_t count, uint64_t number, uint8_t *out,
                                 size_t out_len);
+bool stun_bench_parse_channel(const uint8_t *bytes, size_t len);
+size_t stun_bench_write_channel(uint16_t id, const uint8_t *data, size_t data_len, uint8_t *out,
+                                size_t out_len);
+size_t stun_bench_feed(const uint8_t *bytes, size_t len, size_t size);
 size_t stun_bench_check_types(const uint8_t *bytes, size_t len, uint8_t *out, size_t out_len);
 
 // ---- what is counted: the linker sends each call of malloc and realloc here (--wrap)
@@ -132,6 +144,10 @@ static uint8_t large[4096];
 static uint32_t lifetimes[ADDS_MOST];
 // a request that shows as many attributes as a message can, each of another type and none of them known
 static uint8_t unknowns[HEADER_SIZE + BODY_MOST];
+
+// channel frames one behind another, and as much data as a frame has that is written
+static uint8_t stream[FRAMES_MOST * FRAME_SIZE];
+static const uint8_t payload[PAYLOAD];
 
 // a text without the zero at its end
 #define TEXT(text) text, sizeof text - 1
@@ -193,6 +209,13 @@ TIMED(sign_request_sha1, sink += stun_bench_sign_request_sha1(KEY, REQUEST))
 TIMED(sign_request_sha256, sink += stun_bench_sign_request_sha256(KEY, REQUEST))
 TIMED(fingerprint_response, sink += stun_bench_fingerprint(COVERED(response_whole)))
 TIMED(fingerprint_request, sink += stun_bench_fingerprint(COVERED(request_whole)))
+TIMED(parse_channel, sink += stun_bench_parse_channel(stream, FRAME_SIZE))
+TIMED(write_channel, sink += stun_bench_write_channel(CHANNEL, WHOLE(payload), WHOLE(wide)))
+TIMED(feed_few, sink += stun_bench_feed(stream, FRAMES_FEW * FRAME_SIZE, sizeof stream))
+TIMED(feed_more, sink += stun_bench_feed(stream, FRAMES_MORE * FRAME_SIZE, sizeof stream))
+TIMED(feed_many, sink += stun_bench_feed(stream, FRAMES_MANY * FRAME_SIZE, sizeof stream))
+TIMED(feed_most, sink += stun_bench_feed(WHOLE(stream), sizeof stream))
+TIMED(feed_bytes, sink += stun_bench_feed(WHOLE(stream), 1))
 TIMED(add_1, sink += stun_bench_add_lifetimes(LIFETIMES(1)))
 TIMED(add_18, sink += stun_bench_add_lifetimes(LIFETIMES(ADDS_FEW)))
 TIMED(add_899, sink += stun_bench_add_lifetimes(LIFETIMES(ADDS_MANY)))
@@ -212,8 +235,10 @@ enum {
     LOOK_UP_REQUEST, PARSE_WHOLE, LOOK_UP_WHOLE, READ_WHOLE, KEY_ALONE, VALIDATE_RESPONSE_SHA1,
     VALIDATE_WHOLE_SHA1, VALIDATE_REQUEST_SHA1, VALIDATE_RESPONSE_SHA256, VALIDATE_REQUEST_SHA256,
     BUILD, BUILD_LENT, SIGN_SHA1, MARK_SHA1, MARK_LENT_SHA1, SIGN_SHA256, BUILD_REQUEST,
-    SIGN_REQUEST_SHA1, SIGN_REQUEST_SHA256, FINGERPRINT_RESPONSE, FINGERPRINT_REQUEST, SMALL_ROWS,
-    ADD_1 = SMALL_ROWS, ADD_18, ADD_899, ADD_1100, PARSE_UNKNOWNS, CHECK_UNKNOWNS, ROWS
+    SIGN_REQUEST_SHA1, SIGN_REQUEST_SHA256, FINGERPRINT_RESPONSE, FINGERPRINT_REQUEST,
+    PARSE_CHANNEL, WRITE_CHANNEL, FEED_FEW, FEED_MORE, SMALL_ROWS,
+    ADD_1 = SMALL_ROWS, ADD_18, ADD_899, ADD_1100, PARSE_UNKNOWNS, CHECK_UNKNOWNS, FEED_MANY,
+    FEED_MOST, FEED_BYTES, ROWS
 };
 
 static const struct row rows[ROWS] = {
@@ -248,6 +273,13 @@ static const struct row rows[ROWS] = {
                               128},
     [FINGERPRINT_REQUEST] = {"FINGERPRINT of the request, over 116 bytes", fingerprint_request,
                              128},
+    [PARSE_CHANNEL] = {"parse channel frame", parse_channel, 256},
+    [WRITE_CHANNEL] = {"write channel frame of 1200 bytes into a slice", write_channel, 64},
+    [FEED_FEW] = {"stream of 10 frames in one piece", feed_few, 16},
+    [FEED_MORE] = {"stream of 100 frames in one piece", feed_more, 2},
+    [FEED_MANY] = {"stream of 1000 frames in one piece", feed_many, 1},
+    [FEED_MOST] = {"stream of 1024 frames, 64 kB, in one piece", feed_most, 1},
+    [FEED_BYTES] = {"the same bytes one by one", feed_bytes, 1},
     [ADD_1] = {"begin a message in a slice, 1 add", add_1, 128},
     [ADD_18] = {"the same, 18 adds", add_18, 128},
     [ADD_899] = {"the same, 899 adds", add_899, 8},
@@ -399,6 +431,27 @@ static void check_adds(size_t count) {
     }
 }
 
+static void make_stream(void) {
+    for (unsigned at = 0; at < sizeof stream; at += FRAME_SIZE) {
+        write_short(stream + at, CHANNEL);
+        write_short(stream + at + 2, FRAME_DATA);
+    }
+}
+
+static void check_streams(void) {
+    must(stun_bench_parse_channel(stream, FRAME_SIZE), "parse of a channel frame");
+    must(!stun_bench_parse_channel(stream, FRAME_SIZE - 1), "parse of a part of it");
+    size_t size = ATTRIBUTE_HEADER_SIZE + PAYLOAD;
+    must(stun_bench_write_channel(CHANNEL, WHOLE(payload), WHOLE(wide)) == size, "channel frame");
+    must(short_at(wide) == CHANNEL && short_at(wide + 2) == PAYLOAD, "header of a channel frame");
+    must(memcmp(wide + ATTRIBUTE_HEADER_SIZE, payload, PAYLOAD) == 0, "its data");
+    must(stun_bench_write_channel(CHANNEL, WHOLE(payload), wide, size - 1) == 0, "no room for it");
+    must(stun_bench_write_channel(0, WHOLE(payload), WHOLE(wide)) == 0, "no channel's number");
+    must(stun_bench_feed(WHOLE(stream), sizeof stream) == FRAMES_MOST, "a stream in one piece");
+    must(stun_bench_feed(WHOLE(stream), 1) == FRAMES_MOST, "a stream byte by byte");
+    must(stun_bench_feed(WHOLE(stream), FRAME_SIZE - 1) == FRAMES_MOST, "a stream in pieces");
+}
+
 static void check_types(void) {
     size_t list = HEADER_SIZE + ERROR_CODE_SIZE;
     size_t size = list + ATTRIBUTE_HEADER_SIZE + TYPES_SIZE + 2;
@@ -418,6 +471,7 @@ static void check_types(void) {
 static void check_answers(void) {
     make_unknowns();
     make_lifetimes();
+    make_stream();
     check_digests();
     check_reading();
     check_validation();
@@ -426,6 +480,7 @@ static void check_answers(void) {
     check_adds(1);
     check_adds(ADDS_MOST);
     check_types();
+    check_streams();
 }
 
 // ---- timing
@@ -468,6 +523,7 @@ static const double MOST_A_BYTE = 1.5;
 static const double MOST_INTO_SLICE = 0.08;
 static const double MOST_INTO_VECTOR = 0.15;
 static const double MOST_OF_10TH_ADD = 1.2;
+static const double MOST_OF_FEW_FRAMES = 1.5;
 // nanoseconds that a block of SHA-1 takes on the processor to which the bound of CRC-32 is scaled
 static const double SCALED_BLOCK = 150;
 static const double BLOCKS = 5;
@@ -540,6 +596,16 @@ static void tell_building(void) {
     tell("the 1000th add into a slice, to the 10th", MOST_OF_10TH_ADD, around_1000th / around_10th);
 }
 
+static void tell_streams(void) {
+    double few = least[FEED_FEW] / FRAMES_FEW;
+    tell("a frame of 100 in one piece, to one of 10", MOST_OF_FEW_FRAMES,
+         least[FEED_MORE] / FRAMES_MORE / few);
+    tell("a frame of 1000 in one piece, to one of 10", MOST_OF_FEW_FRAMES,
+         least[FEED_MANY] / FRAMES_MANY / few);
+    tell("64 kB of frames in one piece, ns a byte", NO_BOUND, least[FEED_MOST] / sizeof stream);
+    tell("the same bytes one by one, ns a byte", NO_BOUND, least[FEED_BYTES] / sizeof stream);
+}
+
 // the most allocations of these rows
 static double most_taken(const unsigned *of, size_t count) {
     size_t most = 0;
@@ -557,7 +623,8 @@ static void tell_allocations(void) {
                                           VALIDATE_REQUEST_SHA1, VALIDATE_RESPONSE_SHA256,
                                           VALIDATE_REQUEST_SHA256};
     static const unsigned marks[] = {FINGERPRINT_RESPONSE, FINGERPRINT_REQUEST};
-    static const unsigned into_slices[] = {BUILD_LENT, ADD_1, ADD_18, ADD_899, ADD_1100};
+    static const unsigned into_slices[] = {BUILD_LENT, ADD_1, ADD_18, ADD_899, ADD_1100,
+                                           PARSE_CHANNEL, WRITE_CHANNEL};
     static const unsigned signed_slices[] = {MARK_LENT_SHA1};
     static const unsigned into_vectors[] = {BUILD, BUILD_REQUEST};
     static const unsigned signed_vectors[] = {SIGN_SHA1, MARK_SHA1, SIGN_SHA256, SIGN_REQUEST_SHA1,
@@ -585,6 +652,7 @@ int main(int argc, char **argv) {
     tell_integrity();
     tell_reading();
     tell_building();
+    tell_streams();
     tell_allocations();
     if (missed) {
         printf("\nA bound is missed.\n");

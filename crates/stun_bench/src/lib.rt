@@ -1,5 +1,5 @@
 //! What C calls to time the library: digests, and the reading, validation, building and signing of a
-//! message. Each function calls the library's and states again what that states.
+//! message, channel frames and streams. Each function calls the library's and states again what that states.
 #![tactic(auto)]
 
 pub mod adds;
@@ -12,4 +12,5 @@ pub mod lent;
 pub mod read;
 pub mod request;
 mod response;
+pub mod stream;
 pub mod validate;

@@ -7,7 +7,7 @@ use stun_types::{Names, NoMemory};
 use turn_types::attribute::{Lifetime, RequestedTransport, XorRelayedAddress};
 use turn_types::message as method;
 
-/// The names of RFC 8489, and those of the methods and attributes of TURN that this repository has.
+/// The names of RFC 8489, of the methods of TURN, and of the attributes of TURN that are read here.
 pub(crate) fn names(alloc: Global) -> Result<Names, NoMemory> {
     let mut names = Names::new(alloc);
     for (method, name) in [

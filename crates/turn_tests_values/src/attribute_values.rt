@@ -41,7 +41,7 @@ fn is_in_bytes<A: AttributeWrite>(
 }
 
 /// An attribute is this in bytes, and what is read of it is so too.
-fn is_read_back<'a, A: AttributeWrite + AttributeFromRaw<'a> + Drop>(
+pub(crate) fn is_read_back<'a, A: AttributeWrite + AttributeFromRaw<'a> + Drop>(
     rt: &(impl Abort + AllocGlobal),
     attribute: &A,
     expected: &str,
@@ -52,11 +52,11 @@ fn is_read_back<'a, A: AttributeWrite + AttributeFromRaw<'a> + Drop>(
 }
 
 /// What is read of a raw attribute is this in bytes: what is not looked at is zero.
-fn is_read_as<'a, A: AttributeWrite + AttributeFromRaw<'a> + Drop, R: Abort + AllocGlobal>(
-    rt: &R,
-    raw: &'a [u8],
-    expected: &str,
-) -> Result<(), Fail> {
+pub(crate) fn is_read_as<
+    'a,
+    A: AttributeWrite + AttributeFromRaw<'a> + Drop,
+    R: Abort + AllocGlobal,
+>(rt: &R, raw: &'a [u8], expected: &str) -> Result<(), Fail> {
     let read = A::from_raw(rt.alloc(), RawAttribute::from_bytes(raw)?)?;
     is_in_bytes(rt, &read, expected)
 }

@@ -10,3 +10,5 @@ mod attributes;
 mod small_types;
 #[cfg(test)]
 mod texts;
+#[cfg(test)]
+mod turn_values;

@@ -1,8 +1,20 @@
-//! What TURN adds to STUN (RFC 8656): its attributes and its methods. Nothing here does IO.
+//! What TURN adds to STUN (RFC 8656, RFC 6062): its attributes and methods, channel frames, streams of
+//! frames, and what is sent before its bytes are written. Nothing here does IO.
 //!
-//! [`attribute`] has the attributes, [`message`] the methods. Messages are those of `stun_types`.
+//! [`attribute`] has the attributes, [`message`] the methods, [`channel`] channel frames, [`tcp`] the
+//! buffer of a stream, [`transmit`] delayed sends, and [`prelude`] the trait that a caller wants in
+//! scope. [`laws`] says what the definitions of the contracts mean. Messages are those of `stun_types`.
 #![tactic(auto)]
 
 pub mod attribute;
+pub mod channel;
+pub mod credentials;
+pub mod laws;
 pub mod message;
+pub mod prelude;
 pub mod registry;
+pub mod tcp;
+pub mod transmit;
+
+pub use crate::credentials::TurnCredentials;
+pub use stun_types::{AddressFamily, TransportType};

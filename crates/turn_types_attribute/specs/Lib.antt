@@ -1,2 +1,3 @@
+pub mod FamilyValues
 pub mod Transports
 pub mod TurnRegistry

@@ -8,21 +8,61 @@ use Rattle.std.specs.Prelude.{ℕ}
 abbrev pub allocate_method : ℕ
 allocate_method = 0x003
 
+-- SEND
+abbrev pub send_method : ℕ
+send_method = 0x006
+
+-- DATA
+abbrev pub data_method : ℕ
+data_method = 0x007
+
 -- ---- types of attributes
+
+-- CHANNEL-NUMBER (section 18.1)
+abbrev pub channel_number_kind : ℕ
+channel_number_kind = 0x000C
 
 -- LIFETIME (section 18.2)
 abbrev pub lifetime_kind : ℕ
 lifetime_kind = 0x000D
 
+-- XOR-PEER-ADDRESS (section 18.3)
+abbrev pub xor_peer_address_kind : ℕ
+xor_peer_address_kind = 0x0012
+
+-- DATA (section 18.4)
+abbrev pub data_kind : ℕ
+data_kind = 0x0013
+
 -- XOR-RELAYED-ADDRESS (section 18.5)
 abbrev pub xor_relayed_address_kind : ℕ
 xor_relayed_address_kind = 0x0016
 
--- REQUESTED-TRANSPORT (section 18.6)
+-- REQUESTED-ADDRESS-FAMILY (section 18.6)
+abbrev pub requested_address_family_kind : ℕ
+requested_address_family_kind = 0x0017
+
+-- REQUESTED-TRANSPORT (section 18.8)
 abbrev pub requested_transport_kind : ℕ
 requested_transport_kind = 0x0019
 
--- ---- transports, by the numbers of IP (section 18.6; RFC 6062, section 4.1)
+-- DONT-FRAGMENT (section 18.9)
+abbrev pub dont_fragment_kind : ℕ
+dont_fragment_kind = 0x001A
+
+-- CONNECTION-ID (RFC 6062, section 6.2.1)
+abbrev pub connection_id_kind : ℕ
+connection_id_kind = 0x002A
+
+-- ADDITIONAL-ADDRESS-FAMILY (section 18.11)
+abbrev pub additional_address_family_kind : ℕ
+additional_address_family_kind = 0x8000
+
+-- ICMP (section 18.13)
+abbrev pub icmp_kind : ℕ
+icmp_kind = 0x8004
+
+-- ---- transports, by the numbers of IP (section 18.8; RFC 6062, section 4.1)
 
 -- TCP
 abbrev pub tcp_protocol : ℕ
@@ -31,3 +71,20 @@ tcp_protocol = 6
 -- UDP
 abbrev pub udp_protocol : ℕ
 udp_protocol = 17
+
+-- ---- channels and payloads (sections 12 and 12.4)
+
+-- the least and the greatest number of a channel; RFC 8656 itself keeps those from 0x5000 on for later
+abbrev pub least_channel : ℕ
+least_channel = 0x4000
+
+abbrev pub greatest_channel : ℕ
+greatest_channel = 0x7FFF
+
+-- how many bytes the header of a channel frame has
+abbrev pub channel_header_size : ℕ
+channel_header_size = 4
+
+-- how many bytes of a peer's data an indication holds at most beside an address of IPv6
+abbrev pub most_payload : ℕ
+most_payload = 65504

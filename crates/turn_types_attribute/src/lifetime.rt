@@ -1,19 +1,17 @@
 //! LIFETIME (RFC 8656, section 18.2).
 
-ghost use Rattle.std.specs.Prelude.{◌≡◌, None, length, MatchResult};
-ghost use Rattle.stun_types.specs.ValueReading.{IsNamed, value_refusal};
-ghost use Rattle.byteorder.specs.Endian.{big_bytes, big_number};
+ghost use Rattle.std.specs.Prelude.{◌≡◌};
 ghost use Rattle.turn_types_attribute.specs.TurnRegistry.{lifetime_kind};
 
+use crate::number::read_number;
 use crate::registry;
-use byteorder::{BigEndian, ByteOrder};
 use std::alloc::Global;
 use std::convert::TryFrom;
 use std::marker::Model;
 use stun_types::NoMemory;
 use stun_types::attribute::{
     Attribute, AttributeFromRaw, AttributeStaticType, AttributeType, AttributeWrite, RawAttribute,
-    value_of, write_attribute,
+    write_attribute,
 };
 use stun_types::message::StunParseError;
 
@@ -96,7 +94,7 @@ impl<'a, 'raw> TryFrom<&'raw RawAttribute<'a>> for Lifetime {
         (IsNamed (value_refusal lifetime_kind 4 4 raw.now)) };
 
     fn try_from(raw: &'raw RawAttribute<'a>) -> Result<Lifetime, StunParseError> {
-        let seconds = seconds_of(raw)?;
+        let seconds = read_number(raw, Lifetime::TYPE)?;
         Ok(Lifetime { seconds })
     }
 }
@@ -113,7 +111,7 @@ impl<'a> AttributeFromRaw<'a> for Lifetime {
     ghost reading_takes_memory = { false };
 
     fn from_raw_ref(_alloc: Global, raw: &RawAttribute<'_>) -> Result<Lifetime, StunParseError> {
-        let seconds = seconds_of(raw)?;
+        let seconds = read_number(raw, Lifetime::TYPE)?;
         Ok(Lifetime { seconds })
     }
 
@@ -125,25 +123,4 @@ impl<'a> AttributeFromRaw<'a> for Lifetime {
     fn is_read_back(&self, read: &Lifetime) {
         let _ = (self.seconds(), read.seconds());
     }
-}
-
-/// The number in the value of a LIFETIME. Refused as `try_from` is.
-fn seconds_of(raw: &RawAttribute<'_>) -> Result<u32, StunParseError>
-    ensures { MatchResult result (λ seconds. (value_refusal lifetime_kind 4 4 raw.now ≡ None)
-        × (raw.now.kind ≡ lifetime_kind) × (seconds ≡ big_number 4 raw.now.value)
-        × (big_bytes 4 seconds ≡ raw.now.value)) (IsNamed
-        (value_refusal lifetime_kind 4 4 raw.now)) }
-{
-    let value = value_of(raw, Lifetime::TYPE, 4, 4)?;
-    Ok(number_of(value))
-}
-
-/// The number in four bytes, the highest first.
-#[tactic(auto, using(crate::proofs::Numbers::bytes_again))]
-fn number_of(value: &[u8]) -> u32
-    requires { length value.now ≡ 4 }
-    ensures told { result ≡ big_number 4 value.now }
-    ensures again { big_bytes 4 result ≡ value.now }
-{
-    BigEndian::read_u32(value)
 }

@@ -1,0 +1,143 @@
+//! Channel frames (RFC 8656, section 12.4).
+
+ghost use Rattle.std.specs.Prelude.{◌≡◌, ◌+◌, ◌<◌, ◌≤◌, ◌++◌, length, drop, None, Some, MatchResult, IfOk, IfErr, OnOk};
+ghost use Rattle.byteorder.specs.Endian.{big_bytes};
+ghost use Rattle.stun_types.specs.Attributes.{kind_at, length_at};
+ghost use Rattle.stun_types.specs.WriteErrors.{TooSmall};
+ghost use Rattle.turn_types_attribute.specs.TurnRegistry.{channel_header_size};
+ghost use Rattle.turn_types_frame.specs.ChannelFrames.{IsLawful, channel_header_refusal, channel_refusal, frame_at, frame_text};
+
+use byteorder::{BigEndian, ByteOrder};
+use std::marker::Model;
+use stun_types::message::{StunParseError, StunWriteError};
+use turn_types_attribute::registry::{CHANNEL_HEADER_LENGTH, GREATEST_CHANNEL, LEAST_CHANNEL};
+
+/// The data of a channel, as it stands in a channel frame: a number from 0x4000 to 0x7FFF, and at most
+/// 65,535 bytes, which are borrowed (RFC 8656, section 12.4). Contracts see the record `Frame`.
+#[derive(Debug, Drop)]
+pub struct ChannelData<'a> {
+    id: u16,
+    payload: &'a [u8],
+}
+
+impl<'a> Model for ChannelData<'a> {
+    ghost use Rattle.std.specs.Prelude.{length};
+    ghost use Rattle.turn_types_frame.specs.ChannelFrames.{Frame, IsLawful};
+
+    ghost Value = { Frame };
+
+    ghost view = { λ c. record { id = c.id; payload = c.payload.now } };
+
+    ghost invariant = { λ c. IsLawful c.id (length c.payload.now) };
+}
+
+impl<'a> ChannelData<'a> {
+    /// The data of a channel. The number is from 0x4000 to 0x7FFF, and there are at most 65,535 bytes.
+    pub fn new(id: u16, payload: &'a [u8]) -> ChannelData<'a>
+        requires { IsLawful id (length payload.now) }
+        ensures { result ≡ record { id = id; payload = payload.now } }
+    {
+        ChannelData { id, payload }
+    }
+
+    /// The number of the channel.
+    pub fn id(&self) -> u16
+        ensures { result ≡ self.now.id }
+    {
+        self.id
+    }
+
+    /// The data, for as long as it is borrowed.
+    pub fn data(&self) -> &'a [u8]
+        ensures { result.now ≡ self.now.payload }
+    {
+        self.payload
+    }
+
+    /// The number and the length of the data in the first four bytes; what follows them is not looked
+    /// at. Refused, in this order: `Truncated` where there are fewer than four bytes, `NotStun` where
+    /// the number is not from 0x4000 to 0x7FFF.
+    #[tactic(auto, unfolding(crate::specs::ChannelFrames::channel_header_refusal))]
+    pub fn parse_header(bytes: &[u8]) -> Result<(u16, u16), StunParseError>
+        ensures { MatchResult result (λ header. (channel_header_refusal bytes.now ≡ None)
+            × (header.0 ≡ kind_at bytes.now) × (header.1 ≡ length_at bytes.now))
+            (λ error. channel_header_refusal bytes.now ≡ Some error) }
+    {
+        if bytes.len() < CHANNEL_HEADER_LENGTH {
+            return Err(StunParseError::Truncated {
+                expected: CHANNEL_HEADER_LENGTH,
+                actual: bytes.len(),
+            });
+        }
+        let (_, behind_number) = bytes.split_at(2);
+        let id = BigEndian::read_u16(bytes);
+        if id < LEAST_CHANNEL || GREATEST_CHANNEL < id {
+            return Err(StunParseError::NotStun);
+        }
+        Ok((id, BigEndian::read_u16(behind_number)))
+    }
+
+    /// The channel frame at the front; what follows its data, padding too, is not looked at. Refused
+    /// as `parse_header` is, and then with `Truncated` where the data is not there whole.
+    #[tactic(auto, unfolding(crate::specs::ChannelFrames::channel_refusal, crate::specs::ChannelFrames::channel_header_refusal))]
+    pub fn parse(bytes: &'a [u8]) -> Result<ChannelData<'a>, StunParseError>
+        ensures { MatchResult result (λ channel. (channel_refusal bytes.now ≡ None)
+            × (channel ≡ frame_at bytes.now)) (λ error. channel_refusal bytes.now ≡ Some error) }
+    {
+        let (id, len) = ChannelData::parse_header(bytes)?;
+        let len = usize::from(len);
+        let (_, behind_header) = bytes.split_at(CHANNEL_HEADER_LENGTH);
+        if behind_header.len() < len {
+            return Err(StunParseError::Truncated {
+                expected: CHANNEL_HEADER_LENGTH + len,
+                actual: bytes.len(),
+            });
+        }
+        let (payload, _) = behind_header.split_at(len);
+        Ok(ChannelData { id, payload })
+    }
+
+    /// How many bytes the frame has: its header and its data, without padding.
+    pub fn len(&self) -> usize
+        ensures { result ≡ channel_header_size + length self.now.payload }
+    {
+        CHANNEL_HEADER_LENGTH + self.payload.len()
+    }
+
+    /// Writes the frame to the front, and answers how many bytes it has; what stands behind is left.
+    /// Refused with `TooSmall`, nothing being written, where there are fewer.
+    pub fn write_into(&self, dest: &mut [u8]) -> Result<usize, StunWriteError>
+        ensures count { IfOk result (λ n. (n ≡ channel_header_size + length self.now.payload)
+            × (n ≤ length dest.old)) }
+        ensures bytes { OnOk result (dest.new ≡ frame_text self.now
+            ++ drop (channel_header_size + length self.now.payload) dest.old) }
+        ensures refused { IfErr result (λ error.
+            (error ≡ TooSmall (channel_header_size + length self.now.payload) (length dest.old))
+            × (length dest.old < channel_header_size + length self.now.payload)
+            × (dest.new ≡ dest.old)) }
+    {
+        let size = self.len();
+        if dest.len() < size {
+            return Err(StunWriteError::TooSmall {
+                expected: size,
+                actual: dest.len(),
+            });
+        }
+        self.write_into_unchecked(dest);
+        Ok(size)
+    }
+
+    /// Writes the frame to the front of bytes that are enough; what stands behind is left.
+    pub fn write_into_unchecked(&self, dest: &mut [u8])
+        requires { channel_header_size + length self.now.payload ≤ length dest.old }
+        ensures { dest.new ≡ frame_text self.now
+            ++ drop (channel_header_size + length self.now.payload) dest.old }
+    {
+        let (header, behind_header) = dest.split_at_mut(CHANNEL_HEADER_LENGTH);
+        let (data, _) = behind_header.split_at_mut(self.payload.len());
+        let [i0, i1] = self.id.to_be_bytes();
+        let [l0, l1] = (self.payload.len() as u16).to_be_bytes();
+        header.copy_from_slice(&[i0, i1, l0, l1]);
+        data.copy_from_slice(self.payload);
+    }
+}

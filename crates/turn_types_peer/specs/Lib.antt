@@ -1,0 +1,2 @@
+pub mod PeerValues
+pub mod TurnShows

@@ -1,0 +1,153 @@
+//! CHANNEL-NUMBER (RFC 8656, section 18.1).
+
+ghost use Rattle.std.specs.Prelude.{◌≡◌, ◌≤◌, None, MatchResult, length};
+ghost use Rattle.byteorder.specs.Endian.{big_number};
+ghost use Rattle.stun_types.specs.ValueReading.{IsNamed, value_refusal};
+ghost use Rattle.turn_types_attribute.specs.TurnRegistry.{channel_number_kind};
+ghost use Rattle.turn_types_peer.specs.PeerValues.{channel_value};
+
+use byteorder::{BigEndian, ByteOrder};
+use std::alloc::Global;
+use std::convert::TryFrom;
+use std::marker::Model;
+use stun_types::NoMemory;
+use stun_types::attribute::{
+    Attribute, AttributeFromRaw, AttributeStaticType, AttributeType, AttributeWrite, RawAttribute,
+    value_of, write_attribute,
+};
+use stun_types::message::StunParseError;
+use turn_types_attribute::registry;
+
+/// The number of a channel to a peer (RFC 8656, section 18.1): any number of 16 bits, also one that no
+/// channel frame can carry. Contracts see the number.
+#[derive(Debug, Drop)]
+pub struct ChannelNumber {
+    channel: u16,
+}
+
+impl Model for ChannelNumber {
+    ghost use Rattle.std.specs.Prelude.{ℕ};
+
+    ghost Value = { ℕ };
+
+    ghost view = { λ a. a.channel };
+}
+
+impl ChannelNumber {
+    /// The CHANNEL-NUMBER of a number.
+    pub fn new(channel: u16) -> ChannelNumber
+        ensures { result ≡ channel }
+    {
+        ChannelNumber { channel }
+    }
+
+    /// The number.
+    pub fn channel(&self) -> u16
+        ensures { result ≡ self.now }
+    {
+        self.channel
+    }
+
+    /// The value: the number, and two zeros.
+    fn value(&self) -> [u8; 4]
+        ensures { result ≡ channel_value self.now }
+    {
+        let [high, low] = self.channel.to_be_bytes();
+        [high, low, 0, 0]
+    }
+}
+
+impl AttributeStaticType for ChannelNumber {
+    ghost TYPE = { record { 0 = channel_number_kind } };
+
+    const TYPE: AttributeType = registry::CHANNEL_NUMBER;
+}
+
+impl Attribute for ChannelNumber {
+    ghost use Rattle.turn_types_peer.specs.PeerValues.{channel_value};
+
+    ghost kind = { λ _. channel_number_kind };
+
+    ghost value = { channel_value };
+
+    fn get_type(&self) -> AttributeType {
+        ChannelNumber::TYPE
+    }
+
+    fn length(&self) -> u16 {
+        4
+    }
+}
+
+impl AttributeWrite for ChannelNumber {
+    fn write_into_unchecked(&self, dest: &mut [u8]) {
+        write_attribute(ChannelNumber::TYPE, &self.value(), dest);
+    }
+
+    fn to_raw(&self, alloc: Global) -> Result<RawAttribute<'_>, NoMemory> {
+        let value = Vec::from_slice(alloc, &self.value())?;
+        Ok(RawAttribute::new_owned(ChannelNumber::TYPE, value.into_boxed_slice()))
+    }
+}
+
+/// The number in the first two of four bytes, the highest first. The other two are not looked at.
+/// Refused, in this order: `WrongAttributeImplementation` where it is another type, `Truncated` where
+/// the value is shorter, `TooLarge` where it is longer.
+impl<'a, 'raw> TryFrom<&'raw RawAttribute<'a>> for ChannelNumber {
+    ghost use Rattle.std.specs.Prelude.{◌≡◌, MatchResult, Some, None};
+    ghost use Rattle.stun_types.specs.ValueReading.{IsNamed, value_refusal};
+    ghost use Rattle.byteorder.specs.Endian.{big_number};
+
+    type Error = StunParseError;
+
+    ghost try_from_gives = { λ raw result. MatchResult result
+        (λ read. (value_refusal channel_number_kind 4 4 raw.now ≡ None) × (read
+        ≡ big_number 2 raw.now.value))
+        (IsNamed (value_refusal channel_number_kind 4 4 raw.now)) };
+
+    fn try_from(raw: &'raw RawAttribute<'a>) -> Result<ChannelNumber, StunParseError> {
+        let channel = channel_of(raw)?;
+        Ok(ChannelNumber { channel })
+    }
+}
+
+/// Refused as `try_from` is; no memory is taken.
+impl<'a> AttributeFromRaw<'a> for ChannelNumber {
+    ghost use Rattle.std.specs.Prelude.{false};
+    ghost use Rattle.byteorder.specs.Endian.{big_number};
+    ghost use Rattle.stun_types.specs.ValueReading.{value_refusal};
+    ghost use Rattle.turn_types_peer.specs.PeerValues.{channel_value};
+
+    ghost read_refusal = { value_refusal channel_number_kind 4 4 };
+
+    ghost read_value = { λ value. channel_value (big_number 2 value) };
+
+    ghost reading_takes_memory = { false };
+
+    fn from_raw_ref(
+        _alloc: Global,
+        raw: &RawAttribute<'_>,
+    ) -> Result<ChannelNumber, StunParseError> {
+        let channel = channel_of(raw)?;
+        Ok(ChannelNumber { channel })
+    }
+
+    fn from_raw(alloc: Global, raw: RawAttribute<'a>) -> Result<ChannelNumber, StunParseError> {
+        ChannelNumber::from_raw_ref(alloc, &raw)
+    }
+
+    #[tactic(auto, using(crate::proofs::Peers::channel_is_accepted, crate::proofs::Peers::channel_again, crate::proofs::Peers::same_channel))]
+    fn is_read_back(&self, read: &ChannelNumber) {
+        let _ = (self.channel(), read.channel());
+    }
+}
+
+/// The number in the value of a CHANNEL-NUMBER. Refused as `try_from` is.
+fn channel_of(raw: &RawAttribute<'_>) -> Result<u16, StunParseError>
+    ensures { MatchResult result (λ channel. (value_refusal channel_number_kind 4 4 raw.now ≡ None)
+        × (raw.now.kind ≡ channel_number_kind) × (channel ≡ big_number 2 raw.now.value))
+        (IsNamed (value_refusal channel_number_kind 4 4 raw.now)) }
+{
+    let value = value_of(raw, ChannelNumber::TYPE, 4, 4)?;
+    Ok(BigEndian::read_u16(value))
+}

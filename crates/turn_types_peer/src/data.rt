@@ -1,0 +1,130 @@
+//! DATA (RFC 8656, section 18.4).
+
+ghost use Rattle.std.specs.Prelude.{◌≡◌, ◌<◌, ◌^◌, length, IfOk, MatchResult, None};
+ghost use Rattle.stun_types.specs.Registry.{longest_value};
+ghost use Rattle.stun_types.specs.ValueReading.{IsNamed, value_refusal};
+ghost use Rattle.turn_types_attribute.specs.TurnRegistry.{data_kind};
+
+use std::alloc::Global;
+use std::marker::Model;
+use stun_types::NoMemory;
+use stun_types::attribute::{
+    Attribute, AttributeFromRaw, AttributeStaticType, AttributeType, AttributeWrite, RawAttribute,
+    value_of, write_attribute,
+};
+use stun_types::message::StunParseError;
+use stun_types::registry::MAX_VALUE_LENGTH;
+use turn_types_attribute::registry;
+
+/// What a peer sends, or what is sent to it (RFC 8656, section 18.4): at most 65,535 bytes of its own.
+/// [`Data::bytes_of`] tells them where they stand, without a copy. Contracts see the bytes.
+#[derive(Debug, Drop)]
+pub struct Data {
+    raw: RawAttribute<'static>,
+}
+
+impl Model for Data {
+    ghost use Rattle.std.specs.Prelude.{List, ℕ, ◌≡◌};
+    ghost use Rattle.turn_types_attribute.specs.TurnRegistry.{data_kind};
+
+    ghost Value = { List ℕ };
+
+    ghost view = { λ a. a.raw.value };
+
+    ghost invariant = { λ a. a.raw.kind ≡ data_kind };
+}
+
+impl Data {
+    /// The DATA of a copy of some bytes, at most 65,535 of them. Where memory is refused, `NoMemory`.
+    pub fn new(alloc: Global, bytes: &[u8]) -> Result<Data, NoMemory>
+        requires { length bytes.now < 2 ^ 16 }
+        ensures { IfOk result (λ made. made ≡ bytes.now) }
+    {
+        let raw = RawAttribute::new(registry::DATA_ATTRIBUTE, bytes);
+        Ok(Data {
+            raw: raw.into_owned(alloc)?,
+        })
+    }
+
+    /// The bytes.
+    pub fn data(&self) -> &[u8]
+        ensures value { result.now ≡ self.now }
+        ensures short { length result.now < 2 ^ 16 }
+    {
+        self.raw.value()
+    }
+
+    /// The bytes of a DATA that is shown, where they stand. Refused with `WrongAttributeImplementation`
+    /// where the attribute has another type.
+    pub fn bytes_of<'raw>(raw: &'raw RawAttribute<'_>) -> Result<&'raw [u8], StunParseError>
+        ensures { MatchResult result
+            (λ bytes. (value_refusal data_kind 0 longest_value raw.now ≡ None)
+            × (raw.now.kind ≡ data_kind) × (bytes.now ≡ raw.now.value)
+            × (length bytes.now < 2 ^ 16))
+            (IsNamed (value_refusal data_kind 0 longest_value raw.now)) }
+    {
+        value_of(raw, registry::DATA_ATTRIBUTE, 0, MAX_VALUE_LENGTH)
+    }
+}
+
+impl AttributeStaticType for Data {
+    ghost TYPE = { record { 0 = data_kind } };
+
+    const TYPE: AttributeType = registry::DATA_ATTRIBUTE;
+}
+
+impl Attribute for Data {
+    ghost kind = { λ _. data_kind };
+
+    ghost value = { λ a. a };
+
+    fn get_type(&self) -> AttributeType {
+        Data::TYPE
+    }
+
+    fn length(&self) -> u16 {
+        self.raw.length()
+    }
+}
+
+impl AttributeWrite for Data {
+    ghost use Rattle.std.specs.Prelude.{false};
+
+    ghost giving_takes_memory = { false };
+
+    fn write_into_unchecked(&self, dest: &mut [u8]) {
+        write_attribute(Data::TYPE, self.data(), dest);
+    }
+
+    fn to_raw(&self, _alloc: Global) -> Result<RawAttribute<'_>, NoMemory> {
+        Ok(RawAttribute::new(Data::TYPE, self.data()))
+    }
+}
+
+/// Any bytes. Refused with `WrongAttributeImplementation` where it is another type. Bytes that are owned
+/// already are kept, others are copied.
+impl<'a> AttributeFromRaw<'a> for Data {
+    ghost use Rattle.stun_types.specs.Registry.{longest_value};
+    ghost use Rattle.stun_types.specs.ValueReading.{value_refusal};
+
+    ghost read_refusal = { value_refusal data_kind 0 longest_value };
+
+    ghost read_value = { λ value. value };
+
+    fn from_raw_ref(alloc: Global, raw: &RawAttribute<'_>) -> Result<Data, StunParseError> {
+        let bytes = Data::bytes_of(raw)?;
+        Ok(Data::new(alloc, bytes)?)
+    }
+
+    fn from_raw(alloc: Global, raw: RawAttribute<'a>) -> Result<Data, StunParseError> {
+        Data::bytes_of(&raw)?;
+        Ok(Data {
+            raw: raw.into_owned(alloc)?,
+        })
+    }
+
+    #[tactic(auto, using(stun_types_write::proofs::Values::value_is_accepted))]
+    fn is_read_back(&self, _read: &Data) {
+        let _ = self.data();
+    }
+}

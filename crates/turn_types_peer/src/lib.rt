@@ -1,0 +1,10 @@
+//! The attributes of TURN that speak of peers: their addresses, channels and connections, and what
+//! they send (RFC 8656, section 18; RFC 6062, section 6.2).
+#![tactic(auto)]
+
+pub mod channel_number;
+pub mod connection_id;
+pub mod data;
+pub mod icmp;
+pub mod laws;
+pub mod xor_peer_address;

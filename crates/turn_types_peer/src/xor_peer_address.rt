@@ -1,0 +1,134 @@
+//! XOR-PEER-ADDRESS (RFC 8656, section 18.3).
+
+ghost use Rattle.std.specs.Prelude.{Some, ◌≡◌};
+ghost use Rattle.stun_types.specs.ValueReading.{IsNamed};
+ghost use Rattle.stun_types.specs.Addresses.{address_of, address_value};
+ghost use Rattle.stun_types.specs.Xor.{xored};
+ghost use Rattle.turn_types_attribute.specs.TurnRegistry.{xor_peer_address_kind};
+
+use std::alloc::Global;
+use std::convert::TryFrom;
+use std::marker::Model;
+use std::net::SocketAddr;
+use stun_types::NoMemory;
+use stun_types::attribute::{
+    Attribute, AttributeFromRaw, AttributeStaticType, AttributeType, AttributeWrite, RawAttribute,
+    XorSocketAddr,
+};
+use stun_types::message::{StunParseError, TransactionId};
+use turn_types_attribute::registry;
+
+/// The address of a peer, xored as a XOR-MAPPED-ADDRESS is (RFC 8656, section 18.3). Contracts see the
+/// bytes of the value.
+#[derive(Debug, Drop)]
+pub struct XorPeerAddress {
+    addr: XorSocketAddr,
+}
+
+impl Model for XorPeerAddress {
+    ghost use Rattle.std.specs.Prelude.{ℕ, List};
+
+    ghost Value = { List ℕ };
+
+    ghost view = { λ a. a.addr };
+}
+
+impl XorPeerAddress {
+    /// The attribute of an address under the number of the message that is to hold it.
+    pub fn new(addr: SocketAddr, number: TransactionId) -> XorPeerAddress
+        ensures { result ≡ xored number (address_value addr) }
+    {
+        XorPeerAddress {
+            addr: XorSocketAddr::new(addr, number),
+        }
+    }
+
+    /// The address, under the number of the message that holds it, with no flow information and no
+    /// scope.
+    pub fn addr(&self, number: TransactionId) -> SocketAddr
+        ensures told { Some result ≡ address_of (xored number self.now) }
+        ensures value { address_value result ≡ xored number self.now }
+    {
+        self.addr.addr(number)
+    }
+}
+
+impl AttributeStaticType for XorPeerAddress {
+    ghost TYPE = { record { 0 = xor_peer_address_kind } };
+
+    const TYPE: AttributeType = registry::XOR_PEER_ADDRESS;
+}
+
+impl Attribute for XorPeerAddress {
+    ghost kind = { λ _. xor_peer_address_kind };
+
+    ghost value = { λ a. a };
+
+    fn get_type(&self) -> AttributeType {
+        XorPeerAddress::TYPE
+    }
+
+    fn length(&self) -> u16 {
+        self.addr.length()
+    }
+}
+
+impl AttributeWrite for XorPeerAddress {
+    fn write_into_unchecked(&self, dest: &mut [u8]) {
+        self.addr.write_into_unchecked(XorPeerAddress::TYPE, dest);
+    }
+
+    fn to_raw(&self, alloc: Global) -> Result<RawAttribute<'_>, NoMemory> {
+        self.addr.to_raw(alloc, XorPeerAddress::TYPE)
+    }
+}
+
+/// A xored address. Its first byte is not looked at. Refused, in this order:
+/// `WrongAttributeImplementation` where it is another type, `Truncated` where the value has fewer than
+/// four bytes, `InvalidAttributeData` where the family is unknown, `Truncated` or `TooLarge` where it
+/// has not the 8 bytes of IPv4 or the 20 of IPv6.
+impl<'a, 'raw> TryFrom<&'raw RawAttribute<'a>> for XorPeerAddress {
+    ghost use Rattle.std.specs.Prelude.{◌≡◌, MatchResult, Some, None};
+    ghost use Rattle.stun_types.specs.ValueReading.{IsNamed};
+    ghost use Rattle.stun_types.specs.Addresses.{address_again, address_read_refusal};
+
+    type Error = StunParseError;
+
+    ghost try_from_gives = { λ raw result. MatchResult result
+        (λ read. (address_read_refusal xor_peer_address_kind raw.now ≡ None)
+        × (read ≡ address_again raw.now.value))
+        (IsNamed (address_read_refusal xor_peer_address_kind raw.now)) };
+
+    fn try_from(raw: &'raw RawAttribute<'a>) -> Result<XorPeerAddress, StunParseError> {
+        let addr = XorSocketAddr::from_raw_of_type(raw, XorPeerAddress::TYPE)?;
+        Ok(XorPeerAddress { addr })
+    }
+}
+
+/// Refused as `try_from` is; no memory is taken.
+impl<'a> AttributeFromRaw<'a> for XorPeerAddress {
+    ghost use Rattle.std.specs.Prelude.{false};
+    ghost use Rattle.stun_types.specs.Addresses.{address_again, address_read_refusal};
+
+    ghost read_refusal = { address_read_refusal xor_peer_address_kind };
+
+    ghost read_value = { address_again };
+
+    ghost reading_takes_memory = { false };
+
+    fn from_raw_ref(
+        _alloc: Global,
+        raw: &RawAttribute<'_>,
+    ) -> Result<XorPeerAddress, StunParseError> {
+        let addr = XorSocketAddr::from_raw_of_type(raw, XorPeerAddress::TYPE)?;
+        Ok(XorPeerAddress { addr })
+    }
+
+    fn from_raw(alloc: Global, raw: RawAttribute<'a>) -> Result<XorPeerAddress, StunParseError> {
+        XorPeerAddress::from_raw_ref(alloc, &raw)
+    }
+
+    fn is_read_back(&self, _read: &XorPeerAddress) {
+        self.addr.is_read_back();
+    }
+}

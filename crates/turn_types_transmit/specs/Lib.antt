@@ -1,0 +1,2 @@
+pub mod Channeled
+pub mod Indications
