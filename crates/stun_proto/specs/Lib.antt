@@ -6,9 +6,12 @@ pub use Rattle.stun_proto_agent.specs.Moments
 pub use Rattle.stun_proto_auth.specs.Nonce
 pub use Rattle.stun_proto_auth.specs.Orders
 pub use Rattle.stun_proto_auth.specs.SupportedAlgorithms
+pub use Rattle.stun_proto_claim.specs.Claims
+pub use Rattle.stun_proto_claim.specs.Offers
 pub use Rattle.stun_proto_judge.specs.AuthErrors
-pub use Rattle.stun_proto_judge.specs.Claims
+pub use Rattle.stun_proto_judge.specs.Consistency
 pub use Rattle.stun_proto_judge.specs.Judgement
+pub use Rattle.stun_proto_judge.specs.Knowledge
 pub use Rattle.stun_proto_sign.specs.Addition
 pub use Rattle.stun_proto_sign.specs.AdditionStages
 pub use Rattle.stun_proto_sign.specs.Sizes

@@ -1,7 +1,9 @@
 -- Lists of integrity algorithms.
-use Rattle.std.specs.Prelude.{Bool, true, false, if◌then◌else◌, List, [], ◌∷◌, ◌++◌}
+use Rattle.std.specs.Prelude.{ℕ, Bool, true, false, if◌then◌else◌, List, [], ◌∷◌, ◌++◌, map}
 use Rattle.std.specs.List.{list_any}
 use Rattle.stun_types.specs.IntegrityAlgorithms.{IntegrityAlgorithm, Sha1, Sha256}
+use Rattle.stun_types.specs.Registry.{md5_number, sha256_number}
+use Rattle.stun_types.specs.Entries.{entries}
 
 -- whether two algorithms are the same
 abbrev pub is_same_algorithm : IntegrityAlgorithm → IntegrityAlgorithm → Bool
@@ -22,3 +24,13 @@ needs_password_algorithms [] = true
 needs_password_algorithms (Sha1 ∷ []) = false
 needs_password_algorithms (Sha256 ∷ []) = true
 needs_password_algorithms (first ∷ second ∷ others) = true
+
+-- the number of the password algorithm by which the keys of an integrity algorithm are made (RFC
+-- 8489, sections 18.5.1.1 and 18.5.1.2)
+abbrev pub number_by : IntegrityAlgorithm → ℕ
+number_by Sha1 = md5_number
+number_by Sha256 = sha256_number
+
+-- the value of the PASSWORD-ALGORITHMS that lists algorithms (RFC 8489, section 14.11)
+abbrev pub list_of : List IntegrityAlgorithm → List ℕ
+list_of algorithms = entries (map number_by algorithms)

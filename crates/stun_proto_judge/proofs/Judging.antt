@@ -1,5 +1,5 @@
 -- A judgement, and what it says of a message.
-use Rattle.std.proofs.Common.{◌≡◌, ◌≢◌, ℕ, Bool, true, false, ◌&&◌, ◌||◌, List, Option, Some, None, refl, sym, ap, ◌∙◌, subst, nat_eq, is_some}
+use Rattle.std.proofs.Common.{◌≡◌, ◌≢◌, ℕ, Bool, true, false, ◌&&◌, List, Option, Some, None, refl, sym, ap, ◌∙◌, subst, nat_eq, is_some}
 use Rattle.std.specs.Prelude.{Result, Ok, Err, IfOk, IfErr, IsErrAnd, MatchResult, MatchOption, if◌then◌else◌}
 use Rattle.std.specs.Cmp.Lexicographic.{pointwise, same_text, nat_list_eq_equiv}
 use Rattle.std.specs.Option.{option_or}
@@ -14,8 +14,11 @@ use Rattle.stun_types_message.proofs.Validating.{signed_validates}
 use Rattle.stun_proto_judge.specs.declared.error.LongTermServerAuthError.{LongTermServerAuthError}
 use Rattle.stun_proto_judge.specs.declared.error.LongTermServerAuthError.TheVariants.{Unauthorized, IntegrityFailed, BadRequest, StaleNonce, NoMemory}
 use Rattle.stun_proto_judge.specs.AuthErrors.{digest_error}
-use Rattle.stun_proto_judge.specs.Claims.{Claimed, claimed}
-use Rattle.stun_proto_judge.specs.Judgement.{Knowledge, Outcome, ServerAccepts, HasWrongDigest, IsAccepted, IsRefused, is_response, is_consistent, is_same_text, user_key, integrity_refusal, parts_refusal, nonce_refusal, algorithms_refusal, claim_refusal, judgement}
+use Rattle.stun_proto_claim.specs.Claims.{Claimed, claimed}
+use Rattle.stun_proto_judge.specs.Consistency.{is_consistent}
+use Rattle.stun_proto_judge.specs.Knowledge.{Knowledge, Named, Outcome}
+use Rattle.stun_proto_judge.specs.Judgement.{ServerAccepts, HasWrongDigest, IsAccepted, IsRefused, is_response, is_same_text, names_user, user_key, integrity_refusal, parts_refusal, nonce_refusal, algorithms_refusal, claim_refusal, judgement}
+use Rattle.stun_proto_judge.proofs.Consistent.{both, consistent_by, shown_consistent}
 
 -- ---- the pieces of a claim that is not refused
 
@@ -27,10 +30,6 @@ or_none None b h = (refl, h)
 passes : (b : Bool) (error : LongTermServerAuthError) → (if b then None else Some error) ≡ None → b ≡ true
 passes true error h = refl
 passes false error h = absurd cc
-
-both : (a b : Bool) → (a && b) ≡ true → (a ≡ true) × (b ≡ true)
-both true b h = (refl, h)
-both false b h = absurd (Prim.cc h)
 
 -- a text that is there
 record Text (o : Option (List ℕ)) : Type 0 where
@@ -53,12 +52,13 @@ same_text_of (Some x) None h = absurd (Prim.cc h)
 same_text_of (Some x) (Some y) h = record { text = x; first = refl; second = ap (λ t. Some t) (sym (same_text x y (sym h))) }
 
 pub record Passed (known : Knowledge) (claim : Claimed) : Type 0 where
+  pub named : names_user claim ≡ true
   pub realm : List ℕ
   pub has_realm : claim.realm ≡ Some realm
   pub nonce : List ℕ
   pub has_nonce : claim.nonce ≡ Some nonce
   pub stands : known.nonce ≡ Some nonce
-  pub consistent : is_consistent claim.has_password_algorithms claim.integrity known.algorithms ≡ true
+  pub consistent : is_consistent known.algorithms claim claim.integrity ≡ true
 
 pub passed : (known : Knowledge) (claim : Claimed) → claim_refusal known claim ≡ None → Passed known claim
 unfolding claim_refusal
@@ -67,10 +67,11 @@ passed known claim h =
     let two = or_none (parts_refusal claim) _ one.1 in
     let three = or_none (nonce_refusal claim.nonce known.nonce) _ two.1 in
     let four = or_none (algorithms_refusal claim known.algorithms) _ three.1 in
-    let parts = both (is_some claim.username || claim.has_user_hash) (is_some claim.realm && is_some claim.nonce) (passes _ BadRequest two.0) in
+    let parts = both (names_user claim) (is_some claim.realm && is_some claim.nonce) (passes _ BadRequest two.0) in
     let realm = text_of claim.realm (both (is_some claim.realm) (is_some claim.nonce) parts.1).0 in
     let nonce = same_text_of claim.nonce known.nonce (passes _ StaleNonce three.0) in
     record {
+      named = parts.0;
       realm = realm.text;
       has_realm = realm.is;
       nonce = nonce.text;
@@ -86,21 +87,22 @@ unfolding judgement
 judged_claim known bytes answer other is = ap (λ (b : Bool). option_or (if b then Some BadRequest else None) (claim_refusal known (claimed bytes))) other ∙ is
 
 pub accepts : (known : Knowledge) (bytes : List ℕ) (claim : Claimed) (algorithm : IntegrityAlgorithm) (name password : List ℕ) → claim ≡ claimed bytes → is_response bytes ≡ false
-    → claim_refusal known claim ≡ None → claim.integrity ≡ Some algorithm → claim.username ≡ Some name → known.password ≡ Some password
+    → claim_refusal known claim ≡ None → claim.integrity ≡ Some algorithm → known.user ≡ Some (record { name = name; password = password })
     → (text : List ℕ) × Validates bytes (user_key known.realm name password algorithm) algorithm text → ServerAccepts known bytes algorithm name
-accepts known bytes claim algorithm name password is other none last named present valid =
+accepts known bytes claim algorithm name password is other none last present valid =
     let parts = passed known claim none in
     record {
       no_response = other;
       last = ap (λ (c : Claimed). c.integrity) (sym is) ∙ last;
-      named = ap (λ (c : Claimed). c.username) (sym is) ∙ named;
+      named = ap names_user (sym is) ∙ parts.named;
       realm = parts.realm;
       has_realm = ap (λ (c : Claimed). c.realm) (sym is) ∙ parts.has_realm;
       nonce = parts.nonce;
       has_nonce = ap (λ (c : Claimed). c.nonce) (sym is) ∙ parts.has_nonce;
       stands = parts.stands;
-      consistent = (λ i. is_consistent (sym is i).has_password_algorithms (Some algorithm) known.algorithms)
-          ∙ ap (λ (o : Option IntegrityAlgorithm). is_consistent claim.has_password_algorithms o known.algorithms) (sym last) ∙ parts.consistent;
+      consistent = consistent_by known.algorithms (claimed bytes) algorithm
+          ((λ i. is_consistent known.algorithms (sym is i) (Some algorithm))
+          ∙ ap (λ (o : Option IntegrityAlgorithm). is_consistent known.algorithms claim o) (sym last) ∙ parts.consistent);
       password = password;
       present = present;
       text = valid.0;
@@ -117,19 +119,18 @@ some_same : {A : Type 0} (x y : A) → Some x ≡ Some y → x ≡ y
 some_same x y h = cc
 
 pub refuses_digest : (known : Knowledge) (bytes : List ℕ) (claim : Claimed) (algorithm : IntegrityAlgorithm) (name password : List ℕ) (error : LongTermServerAuthError) → claim ≡ claimed bytes → is_response bytes ≡ false
-    → claim_refusal known claim ≡ None → claim.integrity ≡ Some algorithm → claim.username ≡ Some name → known.password ≡ Some password
+    → claim_refusal known claim ≡ None → claim.integrity ≡ Some algorithm → known.user ≡ Some (record { name = name; password = password })
     → (error ≡ IntegrityFailed algorithm) × ((text : List ℕ) → ¬ Validates bytes (user_key known.realm name password algorithm) algorithm text) → IsRefused known bytes error
-refuses_digest known bytes claim algorithm name password error is other none last named present wrong =
+refuses_digest known bytes claim algorithm name password error is other none last present wrong =
     subst (λ (o : Option LongTermServerAuthError). MatchOption o (HasWrongDigest known bytes error) (λ c. error ≡ c))
     (sym (judged_claim known bytes None other (ap (claim_refusal known) (sym is) ∙ none)))
     (record {
       algorithm = algorithm;
       last = ap (λ (c : Claimed). c.integrity) (sym is) ∙ last;
       is = wrong.0;
-      wrong = λ n p text n-is p-is v.
-          let name-same = some_same n name (sym n-is ∙ ap (λ (c : Claimed). c.username) (sym is) ∙ named) in
-          let password-same = some_same p password (sym p-is ∙ present) in
-          wrong.1 text (subst (λ (k : List ℕ). Validates bytes k algorithm text) (λ i. user_key known.realm (name-same i) (password-same i) algorithm) v);
+      wrong = λ user text is-user v.
+          let same = some_same user (record { name = name; password = password }) (sym is-user ∙ present) in
+          wrong.1 text (subst (λ (u : Named). Validates bytes (user_key known.realm u.name u.password algorithm) algorithm text) same v);
     })
 
 -- ---- what is accepted is refused for no cause
@@ -138,18 +139,20 @@ pub no_cause : (known : Knowledge) (bytes : List ℕ) (algorithm : IntegrityAlgo
 unfolding judgement claim_refusal
 no_cause known bytes algorithm name a =
     let same : pointwise nat_eq a.nonce a.nonce ≡ true = nat_list_eq_equiv.refl a.nonce in
-    rw (a.no_response, a.last, a.named, a.has_realm, a.has_nonce, a.stands, a.present, same, a.consistent) refl
+    let fits = shown_consistent known.algorithms (claimed bytes) algorithm a.consistent in
+    rw (a.no_response, a.last, a.named, a.has_realm, a.has_nonce, a.stands, a.present, same, fits) refl
 
 pub not_both : (known : Knowledge) (bytes : List ℕ) (algorithm : IntegrityAlgorithm) (name : List ℕ) (error : LongTermServerAuthError) → ServerAccepts known bytes algorithm name → IsRefused known bytes error → ⊥
 not_both known bytes algorithm name error a r =
     let w = subst (λ (o : Option LongTermServerAuthError). MatchOption o (HasWrongDigest known bytes error) (λ c. error ≡ c)) (no_cause known bytes algorithm name a) r in
     let same = some_same algorithm w.algorithm (sym a.last ∙ w.last) in
-    w.wrong name a.password a.text a.named a.present (subst (λ (b : IntegrityAlgorithm). Validates bytes (user_key known.realm name a.password b) b a.text) same a.validates)
+    w.wrong (record { name = name; password = a.password }) a.text a.present (subst (λ (b : IntegrityAlgorithm). Validates bytes (user_key known.realm name a.password b) b a.text) same a.validates)
 
 pub same_outcome : (known : Knowledge) (bytes : List ℕ) (algorithm other : IntegrityAlgorithm) (name another : List ℕ) → ServerAccepts known bytes algorithm name → ServerAccepts known bytes other another
     → ◌≡◌ {A = Outcome} (record { name = name; algorithm = algorithm }) (record { name = another; algorithm = other })
 same_outcome known bytes algorithm other name another a b =
-    let names = some_same name another (sym a.named ∙ b.named) in
+    let users = some_same {A = Named} (record { name = name; password = a.password }) (record { name = another; password = b.password }) (sym a.present ∙ b.present) in
+    let names = ap (λ (u : Named). u.name) users in
     let algorithms = some_same algorithm other (sym a.last ∙ b.last) in
     λ i. record { name = names i; algorithm = algorithms i }
 
@@ -192,12 +195,12 @@ accepts_user known bytes algorithm name copy user is same a =
     subst (λ (u : Outcome). ServerAccepts known bytes u.algorithm u.name) (sym (is ∙ (λ i. record { name = same i; algorithm = algorithm }))) a
 
 pub digest_refused : (known : Knowledge) (bytes : List ℕ) (claim : Claimed) (algorithm : IntegrityAlgorithm) (name password realm : List ℕ) (result : Result Outcome LongTermServerAuthError) (error : LongTermServerAuthError) → claim ≡ claimed bytes → is_response bytes ≡ false
-    → claim_refusal known claim ≡ None → claim.integrity ≡ Some algorithm → claim.username ≡ Some name → known.password ≡ Some password → realm ≡ known.realm
+    → claim_refusal known claim ≡ None → claim.integrity ≡ Some algorithm → known.user ≡ Some (record { name = name; password = password }) → realm ≡ known.realm
     → IsErrAnd result (λ e. e ≡ error) → (error ≡ IntegrityFailed algorithm) × ((text : List ℕ) → ¬ Validates bytes (user_key realm name password algorithm) algorithm text)
     → IfErr result (λ e. e ≢ NoMemory → IsRefused known bytes e)
-digest_refused known bytes claim algorithm name password realm (Ok user) error is other none last named present own answer wrong = tt
-digest_refused known bytes claim algorithm name password realm (Err e) error is other none last named present own answer wrong =
-    λ cause. refuses_digest known bytes claim algorithm name password e is other none last named present
+digest_refused known bytes claim algorithm name password realm (Ok user) error is other none last present own answer wrong = tt
+digest_refused known bytes claim algorithm name password realm (Err e) error is other none last present own answer wrong =
+    λ cause. refuses_digest known bytes claim algorithm name password e is other none last present
     (subst (λ (r : List ℕ). (e ≡ IntegrityFailed algorithm) × ((text : List ℕ) → ¬ Validates bytes (user_key r name password algorithm) algorithm text)) own (answer ∙ wrong.0, wrong.1))
 
 -- a wrong digest is no want of memory

@@ -1,2 +1,2 @@
+pub mod Consistent
 pub mod Judging
-pub mod Lasts

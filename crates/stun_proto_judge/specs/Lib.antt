@@ -1,3 +1,4 @@
-pub mod Claims
 pub mod AuthErrors
+pub mod Consistency
+pub mod Knowledge
 pub mod Judgement

@@ -6,14 +6,15 @@ ghost use Rattle.stun_types.specs.MessageValidation.{last_algorithm};
 ghost use Rattle.stun_types.specs.IntegrityAlgorithms.{IntegrityAlgorithm as Algorithm};
 ghost use Rattle.stun_types.specs.Credentials.{long_term_key};
 ghost use Rattle.stun_types.specs.Integrity.{Validates};
-ghost use Rattle.stun_proto_judge.specs.Claims.{claimed};
+ghost use Rattle.stun_proto_claim.specs.Claims.{claimed};
 ghost use Rattle.stun_proto_judge.specs.Judgement.{IsAccepted, IsRefused, ServerAccepts, claim_refusal, is_response, user_key};
 
-use crate::claim::Claim;
+use crate::check::{check_algorithms, check_integrity, check_nonce, check_parts};
 use crate::error::LongTermServerAuthError;
 use crate::known::Known;
 use crate::user::ValidatedUser;
 use std::alloc::Global;
+use stun_proto_claim::claim::Claim;
 use stun_types::message::{IntegrityAlgorithm, IntegrityKey, Message};
 
 /// Whether a server takes a message that is no response for one of its user's, by what the message
@@ -21,7 +22,7 @@ use stun_types::message::{IntegrityAlgorithm, IntegrityKey, Message};
 /// integrity attribute. Refused, in this order: `Unauthorized` where the message shows no integrity
 /// attribute; `BadRequest` where it shows neither the name of a user nor a hash of it, no realm or
 /// no nonce; `StaleNonce` where the nonce is not the one that stands; `BadRequest` where password
-/// algorithms are inconsistent; `Unauthorized` where it names no user of the server;
+/// algorithms are inconsistent; `Unauthorized` where the user that it names isn't known;
 /// `IntegrityFailed` where the digest is wrong. Where nothing refuses the message and memory is refused
 /// for the name, `NoMemory`.
 pub fn judge_message(
@@ -82,28 +83,27 @@ struct Pending<'a> {
 
 /// Holds a claim against what is known. Refused as `judge_message` is, but for the digest.
 #[tactic(auto, unfolding(crate::specs::Judgement::claim_refusal))]
-fn check<'a>(
-    claim: &'a Claim<'_>,
-    known: &Known<'a>,
-) -> Result<Pending<'a>, LongTermServerAuthError>
+fn check<'a>(claim: &Claim<'_>, known: &Known<'a>) -> Result<Pending<'a>, LongTermServerAuthError>
     ensures passed { IfOk result (λ pending. (claim_refusal known.now claim.now ≡ None)
         × (claim.now.integrity ≡ Some pending.algorithm)
-        × (claim.now.username ≡ Some pending.name.now)
-        × (known.now.password ≡ Some pending.password.now)) }
+        × (known.now.user ≡ Some (record {
+          name = pending.name.now;
+          password = pending.password.now;
+        }))) }
     ensures refused { IfErr result (λ error. (claim_refusal known.now claim.now ≡ Some error)
         × (error ≢ LongTermServerAuthError.NoMemory)) }
 {
-    let algorithm = claim.check_integrity()?;
-    claim.check_parts()?;
-    claim.check_nonce(known)?;
-    claim.check_algorithms(known)?;
-    match (claim.username(), known.password()) {
-        (Some(name), Some(password)) => Ok(Pending {
+    let algorithm = check_integrity(claim)?;
+    check_parts(claim)?;
+    check_nonce(claim, known)?;
+    check_algorithms(claim, known)?;
+    match known.user() {
+        Some(user) => Ok(Pending {
             algorithm,
-            name,
-            password,
+            name: user.name(),
+            password: user.password(),
         }),
-        _ => Err(LongTermServerAuthError::Unauthorized),
+        None => Err(LongTermServerAuthError::Unauthorized),
     }
 }
 

@@ -2,58 +2,95 @@
 
 ghost use Rattle.std.specs.Prelude.{◌≡◌};
 ghost use Rattle.std.specs.Option.{option_copied};
-ghost use Rattle.stun_proto_judge.specs.Judgement.{supports_sha1};
 
 use std::marker::Model;
-use stun_types::message::IntegrityAlgorithm;
+use stun_proto_auth::supported::SupportedIntegrity;
+
+/// A user of a server: its name and its password. Contracts see the record `Named`.
+#[derive(Debug, Drop)]
+pub struct NamedUser<'a> {
+    name: &'a str,
+    password: &'a str,
+}
+
+impl<'a> Model for NamedUser<'a> {
+    ghost use Rattle.stun_proto_judge.specs.Knowledge.{Named};
+
+    ghost Value = { Named };
+
+    ghost view = { λ user. record { name = user.name.now; password = user.password.now } };
+}
+
+impl<'a> NamedUser<'a> {
+    /// The user of this name and password.
+    pub fn new(name: &'a str, password: &'a str) -> NamedUser<'a>
+        ensures { result ≡ record { name = name.now; password = password.now } }
+    {
+        NamedUser { name, password }
+    }
+
+    /// The user's name.
+    pub fn name(&self) -> &'a str
+        ensures { result.now ≡ self.now.name }
+    {
+        self.name
+    }
+
+    /// The user's password.
+    pub fn password(&self) -> &'a str
+        ensures { result.now ≡ self.now.password }
+    {
+        self.password
+    }
+}
 
 /// What a server knows of itself, of an address and of a user: its realm, the algorithms that it
-/// supports, the nonce that stands for the address, and the password of the user of the name that
-/// is claimed.
+/// supports, the nonce that stands for the address, and the present user that the message names.
+/// Contracts see the record `Knowledge`.
 #[derive(Debug, Drop)]
 pub struct Known<'a> {
     realm: &'a str,
-    supported: &'a [IntegrityAlgorithm],
+    supported: SupportedIntegrity,
     nonce: Option<&'a str>,
-    password: Option<&'a str>,
+    user: Option<NamedUser<'a>>,
 }
 
 impl<'a> Model for Known<'a> {
     ghost use Rattle.std.specs.Option.{option_copied};
-    ghost use Rattle.stun_proto_judge.specs.Judgement.{Knowledge};
+    ghost use Rattle.stun_proto_judge.specs.Knowledge.{Knowledge};
 
     ghost Value = { Knowledge };
 
     ghost view = { λ k.
         record {
           realm = k.realm.now;
-          algorithms = k.supported.now;
+          algorithms = k.supported;
           nonce = option_copied k.nonce;
-          password = option_copied k.password;
+          user = k.user;
         } };
 }
 
 impl<'a> Known<'a> {
-    /// What is known: the nonce where one stands, the password where there is such a user.
+    /// What is known: the nonce where one stands, the user where there is such a one.
     pub fn new(
         realm: &'a str,
-        supported: &'a [IntegrityAlgorithm],
+        supported: SupportedIntegrity,
         nonce: Option<&'a str>,
-        password: Option<&'a str>,
+        user: Option<NamedUser<'a>>,
     ) -> Known<'a>
         ensures { result
             ≡ record {
               realm = realm.now;
-              algorithms = supported.now;
+              algorithms = supported;
               nonce = option_copied nonce.entry;
-              password = option_copied password.entry;
+              user = user.entry;
             } }
     {
         Known {
             realm,
             supported,
             nonce,
-            password,
+            user,
         }
     }
 
@@ -64,6 +101,13 @@ impl<'a> Known<'a> {
         self.realm
     }
 
+    /// The algorithms that the server supports.
+    pub fn supported(&self) -> SupportedIntegrity
+        ensures { result ≡ self.now.algorithms }
+    {
+        self.supported
+    }
+
     /// The nonce that stands for the address.
     pub fn nonce(&self) -> Option<&'a str>
         ensures { option_copied result ≡ self.now.nonce }
@@ -71,22 +115,10 @@ impl<'a> Known<'a> {
         self.nonce
     }
 
-    /// The password of the user of the name that is claimed.
-    pub fn password(&self) -> Option<&'a str>
-        ensures { option_copied result ≡ self.now.password }
+    /// The present user that the message names.
+    pub fn user(&self) -> Option<&NamedUser<'a>>
+        ensures { option_copied result ≡ self.now.user }
     {
-        self.password
-    }
-
-    /// Whether MESSAGE-INTEGRITY is supported.
-    pub fn supports_sha1(&self) -> bool
-        ensures { result ≡ supports_sha1 self.now.algorithms }
-    {
-        for algorithm in self.supported {
-            if *algorithm == IntegrityAlgorithm::Sha1 {
-                return true;
-            }
-        }
-        false
+        self.user.as_ref()
     }
 }

@@ -16,7 +16,7 @@ pub struct ValidatedUser {
 
 impl Model for ValidatedUser {
     ghost use Rattle.std.specs.String.{string_bytes};
-    ghost use Rattle.stun_proto_judge.specs.Judgement.{Outcome};
+    ghost use Rattle.stun_proto_judge.specs.Knowledge.{Outcome};
 
     ghost Value = { Outcome };
 

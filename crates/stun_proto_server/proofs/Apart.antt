@@ -6,7 +6,7 @@ use Rattle.std.specs.declared.cmp.Ordering.{Ordering}
 use Rattle.std.specs.declared.cmp.Ordering.TheVariants.{Less, Equal, Greater}
 use Rattle.std.specs.declared.net.socket_addr.SocketAddr.{SocketAddr}
 use Rattle.rand_core.specs.Stream.{Stream}
-use Rattle.stun_proto_judge.specs.Judgement.{Outcome}
+use Rattle.stun_proto_judge.specs.Knowledge.{Outcome}
 use Rattle.stun_proto_server.specs.Server.{Client, Server, set_outcome, with_new_nonce, with_outcome, SameFor}
 use Rattle.stun_types.specs.SocketAddrs.{socket_addr_cmp, socket_addr_cmp_total, socket_addr_cmp-IsAntisymmetric}
 

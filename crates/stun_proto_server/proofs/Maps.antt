@@ -12,7 +12,7 @@ use Rattle.std.specs.declared.alloc.Global.{Global}
 use Rattle.std.specs.declared.net.socket_addr.SocketAddr.{SocketAddr}
 use Rattle.std.specs.declared.string.String.{String}
 use Rattle.std.proofs.lemmas.Map.Text.{btree_map_updates_text, is_eq-slice_cmp}
-use Rattle.stun_proto_judge.specs.Judgement.{Outcome}
+use Rattle.stun_proto_judge.specs.Knowledge.{Outcome}
 use Rattle.stun_proto_server.specs.Server.{Client, Server, set_outcome, with_outcome}
 use Rattle.stun_proto_server.specs.View.{client_of, server_of}
 use Rattle.stun_proto_server.specs.declared.long_term.ClientRecord.{ClientRecord}

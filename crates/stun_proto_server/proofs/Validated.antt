@@ -9,8 +9,9 @@ use Rattle.stun_types.specs.GeneratorWords.{stream_after}
 use Rattle.stun_types.specs.IntegrityAlgorithms.{IntegrityAlgorithm}
 use Rattle.stun_proto_judge.specs.declared.error.LongTermServerAuthError.{LongTermServerAuthError}
 use Rattle.stun_proto_judge.specs.declared.error.LongTermServerAuthError.TheVariants.{Unauthorized, IntegrityFailed, BadRequest, StaleNonce, NoMemory}
-use Rattle.stun_proto_judge.specs.Claims.{claimed}
-use Rattle.stun_proto_judge.specs.Judgement.{Knowledge, HasWrongDigest, IsRefused, is_response, claim_refusal, judgement}
+use Rattle.stun_proto_claim.specs.Claims.{claimed}
+use Rattle.stun_proto_judge.specs.Knowledge.{Knowledge}
+use Rattle.stun_proto_judge.specs.Judgement.{HasWrongDigest, IsRefused, is_response, claim_refusal, judgement}
 use Rattle.stun_proto_judge.proofs.Judging.{not_both, same_outcome}
 use Rattle.stun_proto_server.specs.declared.validation.LongTermServerValidation.{LongTermServerValidation}
 use Rattle.stun_proto_server.specs.declared.validation.LongTermServerValidation.TheVariants.{Validated}

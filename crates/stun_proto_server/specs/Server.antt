@@ -13,7 +13,7 @@ use Rattle.stun_proto_auth.specs.contracts.feature.Feature as feature
 use Rattle.stun_proto_auth.specs.declared.feature.Feature.{Feature}
 use Rattle.stun_proto_auth.specs.Nonce.{features_offered, nonce_text}
 use Rattle.stun_proto_auth.specs.declared.nonce.TheConstants.{NONCE_WORDS}
-use Rattle.stun_proto_judge.specs.Judgement.{Outcome}
+use Rattle.stun_proto_judge.specs.Knowledge.{Outcome}
 use Rattle.stun_types.specs.SocketAddrs.{socket_addr_cmp}
 use Rattle.stun_types.specs.GeneratorWords.{words_of}
 use Rattle.stun_types_wire.specs.contracts.algorithm.IntegrityAlgorithm as algorithm

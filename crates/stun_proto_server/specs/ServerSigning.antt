@@ -5,7 +5,7 @@ use Rattle.std.specs.FinMap as map
 use Rattle.std.specs.Option.{option_and_then}
 use Rattle.std.specs.declared.net.socket_addr.SocketAddr.{SocketAddr}
 use Rattle.stun_types.specs.MessageClasses.{MessageClass, Request, Error}
-use Rattle.stun_proto_judge.specs.Judgement.{Outcome}
+use Rattle.stun_proto_judge.specs.Knowledge.{Outcome}
 use Rattle.stun_proto_sign.specs.Addition.{Addition, Party, addition}
 use Rattle.stun_proto_server.specs.Server.{Client, Server}
 

@@ -1,11 +1,13 @@
 -- What a server holds a message against, and what a validation leaves (RFC 8489, section 9.2.4).
 use Rattle.std.specs.Prelude.{◌≡◌, ◌⊎◌, ℕ, false, List, Option, Some, None, if◌then◌else◌}
 use Rattle.std.specs.FinMap as map
+use Rattle.std.specs.Option.{option_map}
 use Rattle.std.specs.declared.net.socket_addr.SocketAddr.{SocketAddr}
 use Rattle.rand_core.specs.Stream.{Stream}
 use Rattle.stun_types.specs.IntegrityAlgorithms.{IntegrityAlgorithm}
-use Rattle.stun_proto_judge.specs.Claims.{claimed}
-use Rattle.stun_proto_judge.specs.Judgement.{Knowledge, IsAccepted, ServerAccepts, is_response}
+use Rattle.stun_proto_claim.specs.Claims.{claimed}
+use Rattle.stun_proto_judge.specs.Knowledge.{Knowledge, Named}
+use Rattle.stun_proto_judge.specs.Judgement.{IsAccepted, ServerAccepts, is_response}
 use Rattle.stun_proto_server.specs.declared.validation.LongTermServerValidation.{LongTermServerValidation}
 use Rattle.stun_proto_server.specs.declared.validation.LongTermServerValidation.TheVariants.{Validated}
 use Rattle.stun_proto_server.specs.Server.{Server, has_standing_nonce, nonce_at, refreshed, with_outcome, words_drawn}
@@ -15,13 +17,19 @@ abbrev pub password_at : Server → Option (List ℕ) → Option (List ℕ)
 password_at server None = None
 password_at server (Some name) = map.get server.users name
 
+-- the present user of a name, where there is a name: the hash of a name names none yet
+abbrev pub user_at : Server → Option (List ℕ) → Option Named
+user_at server None = None
+user_at server (Some name) =
+    option_map (λ (password : List ℕ). record { name = name; password = password }) (map.get server.users name)
+
 -- what a server knows that concerns a message from an address
 abbrev pub known_of : Server → SocketAddr → List ℕ → Knowledge
 known_of server from bytes = record {
   realm = server.realm;
   algorithms = server.algorithms;
   nonce = nonce_at server from;
-  password = password_at server (claimed bytes).username;
+  user = user_at server (claimed bytes).username;
 }
 
 -- a server accepts a message from an address, by an algorithm, as that of a user

@@ -16,7 +16,7 @@ ghost use Rattle.stun_types.specs.Registry.{longest_text};
 ghost use Rattle.stun_types.specs.IntegrityAlgorithms.{Sha1};
 ghost use Rattle.stun_proto_auth.specs.declared.feature.Feature.TheVariants.{Auto};
 ghost use Rattle.stun_proto_server.specs.Server.{nonce_at, has_standing_nonce, outcome_at, words_drawn, with_new_nonce, with_outcome, refreshed, SameFor};
-ghost use Rattle.stun_proto_server.specs.ServerValidation.{password_at};
+ghost use Rattle.stun_proto_server.specs.ServerValidation.{password_at, user_at};
 
 use rand_core::Rng;
 use std::alloc::Global;
@@ -28,6 +28,7 @@ use stun_proto_agent::instant::Instant;
 use stun_proto_auth::feature::Feature;
 use stun_proto_auth::nonce::{NONCE_WORDS, NonceFeatures, ServerNonce, write_nonce};
 use stun_proto_auth::supported::SupportedIntegrity;
+use stun_proto_judge::known::NamedUser;
 use stun_proto_judge::user::ValidatedUser;
 use stun_types::message::{IntegrityAlgorithm, LongTermCredentials};
 use stun_types::{NoMemory, draw_words};
@@ -278,6 +279,22 @@ impl LongTermServerAuth {
         ensures others { (other : SocketAddr) → other ≢ from → SameFor other self.old self.new }
     {
         put_outcome(&mut self.clients, from, outcome);
+    }
+
+    /// The present user of a name, where there is a name and such a user.
+    pub(crate) fn user_named<'a>(&'a self, name: Option<&'a str>) -> Option<NamedUser<'a>>
+        ensures { result ≡ user_at self.now (option_copied name.entry) }
+    {
+        let name = name?;
+        let password = self.password(name)?;
+        Some(NamedUser::new(name, password))
+    }
+
+    /// The algorithms that are supported.
+    pub(crate) fn supported(&self) -> SupportedIntegrity
+        ensures { result ≡ self.now.algorithms }
+    {
+        self.supported
     }
 
     /// The password of the user of a name, where there is a name and such a user.

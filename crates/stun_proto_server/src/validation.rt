@@ -12,7 +12,7 @@ use crate::long_term::LongTermServerAuth;
 use rand_core::Rng;
 use std::net::SocketAddr;
 use stun_proto_agent::instant::Instant;
-use stun_proto_judge::claim::Claim;
+use stun_proto_claim::claim::Claim;
 use stun_proto_judge::error::LongTermServerAuthError;
 use stun_proto_judge::judgement::judge_message;
 use stun_proto_judge::known::Known;
@@ -127,9 +127,9 @@ impl LongTermServerAuth {
         let claim = Claim::of(message);
         let known = Known::new(
             self.realm(),
-            self.supported_integrity(),
+            self.supported(),
             self.nonce_for_client(from),
-            self.password_of(claim.username()),
+            self.user_named(claim.username()),
         );
         judge_message(self.alloc(), message, &claim, &known)
     }

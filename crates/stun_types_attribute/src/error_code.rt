@@ -6,7 +6,7 @@ ghost use Rattle.stun_types_base.specs.Refusals.{RefusesFor};
 ghost use Rattle.stun_types_write.specs.ValueReading.{IsNamed};
 ghost use Rattle.stun_types_wire.specs.Registry.{longest_text, error_code_kind, greatest_code, least_code};
 ghost use Rattle.stun_types_attribute.specs.ErrorCodes.{CodeAndReason, error_refusal, reason_for, reason_of};
-ghost use Rattle.stun_types_attribute.specs.ErrorCodeReading.{code_refusal, error_told};
+ghost use Rattle.stun_types_attribute.specs.ErrorCodeReading.{code_refusal, error_read_refusal, error_told};
 ghost use Rattle.stun_types_write.specs.ValueReading.{utf8_refusal};
 
 use std::alloc::Global;
@@ -302,6 +302,19 @@ fn read_code(value: &[u8]) -> Result<(u16, &str), StunParseError>
 }
 
 impl ErrorCode {
+    /// The code that an attribute tells, from 300 to 699, whatever its reason says. Takes no memory.
+    /// Refused as reading the attribute is.
+    #[tactic(auto, unfolding(crate::specs::ErrorCodeReading::error_read_refusal))]
+    pub fn code_of(raw: &RawAttribute<'_>) -> Result<u16, StunParseError>
+        ensures { MatchResult result (λ code. (error_read_refusal raw.now ≡ None)
+            × (code ≡ (error_told raw.now.value).code))
+            (IsNamed (error_read_refusal raw.now)) }
+    {
+        let value = value_of(raw, ErrorCode::TYPE, 4, 4 + ErrorCode::MAX_REASON_LEN)?;
+        let (code, _) = read_code(value)?;
+        Ok(code)
+    }
+
     /// The value before the reason: two zeros, the hundreds of the code, the rest of it.
     fn code_bytes(&self) -> [u8; 4]
         ensures { result ≡ 0 ∷ 0 ∷ (self.now.code / 100) ∷ (self.now.code % 100) ∷ [] }

@@ -169,7 +169,7 @@ impl<'a> AttributeFromRaw<'a> for PasswordAlgorithms {
         alloc: Global,
         raw: &RawAttribute<'_>,
     ) -> Result<PasswordAlgorithms, StunParseError> {
-        let value = entries_of(raw)?;
+        let value = PasswordAlgorithms::entries_of(raw)?;
         let algorithms = algorithms_of(alloc, value)?;
         Ok(PasswordAlgorithms { algorithms })
     }
@@ -187,25 +187,28 @@ impl<'a> AttributeFromRaw<'a> for PasswordAlgorithms {
     }
 }
 
-/// The value of a PASSWORD-ALGORITHMS. Refused as the attribute is, but for memory.
-#[tactic(auto, using(crate::proofs::Lists::told_count), unfolding(crate::specs::Entries::algorithms_read_refusal, crate::specs::Entries::entries_refusal))]
-fn entries_of<'raw>(raw: &'raw RawAttribute<'_>) -> Result<&'raw [u8], StunParseError>
-    ensures { MatchResult result (λ value. (algorithms_read_refusal raw.now ≡ None)
-        × (raw.now.kind ≡ password_algorithms_kind) × (value.now ≡ raw.now.value)
-        × (length (numbers_told value.now) ≤ most_algorithms)
-        × (list_all is_known (numbers_told value.now) ≡ true))
-        (IsNamed (algorithms_read_refusal raw.now)) }
-{
-    let value = value_of(
-        raw,
-        PasswordAlgorithms::TYPE,
-        4,
-        PasswordAlgorithms::MAX_LEN,
-    )?;
-    if value.len() % 4 != 0 || !tell_known(value) {
-        return Err(StunParseError::InvalidAttributeData);
+impl PasswordAlgorithms {
+    /// The value of an attribute that is a PASSWORD-ALGORITHMS: four bytes for each algorithm, at least
+    /// one and at most eight, each of them known. Takes no memory. Refused as reading the attribute is.
+    #[tactic(auto, using(crate::proofs::Lists::told_count), unfolding(crate::specs::Entries::algorithms_read_refusal, crate::specs::Entries::entries_refusal))]
+    pub fn entries_of<'raw>(raw: &'raw RawAttribute<'_>) -> Result<&'raw [u8], StunParseError>
+        ensures { MatchResult result (λ value. (algorithms_read_refusal raw.now ≡ None)
+            × (raw.now.kind ≡ password_algorithms_kind) × (value.now ≡ raw.now.value)
+            × (length (numbers_told value.now) ≤ most_algorithms)
+            × (list_all is_known (numbers_told value.now) ≡ true))
+            (IsNamed (algorithms_read_refusal raw.now)) }
+    {
+        let value = value_of(
+            raw,
+            PasswordAlgorithms::TYPE,
+            4,
+            PasswordAlgorithms::MAX_LEN,
+        )?;
+        if value.len() % 4 != 0 || !tell_known(value) {
+            return Err(StunParseError::InvalidAttributeData);
+        }
+        Ok(value)
     }
-    Ok(value)
 }
 
 /// Whether each entry tells a known algorithm.

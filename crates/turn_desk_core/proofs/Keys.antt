@@ -23,10 +23,12 @@ use Rattle.stun_types_integrity_laws.proofs.Composed.{composed_read, signed_read
 use Rattle.stun_proto.specs.Addition.{Addition, Party, Signer, addition, addition_refusal, calls_of, texts_refusal, key_in}
 use Rattle.stun_proto.specs.AdditionStages.{IsMade}
 use Rattle.stun_proto_sign.proofs.Made.{made_written}
-use Rattle.stun_proto.specs.Judgement.{IsRefused, Outcome, is_response, user_key}
+use Rattle.stun_proto.specs.Judgement.{IsRefused, is_response, user_key}
+use Rattle.stun_proto.specs.Knowledge.{Named, Outcome}
+use Rattle.stun_proto.specs.Claims.{claimed}
 use Rattle.stun_proto.specs.Server.{Client, Server, nonce_at, has_standing_nonce, refreshed, with_outcome, set_outcome}
 use Rattle.stun_proto.specs.ServerSigning.{addition_for, party_at, party_by_client, party_by_outcome, party_by_password}
-use Rattle.stun_proto.specs.ServerValidation.{IsValidated, after_refusal, known_of, password_at}
+use Rattle.stun_proto.specs.ServerValidation.{IsValidated, after_refusal, known_of, user_at}
 use Rattle.stun_types.specs.Grammar.{number_at}
 use Rattle.stun_proto.specs.ServerAuthErrors.{LongTermServerAuthError, NoMemory}
 use Rattle.stun_proto.specs.ServerValidations.{LongTermServerValidation, Validated}
@@ -99,12 +101,28 @@ pub record IsKeyOf (old new : Server) (from : SocketAddr) (name : List ℕ) (alg
   pub present : map.get old.users name ≡ Some password
   pub key : key_at new from ≡ Some (record { bytes = user_key old.realm name password algorithm; algorithm = algorithm })
 
+-- the user of a name and a password
+abbrev user_by : List ℕ → List ℕ → Named
+user_by name password = record { name = name; password = password }
+
+-- the user that is found by a name is there under its own
+found_by : (server : Server) (shown name password : List ℕ) (found : Option (List ℕ)) → map.get server.users shown ≡ found
+    → option_map (user_by shown) found ≡ Some (user_by name password) → map.get server.users name ≡ Some password
+found_by server shown name password None is h = absurd (Prim.cc h)
+found_by server shown name password (Some own) is h =
+    let same : ◌≡◌ {A = Named} (record { name = name; password = password }) (record { name = shown; password = own }) = Prim.cc h in
+    ap (λ (user : Named). map.get server.users user.name) same ∙ is ∙ ap (λ (user : Named). Some user.password) (sym same)
+
+user_found : (server : Server) (shown : Option (List ℕ)) (name password : List ℕ) → user_at server shown ≡ Some (record { name = name; password = password }) → map.get server.users name ≡ Some password
+user_found server None name password h = absurd (Prim.cc h)
+user_found server (Some shown) name password h = found_by server shown name password (map.get server.users shown) refl h
+
 pub taken_key : (old : Server) (from : SocketAddr) (bytes : List ℕ) (now : ℕ) (stream : Stream) (name : List ℕ) (algorithm : IntegrityAlgorithm) (new : Server) → (refreshed old from now stream).realm ≡ old.realm
     → IsTaken old from bytes now stream name algorithm new → IsKeyOf old new from name algorithm
 taken_key old from bytes now stream name algorithm new realm taken =
     let r = refreshed old from now stream in
     let users = refreshed_users old from now stream in
-    let present : map.get r.users name ≡ Some taken.accepts.password = ap (password_at r) (sym taken.accepts.named) ∙ taken.accepts.present in
+    let present : map.get r.users name ≡ Some taken.accepts.password = user_found r (claimed bytes).username name taken.accepts.password taken.accepts.present in
     let kept = kept_outcome r from taken.accepts.nonce (Some (record { name = name; algorithm = algorithm })) taken.accepts.stands in
     let party = party_kept (with_outcome r from (Some (record { name = name; algorithm = algorithm }))) from taken.accepts.nonce name taken.accepts.password algorithm kept present in
     record {

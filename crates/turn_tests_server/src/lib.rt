@@ -6,6 +6,8 @@
 #[cfg(test)]
 mod agent;
 #[cfg(test)]
+mod algorithms;
+#[cfg(test)]
 mod digests;
 #[cfg(test)]
 mod grants;

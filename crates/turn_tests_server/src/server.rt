@@ -115,7 +115,7 @@ pub(crate) fn server_after(alloc: Global, before: &str) -> Result<LongTermServer
 
 /// What a server answers to a message from the client, given in hex, in the first moment and with the
 /// zero seed.
-fn answer(
+pub(crate) fn answer(
     alloc: Global,
     server: &mut LongTermServerAuth,
     text: &str,
@@ -127,10 +127,12 @@ fn answer(
     let answer = server.validate_incoming_message(&message, from, Instant::ZERO, &mut words);
     Ok(match answer {
         Ok(LongTermServerValidation::Validated(IntegrityAlgorithm::Sha1)) => "validated",
+        Ok(LongTermServerValidation::Validated(IntegrityAlgorithm::Sha256)) => "validated-sha256",
         Err(Error::Unauthorized) => "unauthorized",
         Err(Error::BadRequest) => "bad-request",
         Err(Error::StaleNonce) => "stale-nonce",
         Err(Error::IntegrityFailed(IntegrityAlgorithm::Sha1)) => "integrity-failed",
+        Err(Error::IntegrityFailed(IntegrityAlgorithm::Sha256)) => "integrity-failed-sha256",
         _ => "none of these",
     })
 }

@@ -1,8 +1,8 @@
 use Rattle.std.proofs.Common.{◌≡◌, map}
 use Rattle.std.specs.Option.{option_or}
 use Rattle.stun_types.specs.Grammar.{shown}
-use Rattle.stun_proto_judge.specs.Claims.{last_of_kind}
-use Rattle.stun_proto_judge.proofs.claim.last_attribute.Given as goal
+use Rattle.stun_proto_claim.specs.Claims.{last_of_kind}
+use Rattle.stun_proto_claim.proofs.last.last_attribute.Given as goal
 
 -- the last of what is left, or else the last so far, is the last of what is shown
 abbrev pub invariant-loop-attribute : goal.invariant-loop-attribute

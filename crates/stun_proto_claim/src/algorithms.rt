@@ -1,0 +1,44 @@
+//! What a list of password algorithms offers.
+
+ghost use Rattle.std.specs.Prelude.{◌≡◌, ◌==◌};
+ghost use Rattle.stun_types.specs.Entries.{number_told};
+ghost use Rattle.stun_proto_auth.specs.SupportedAlgorithms.{number_by};
+ghost use Rattle.stun_proto_claim.specs.Offers.{offers};
+
+use byteorder::{BigEndian, ByteOrder};
+use stun_types::message::IntegrityAlgorithm;
+use stun_types::registry::{MD5_NUMBER, SHA256_NUMBER};
+
+/// Whether the value of a PASSWORD-ALGORITHMS lists the algorithm by which the keys of an integrity
+/// algorithm are made (RFC 8489, sections 14.11 and 18.5).
+#[tactic(auto, using(crate::proofs::Entries::nothing_offered, crate::proofs::Entries::first_offered, crate::proofs::Entries::other_offered))]
+pub fn offers(value: &[u8], algorithm: IntegrityAlgorithm) -> bool
+    ensures { result ≡ offers value.now algorithm }
+{
+    let mut left = value;
+    while let Some((entry, rest)) = left.split_first_chunk::<4>() {
+        if tells(entry, algorithm) {
+            return true;
+        }
+        left = rest;
+    }
+    false
+}
+
+/// The number of the password algorithm by which the keys of an integrity algorithm are made.
+fn number_by(algorithm: IntegrityAlgorithm) -> u16
+    ensures { result ≡ number_by algorithm }
+{
+    match algorithm {
+        IntegrityAlgorithm::Sha1 => MD5_NUMBER,
+        IntegrityAlgorithm::Sha256 => SHA256_NUMBER,
+    }
+}
+
+/// Whether an entry tells the algorithm by which the keys of an integrity algorithm are made.
+#[tactic(auto, unfolding(stun_types_password::specs::Entries::number_told))]
+fn tells(entry: &[u8; 4], algorithm: IntegrityAlgorithm) -> bool
+    ensures { result ≡ (number_told entry.now == number_by algorithm) }
+{
+    BigEndian::read_u16(entry) == number_by(algorithm)
+}

@@ -1,0 +1,25 @@
+//! The last attribute of a type.
+
+ghost use Rattle.std.specs.Prelude.{◌≡◌};
+ghost use Rattle.stun_types.specs.Grammar.{shown};
+ghost use Rattle.stun_proto_claim.specs.Claims.{last_of_kind};
+
+use stun_types::attribute::{AttributeType, RawAttribute};
+use stun_types::message::Message;
+
+/// The last attribute of a type that a message shows.
+#[tactic(auto, using(stun_types_grammar_laws::proofs::Left::map_numbered, crate::proofs::Lasts::last_step), unfolding(crate::specs::Claims::last_of_kind))]
+pub(crate) fn last_attribute<'a>(
+    message: &Message<'a>,
+    atype: AttributeType,
+) -> Option<RawAttribute<'a>>
+    ensures { result ≡ last_of_kind atype.0 (shown message.now) }
+{
+    let mut last = None;
+    for (_, attribute) in message.iter_attributes() {
+        if attribute.get_type() == atype {
+            last = Some(attribute);
+        }
+    }
+    last
+}
