@@ -1,4 +1,6 @@
 -- The definitions that the contracts below this face cite, each file under its own name.
+pub mod ClientAuthErrors
+pub mod ClientValidations
 pub mod Features
 pub mod ServerAuthErrors
 pub mod ServerValidations
@@ -15,6 +17,15 @@ pub use Rattle.stun_proto_judge.specs.Knowledge
 pub use Rattle.stun_proto_sign.specs.Addition
 pub use Rattle.stun_proto_sign.specs.AdditionStages
 pub use Rattle.stun_proto_sign.specs.Sizes
+pub use Rattle.stun_proto_client.specs.Challenges
+pub use Rattle.stun_proto_client.specs.Choice
+pub use Rattle.stun_proto_client.specs.Client
+pub use Rattle.stun_proto_client.specs.ClientErrors
+pub use Rattle.stun_proto_client.specs.ClientSigning
+pub use Rattle.stun_proto_client.specs.ClientSteps
+pub use Rattle.stun_proto_client.specs.ClientValidation
+pub use Rattle.stun_proto_client.specs.Digests
+pub use Rattle.stun_proto_client.specs.ShortTerm
 pub use Rattle.stun_proto_server.specs.Server
 pub use Rattle.stun_proto_server.specs.ServerSigning
 pub use Rattle.stun_proto_server.specs.ServerValidation

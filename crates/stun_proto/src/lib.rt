@@ -1,9 +1,11 @@
-//! What stands behind STUN messages (RFC 8489): moments, and the server's side of long-term
-//! authentication. Nothing here does IO: moments and random words come in with the calls.
+//! What stands behind STUN messages (RFC 8489): moments, and the authentication of either side. Nothing
+//! here does IO: moments and random words come in with the calls.
 //!
-//! [`auth`] has the authenticator, its settings and its refusals.
+//! [`auth`] has the three authenticators, their settings and their refusals; [`laws`] what the contracts
+//! of a client's authenticator mean for a layer above.
 #![tactic(auto)]
 
 pub mod auth;
+pub mod laws;
 
 pub use stun_proto_agent::instant::Instant;

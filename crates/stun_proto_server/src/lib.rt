@@ -4,4 +4,5 @@
 
 pub mod long_term;
 pub mod outgoing;
+mod party;
 pub mod validation;

@@ -1,2 +1,3 @@
-mod Fitting
-pub mod Made
+pub mod Counting
+pub mod Making
+pub mod Reaching

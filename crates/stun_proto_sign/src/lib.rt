@@ -1,10 +1,8 @@
-//! What a server adds to a message by which the client knows that it is its own (RFC 8489,
-//! section 9.2), over any writer.
+//! What either side adds to a message by which the other knows it (RFC 8489, sections 9.1 and 9.2),
+//! over any writer.
 #![tactic(auto)]
 
-pub mod addressee;
-mod integrity;
-pub mod outgoing;
+pub mod part;
 mod room;
+pub mod signing;
 pub mod size;
-mod texts;

@@ -2,7 +2,7 @@
 //! but through the reader and the writer that `replay` is handed.
 #![tactic(auto)]
 
-pub use turn_desk_core::decision::Decision;
 pub use turn_desk_core::desk::Desk;
-pub use turn_desk_core::grant::Grant;
+pub use turn_desk_grant::decision::Decision;
+pub use turn_desk_grant::grant::Grant;
 pub use turn_desk_replay::trace::replay;

@@ -1,5 +1,5 @@
 -- What a validation keeps for its address, and the key that a reply to it is signed under.
-use Rattle.std.specs.Prelude.{◌≡◌, ◌≢◌, ℕ, ◌<◌, slice_index, Bool, true, false, cond, List, [], ◌∷◌, ◌++◌, Option, Some, None, IsSome, if◌then◌else◌, map as map_list}
+use Rattle.std.specs.Prelude.{◌≡◌, ◌≢◌, ℕ, ◌<◌, slice_index, Bool, true, false, cond, List, [], ◌∷◌, ◌++◌, Option, Some, None, IsSome, IsSomeAnd, if◌then◌else◌, map as map_list}
 use Rattle.std.proofs.Common.{refl, sym, ap, ◌∙◌, subst, inl, inr}
 use Rattle.std.proofs.lemmas.Bool.{cases_Bool}
 use Rattle.std.specs.Ordering.{is_eq}
@@ -12,33 +12,33 @@ use Rattle.stun_types.specs.SocketAddrs.{socket_addr_cmp, socket_addr_cmp_total}
 use Rattle.stun_types.specs.IntegrityAlgorithms.{IntegrityAlgorithm}
 use Rattle.stun_types.specs.MessageClasses.{MessageClass, Request, Indication, Success, Error}
 use Rattle.stun_types.specs.Attributes.{Attr}
-use Rattle.stun_types.specs.Types.{is_response_class, type_of}
+use Rattle.stun_types.specs.Types.{is_response_class}
 use Rattle.stun_types.specs.Drafts.{Draft}
-use Rattle.stun_types.specs.Text.{header_text, message_text}
+use Rattle.stun_types.specs.Text.{message_text}
 use Rattle.stun_types.specs.Credentials.{Key}
 use Rattle.stun_types.specs.Signing.{signing_refusal}
 use Rattle.stun_types.specs.Calls.{Integrity, IsWritten, Ordinary, after_calls}
 use Rattle.stun_types.specs.MessageReading.{IsReadAs}
 use Rattle.stun_types_integrity_laws.proofs.Composed.{composed_read, signed_read, signed_text_of}
-use Rattle.stun_proto.specs.Addition.{Addition, Party, Signer, addition, addition_refusal, calls_of, texts_refusal, key_in}
+use Rattle.stun_proto.specs.Addition.{Addition, parts_refusal}
 use Rattle.stun_proto.specs.AdditionStages.{IsMade}
-use Rattle.stun_proto_sign.proofs.Made.{made_written}
+use Rattle.stun_proto_sign.proofs.Making.{made_written}
 use Rattle.stun_proto.specs.Judgement.{IsRefused, is_response, user_key}
 use Rattle.stun_proto.specs.Knowledge.{Named, Outcome}
 use Rattle.stun_proto.specs.Claims.{claimed}
 use Rattle.stun_proto.specs.Server.{Client, Server, nonce_at, has_standing_nonce, refreshed, with_outcome, set_outcome}
-use Rattle.stun_proto.specs.ServerSigning.{addition_for, party_at, party_by_client, party_by_outcome, party_by_password}
+use Rattle.stun_proto.specs.ServerSigning.{Party, Signer, addition, addition_by, addition_for, key_in, party_at, party_by_client, party_by_outcome, party_by_password, signing_refusal_for}
 use Rattle.stun_proto.specs.ServerValidation.{IsValidated, after_refusal, known_of, user_at}
 use Rattle.stun_types.specs.Grammar.{number_at}
 use Rattle.stun_proto.specs.ServerAuthErrors.{LongTermServerAuthError, NoMemory}
 use Rattle.stun_proto.specs.ServerValidations.{LongTermServerValidation, Validated}
 use Rattle.stun_types.specs.Objections.{error_type}
-use Rattle.turn_desk_reply.specs.Replies.{IsReply, signed_attributes, signed_text, success_type}
-use Rattle.turn_desk_core.specs.declared.verdict.Verdict.{Verdict}
-use Rattle.turn_desk_core.specs.Requests.{IsServed}
+use Rattle.turn_desk_reply.specs.Replies.{IsReply, signed_attributes, signed_text}
+use Rattle.turn_desk_grant.specs.declared.verdict.Verdict.{Verdict}
+use Rattle.turn_desk_grant.specs.Requests.{IsServed}
 use Rattle.turn_desk_core.specs.State.{State}
 use Rattle.turn_desk_core.specs.Steps.{IsChallenge, IsSignedFor, IsTaken, IsTurnedReply, IsVerdict, key_at, key_of_party, refusal_attributes}
-use Rattle.turn_desk_core.specs.Verdicts.{grants_of, reply_attributes, reply_type}
+use Rattle.turn_desk_grant.specs.Verdicts.{grants_of, reply_attributes, reply_type}
 use Rattle.turn_desk_core.proofs.Numbers.{error_type_fits, number_fits, reply_type_fits}
 use Rattle.turn_desk_core.proofs.Nonces.{refreshed_nonce, refreshed_realm}
 
@@ -88,12 +88,12 @@ refreshed_users server from now stream =
 -- ---- the key
 
 party_kept : (server : Server) (from : SocketAddr) (nonce name password : List ℕ) (algorithm : IntegrityAlgorithm) → Kept server.clients from nonce (Some (record { name = name; algorithm = algorithm })) → map.get server.users name ≡ Some password
-    → party_at server from ≡ Some (record { realm = server.realm; nonce = nonce; user = Some (record { name = name; password = password; algorithm = algorithm }) })
+    → party_at server from ≡ Some (record { realm = server.realm; nonce = nonce; algorithms = server.algorithms; user = Some (record { name = name; password = password; algorithm = algorithm }) })
 party_kept server from nonce name password algorithm kept present =
     ap (party_by_client server) kept.found
     ∙ ap (λ (n : List ℕ). party_by_outcome server n kept.client.outcome) kept.same_nonce
     ∙ ap (party_by_outcome server nonce) kept.same_outcome
-    ∙ ap (party_by_password server.realm nonce (record { name = name; algorithm = algorithm })) present
+    ∙ ap (party_by_password server nonce (record { name = name; algorithm = algorithm })) present
 
 -- a request that is taken for a user's: the user is there, and its key is the one that replies are signed under
 pub record IsKeyOf (old new : Server) (from : SocketAddr) (name : List ℕ) (algorithm : IntegrityAlgorithm) : Type 0 where
@@ -136,59 +136,55 @@ taken_key old from bytes now stream name algorithm new realm taken =
 
 -- what is added under a key alone
 abbrev sealed : Option Key → Addition
-sealed key = record { texts = []; signer = key }
+sealed key = record { parts = []; signer = key }
 
-added_class : (realm nonce : List ℕ) (user : Signer) (class : MessageClass) → is_response_class class ≡ true → addition (record { realm = realm; nonce = nonce; user = Some user }) class ≡ Some (sealed (Some (key_in realm user)))
-added_class realm nonce user Request response = absurd (Prim.cc response)
-added_class realm nonce user Indication response = absurd (Prim.cc response)
-added_class realm nonce user Success response = refl
-added_class realm nonce user Error response = refl
+added_class : (party : Party) (user : Signer) (class : MessageClass) → is_response_class class ≡ true → addition_by party (Some user) class ≡ Some (sealed (Some (key_in party.realm user)))
+added_class party user Request response = absurd (Prim.cc response)
+added_class party user Indication response = absurd (Prim.cc response)
+added_class party user Success response = refl
+added_class party user Error response = refl
 
-added_user : (realm nonce : List ℕ) (user : Option Signer) (class : MessageClass) → is_response_class class ≡ true → IsSome (option_map (key_in realm) user)
-    → addition (record { realm = realm; nonce = nonce; user = user }) class ≡ Some (sealed (option_map (key_in realm) user))
-added_user realm nonce None class response has = absurd (Prim.cc has)
-added_user realm nonce (Some user) class response has = added_class realm nonce user class response
+added_user : (party : Party) (user : Option Signer) (class : MessageClass) → is_response_class class ≡ true → IsSome (option_map (key_in party.realm) user)
+    → addition_by party user class ≡ Some (sealed (option_map (key_in party.realm) user))
+added_user party None class response has = absurd (Prim.cc has)
+added_user party (Some user) class response has = added_class party user class response
 
 added : (party : Option Party) (class : MessageClass) → is_response_class class ≡ true → IsSome (key_of_party party) → option_and_then (λ (p : Party). addition p class) party ≡ Some (sealed (key_of_party party))
 added None class response has = absurd (Prim.cc has)
-added (Some party) class response has = added_user party.realm party.nonce party.user class response has
+added (Some party) class response has = added_user party party.user class response has
 
 -- a response to an address that was validated gets the integrity attribute alone
 pub added_for : (server : Server) (from : SocketAddr) (class : MessageClass) → is_response_class class ≡ true → IsSome (key_at server from) → addition_for server from class ≡ Some (sealed (key_at server from))
 added_for server from class response has = added (party_at server from) class response has
 
-sealed_refusal : (key : Option Key) (draft : Draft) → ((algorithm : IntegrityAlgorithm) → signing_refusal draft algorithm algorithm ≡ None) → addition_refusal (Some (sealed key)) draft ≡ None
-unfolding texts_refusal after_calls
+sealed_refusal : (key : Option Key) (draft : Draft) → ((algorithm : IntegrityAlgorithm) → signing_refusal draft algorithm algorithm ≡ None) → signing_refusal_for (Some (sealed key)) draft ≡ None
+unfolding parts_refusal after_calls
 sealed_refusal None draft signable = refl
 sealed_refusal (Some key) draft signable = signable key.algorithm
 
 pub accepted_for : (server : Server) (from : SocketAddr) (class : MessageClass) (draft : Draft) → is_response_class class ≡ true → IsSome (key_at server from)
-    → ((algorithm : IntegrityAlgorithm) → signing_refusal draft algorithm algorithm ≡ None) → addition_refusal (addition_for server from class) draft ≡ None
+    → ((algorithm : IntegrityAlgorithm) → signing_refusal draft algorithm algorithm ≡ None) → signing_refusal_for (addition_for server from class) draft ≡ None
 accepted_for server from class draft response has signable =
-    ap (λ (a : Option Addition). addition_refusal a draft) (added_for server from class response has) ∙ sealed_refusal (key_at server from) draft signable
+    ap (λ (a : Option Addition). signing_refusal_for a draft) (added_for server from class response has) ∙ sealed_refusal (key_at server from) draft signable
 
-signed_by : (server : Server) (from : SocketAddr) (signer : Option Key) (what : Option Addition) (old new : Draft) (kind number : ℕ) (attributes : List Attr) → key_at server from ≡ signer → IsSome signer → what ≡ Some (sealed signer)
-    → IsMade what old new → IsReply kind number attributes old → IsSignedFor server from kind number attributes new.bytes
-signed_by server from None what old new kind number attributes is has same made reply = absurd (Prim.cc has)
-signed_by server from (Some key) what old new kind number attributes is has same made reply =
-    let own : made.made ≡ sealed (Some key) = inside (sym made.known ∙ same) in
-    let all = made_written kind number (map_list Ordinary attributes) what old new reply.composed.written made in
+signed_by : (server : Server) (from : SocketAddr) (signer : Option Key) (old new : Draft) (kind number : ℕ) (attributes : List Attr) → key_at server from ≡ signer → IsSome signer
+    → IsMade (sealed signer) old new → IsReply kind number attributes old → IsSignedFor server from kind number attributes new.bytes
+signed_by server from None old new kind number attributes is has made reply = absurd (Prim.cc has)
+signed_by server from (Some key) old new kind number attributes is has made reply =
     let written : IsWritten kind number (map_list Ordinary attributes ++ Integrity key.algorithm key.bytes ∷ []) new =
-    subst (λ (a : Addition). IsWritten kind number (map_list Ordinary attributes ++ calls_of a) new) own all in
+    made_written kind number (map_list Ordinary attributes) (sealed (Some key)) old new reply.composed.written made in
     record {
       key = key;
       own = is;
       text = signed_text_of kind number attributes key.algorithm key.bytes new written;
       read = λ k n. signed_read kind number attributes key.algorithm key.bytes new k n reply.lawful written;
     }
-  where
-    inside : {x y : Addition} → Some x ≡ Some y → x ≡ y
-    inside p = Prim.cc p
 
 pub signed_for : (server : Server) (from : SocketAddr) (class : MessageClass) (old new : Draft) (text : List ℕ) → is_response_class class ≡ true → IsSome (key_at server from) → text ≡ new.bytes
-    → IsMade (addition_for server from class) old new → (kind number : ℕ) (attributes : List Attr) → IsReply kind number attributes old → IsSignedFor server from kind number attributes text
+    → IsSomeAnd (addition_for server from class) (λ made. IsMade made old new) → (kind number : ℕ) (attributes : List Attr) → IsReply kind number attributes old → IsSignedFor server from kind number attributes text
 signed_for server from class old new text response has told made kind number attributes reply =
-    rw told (signed_by server from (key_at server from) (addition_for server from class) old new kind number attributes refl has (added_for server from class response has) made reply)
+    let own = subst (λ (a : Option Addition). IsSomeAnd a (λ made. IsMade made old new)) (added_for server from class response has) made in
+    rw told (signed_by server from (key_at server from) old new kind number attributes refl has own reply)
 
 -- a reply that shows the nonce
 pub turned : (server : Server) (from : SocketAddr) (bytes : List ℕ) (error : LongTermServerAuthError) (realm nonce : List ℕ) (draft : Draft) (text : List ℕ) → realm ≡ server.realm → nonce_at server from ≡ Some nonce → text ≡ draft.bytes
@@ -285,21 +281,3 @@ challenged old new from bytes now stream error after reply are served ample refu
       read = subst (λ (r : List ℕ). IsReadAs (error_type bytes) (number_at bytes) (refusal_attributes error r told.nonce) reply) same (told.read (error_type_fits bytes served) (number_fits bytes are served));
       granted = ap (λ (s : State). s.grants) is;
     }
-
--- ---- replies are responses
-
-error_class : (number : ℕ) (attributes : List Attr) → is_response (message_text 0x0113 number attributes) ≡ true
-unfolding message_text header_text
-error_class number attributes = refl
-
-success_class : (number : ℕ) (attributes : List Attr) → is_response (message_text 0x0103 number attributes) ≡ true
-unfolding message_text header_text
-success_class number attributes = refl
-
-pub error_is_response : (bytes : List ℕ) (number : ℕ) (attributes : List Attr) (reply : Draft) → IsServed bytes → IsReply (error_type bytes) number attributes reply → is_response reply.bytes ≡ true
-error_is_response bytes number attributes reply served is =
-    ap is_response (is.composed.text ∙ ap (λ (m : ℕ). message_text (type_of Error m) number attributes) served.allocate) ∙ error_class number attributes
-
-pub success_is_response : (bytes : List ℕ) (number : ℕ) (attributes : List Attr) (reply : Draft) → IsServed bytes → IsReply (success_type bytes) number attributes reply → is_response reply.bytes ≡ true
-success_is_response bytes number attributes reply served is =
-    ap is_response (is.composed.text ∙ ap (λ (m : ℕ). message_text (type_of Success m) number attributes) served.allocate) ∙ success_class number attributes

@@ -7,10 +7,15 @@ use Rattle.stun_types.specs.Grammar.{number_at}
 use Rattle.stun_types.specs.Headers.{AreBytes}
 use Rattle.stun_types_grammar_laws.proofs.Converse.{has_text}
 use Rattle.stun_types.specs.Objections.{error_type}
-use Rattle.turn_desk_core.specs.declared.verdict.Verdict.{Verdict}
-use Rattle.turn_desk_core.specs.declared.verdict.Verdict.TheVariants.{Fails, Allocates}
-use Rattle.turn_desk_core.specs.Requests.{IsServed}
-use Rattle.turn_desk_core.specs.Verdicts.{reply_type}
+use Rattle.stun_types.specs.Attributes.{kind_at}
+use Rattle.stun_types.specs.MessageClasses.{Success, Error}
+use Rattle.stun_types.specs.Types.{method_of, type_of}
+use Rattle.turn_desk_reply.specs.Replies.{success_type}
+use Rattle.turn_desk_grant.proofs.Methods.{by_method}
+use Rattle.turn_desk_grant.specs.declared.verdict.Verdict.{Verdict}
+use Rattle.turn_desk_grant.specs.declared.verdict.Verdict.TheVariants.{Fails, Allocates, Refreshes, Permits, Binds, Connects, Joins}
+use Rattle.turn_desk_grant.specs.Requests.{IsServed}
+use Rattle.turn_desk_grant.specs.Verdicts.{reply_type}
 
 bytes_are : (bytes : List ℕ) → ((i : ℕ) → slice_index bytes i < 256) → AreBytes bytes
 bytes_are [] h = refl
@@ -20,8 +25,18 @@ pub number_fits : (bytes : List ℕ) → ((i : ℕ) → slice_index bytes i < 25
 number_fits bytes are served = (has_text bytes (bytes_are bytes are) served.message).number_fits
 
 pub error_type_fits : (bytes : List ℕ) → IsServed bytes → error_type bytes < 2 ^ 14
-error_type_fits bytes served = rw served.allocate (omega arith)
+error_type_fits bytes served = by_method (λ (m : ℕ). type_of Error m < 2 ^ 14)
+    (record { allocate = omega arith; refresh = omega arith; create_permission = omega arith; channel_bind = omega arith; connect = omega arith; connection_bind = omega arith }) (method_of (kind_at bytes)) served.method
+
+success_type_fits : (bytes : List ℕ) → IsServed bytes → success_type bytes < 2 ^ 14
+success_type_fits bytes served = by_method (λ (m : ℕ). type_of Success m < 2 ^ 14)
+    (record { allocate = omega arith; refresh = omega arith; create_permission = omega arith; channel_bind = omega arith; connect = omega arith; connection_bind = omega arith }) (method_of (kind_at bytes)) served.method
 
 pub reply_type_fits : (bytes : List ℕ) (what : Verdict) → IsServed bytes → reply_type bytes what < 2 ^ 14
 reply_type_fits bytes (Fails code) served = error_type_fits bytes served
-reply_type_fits bytes (Allocates transport relayed lifetime) served = rw served.allocate (omega arith)
+reply_type_fits bytes (Allocates transport relayed lifetime) served = success_type_fits bytes served
+reply_type_fits bytes (Refreshes lifetime) served = success_type_fits bytes served
+reply_type_fits bytes (Permits peers) served = success_type_fits bytes served
+reply_type_fits bytes (Binds channel peer) served = success_type_fits bytes served
+reply_type_fits bytes (Connects peer connection) served = success_type_fits bytes served
+reply_type_fits bytes (Joins connection) served = success_type_fits bytes served

@@ -1,5 +1,3 @@
 pub mod AuthLending
-pub mod Requests
 pub mod State
 pub mod Steps
-pub mod Verdicts

@@ -1,31 +1,28 @@
--- What a desk answers a request, and what that leaves (RFC 8489, section 9.2.4; RFC 8656, section 7.2).
-use Rattle.std.specs.Prelude.{◌≡◌, ◌≢◌, ◌⊎◌, ◌<◌, ◌^◌, ℕ, List, ◌++◌, Option, Some, None, true}
+-- What a desk answers a request, and what that leaves (RFC 8489, section 9.2.4; RFC 8656, sections 7.2 to 12.2).
+use Rattle.std.specs.Prelude.{◌≡◌, ◌≢◌, ◌⊎◌, ◌<◌, ◌^◌, ℕ, List, ◌++◌, Option, Some, None}
 use Rattle.std.specs.FinMap as map
 use Rattle.std.specs.Option.{option_and_then, option_map}
 use Rattle.std.specs.declared.net.socket_addr.SocketAddr.{SocketAddr}
 use Rattle.rand_core.specs.Stream.{Stream}
 use Rattle.stun_types.specs.IntegrityAlgorithms.{IntegrityAlgorithm}
-use Rattle.stun_types.specs.declared.transport.TransportType.{TransportType}
 use Rattle.stun_types.specs.Attributes.{Attr}
 use Rattle.stun_types.specs.Grammar.{number_at}
 use Rattle.stun_types.specs.Text.{message_text}
 use Rattle.stun_types.specs.MessageReading.{IsReadAs}
 use Rattle.stun_types.specs.Credentials.{Key}
-use Rattle.stun_proto.specs.Addition.{Party, key_in}
 use Rattle.stun_proto.specs.ServerAuthErrors.{LongTermServerAuthError, BadRequest, StaleNonce, NoMemory}
 use Rattle.stun_proto.specs.Judgement.{IsRefused, user_key}
 use Rattle.stun_proto.specs.Server.{Server, nonce_at, refreshed, with_outcome}
-use Rattle.stun_proto.specs.ServerSigning.{party_at}
+use Rattle.stun_proto.specs.ServerSigning.{Party, key_in, party_at}
 use Rattle.stun_proto.specs.ServerValidation.{Accepts, IsAfterNoMemory, known_of}
-use Rattle.turn_desk_core.specs.declared.decision.Decision.{Decision}
-use Rattle.turn_desk_core.specs.declared.decision.Decision.TheVariants.{Allocate}
-use Rattle.turn_desk_core.specs.declared.grant.Grant as granted
-use Rattle.turn_desk_core.specs.declared.verdict.Verdict.{Verdict}
-use Rattle.turn_desk_core.specs.Requests.{transport_asked}
+use Rattle.turn_desk_grant.specs.declared.decision.Decision.{Decision}
+use Rattle.turn_desk_grant.specs.declared.grant.Grant as granted
+use Rattle.turn_desk_grant.specs.declared.verdict.Verdict.{Verdict}
+use Rattle.turn_desk_grant.specs.Grants.{IsGrant}
 use Rattle.turn_desk_core.specs.State.{State}
-use Rattle.turn_desk_core.specs.Verdicts.{allocation, are_relayable, grants_of, reply_attributes, reply_type, verdict_on}
+use Rattle.turn_desk_grant.specs.Verdicts.{grants_of, reply_attributes, reply_type, verdict_on}
 use Rattle.stun_types.specs.Objections.{error_type}
-use Rattle.turn_desk_reply.specs.Replies.{allocated_attributes, challenge_attributes, failure_attributes, signed_attributes, signed_text, success_type}
+use Rattle.turn_desk_reply.specs.Replies.{challenge_attributes, failure_attributes, signed_attributes, signed_text, success_type}
 use Rattle.stun_types.specs.Registry.{bad_request_code, stale_nonce_code, unauthorized_code}
 
 -- ---- the key of a party
@@ -114,11 +111,9 @@ IsAnswer old from bytes now stream decision reply new =
     IsChallenge old from bytes now stream reply new ⊎ IsVerdict old from bytes now stream
     (verdict_on bytes decision) reply new
 
--- an allocation is granted to a request: it is a user's, it asks for a transport, and the decision
--- gives one address or two of distinct families; the reply is a success of its method and number
--- that shows these addresses in order and the lifetime, signed under the key that validated the
--- request; what is kept has the request's number, source and transport, and the addresses and the
--- lifetime that were decided
+-- a grant in answer to a request: the request is a user's; what is kept of it, and what the reply
+-- shows, are by the case of its method; the reply is a success of its method and number, signed
+-- under the key that validated the request
 pub record IsGranted (old : State) (from : SocketAddr) (bytes : List ℕ) (now : ℕ) (stream : Stream)
     (decision : Decision) (reply : List ℕ) (grant : granted.Grant) : Type 0 where
   pub name : List ℕ
@@ -126,17 +121,11 @@ pub record IsGranted (old : State) (from : SocketAddr) (bytes : List ℕ) (now :
   pub accepts : Accepts (refreshed old.auth from now stream) from bytes algorithm name
   pub password : List ℕ
   pub present : map.get old.auth.users name ≡ Some password
-  pub transport : TransportType
-  pub asked : transport_asked bytes ≡ Some transport
-  pub relayed : List SocketAddr
-  pub lifetime : ℕ
-  pub decided : decision ≡ Allocate relayed lifetime
-  pub fits : are_relayable relayed ≡ true
-  pub shows : IsReadAs (success_type bytes) (number_at bytes)
-      (signed_attributes (success_type bytes) (number_at bytes)
-      (allocated_attributes (number_at bytes) relayed lifetime from)
+  pub shows : List Attr
+  pub granted_by : IsGrant bytes from decision shows grant
+  pub read : IsReadAs (success_type bytes) (number_at bytes)
+      (signed_attributes (success_type bytes) (number_at bytes) shows
       (user_key old.auth.realm name password algorithm) algorithm) reply
-  pub kept : grant ≡ allocation bytes from transport relayed lifetime
 
 -- ---- want of memory
 

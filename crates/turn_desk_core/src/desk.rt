@@ -15,16 +15,12 @@ ghost use Rattle.stun_proto.specs.Judgement.{is_response};
 ghost use Rattle.stun_proto.specs.Server.{SameFor, nonce_at, words_drawn};
 ghost use Rattle.stun_types.specs.Objections.{error_type};
 ghost use Rattle.turn_desk_reply.specs.Replies.{IsReply};
-ghost use Rattle.turn_desk_core.specs.declared.grant.Grant.{Grant as Granted};
+ghost use Rattle.turn_desk_grant.specs.declared.grant.Grant.{Grant as Granted};
 ghost use Rattle.turn_desk_core.specs.AuthLending.{LendsAuth};
-ghost use Rattle.turn_desk_core.specs.Requests.{IsServed};
+ghost use Rattle.turn_desk_grant.specs.Requests.{IsServed};
 ghost use Rattle.turn_desk_core.specs.Steps.{IsAnswer, IsAuthAfter, IsGranted, IsSignedFor, IsTurnedReply, key_at, refusal_attributes};
-ghost use Rattle.turn_desk_core.specs.Verdicts.{allocation, grants_of, reply_attributes, reply_type, verdict_on};
+ghost use Rattle.turn_desk_grant.specs.Verdicts.{grants_of, reply_attributes, reply_type, verdict_on};
 
-use crate::decision::Decision;
-use crate::grant::Grant;
-use crate::request::is_served;
-use crate::verdict::{Verdict, verdict_on};
 use rand_core::Rng;
 use std::alloc::Global;
 use std::marker::Model;
@@ -33,10 +29,13 @@ use stun_proto::Instant;
 use stun_proto::auth::{LongTermServerAuth, LongTermServerAuthError};
 use stun_types::attribute::ErrorCode;
 use stun_types::message::{Message, MessageWrite, MessageWriteVec};
-use stun_types::{ListOf, NoMemory, TransportType};
-use turn_desk_reply::allocated::allocated;
+use stun_types::{ListOf, NoMemory};
+use turn_desk_grant::decision::Decision;
+use turn_desk_grant::grant::Grant;
+use turn_desk_grant::reply::{granted_to, reply_to};
+use turn_desk_grant::request::is_served;
+use turn_desk_grant::verdict::verdict_on;
 use turn_desk_reply::failure::{challenge, failure};
-use turn_types::message::ALLOCATE;
 
 /// A small server core. Contracts see its authenticator and what it granted.
 #[derive(Debug, Drop)]
@@ -88,22 +87,29 @@ impl Desk {
     /// The reply to bytes that came from an address at a moment, where there is one; what the driver
     /// decides of the request; and the random words of which a nonce is drawn where one is due.
     ///
-    /// Only ALLOCATE requests are answered. To bytes that are no message, and to other classes and
-    /// methods, the answer is `None`, and nothing changes. A request is validated first (RFC 8489,
-    /// section 9.2.4). Where it shows no integrity attribute, names no user, or its digest is wrong,
-    /// the reply is a challenge: an error response with its number that shows ERROR-CODE 401, REALM
-    /// and NONCE. Where its nonce is not the one that stands for its address, the challenge has 438.
-    /// Where it lacks what validation needs, the reply is an error response that shows ERROR-CODE 400
-    /// alone.
+    /// Requests of six methods are answered: ALLOCATE, REFRESH, CREATE_PERMISSION, CHANNEL_BIND, CONNECT
+    /// and CONNECTION_BIND. To bytes that are no message, and to other classes and methods, the answer
+    /// is `None`, and nothing changes. A request is validated first (RFC 8489, section 9.2.4). Where it
+    /// shows no integrity attribute, names no user, or its digest is wrong, the reply is a challenge: an
+    /// error response with its number that shows ERROR-CODE 401, REALM and NONCE. Where its nonce is not
+    /// the one that stands for its address, the challenge has 438. Where it lacks what validation needs,
+    /// the reply is an error response that shows ERROR-CODE 400 alone.
     ///
-    /// A request that is validated as a user's gets a signed reply, under the key that validated it
-    /// (RFC 8656, section 7.2): an error response with 400 where it asks for neither UDP nor TCP by
-    /// REQUESTED-TRANSPORT, with the code of a decision that refuses it, and with 500 where the
-    /// decision doesn't fit: it is none for an ALLOCATE, has another number of addresses than one
-    /// or two, has two of one family, or refuses with a code that is not from 300 to 699. Else the
-    /// allocation is granted: the success response shows XOR-RELAYED-ADDRESS of each address, LIFETIME
-    /// and XOR-MAPPED-ADDRESS, and `grants` has one more grant. A signing is refused for want of memory
-    /// alone.
+    /// A request that is validated as a user's gets a signed reply, under the key that validated it. It
+    /// is an error response with 400 where what the method needs is missing: an ALLOCATE needs a
+    /// REQUESTED-TRANSPORT of UDP or TCP; a CREATE_PERMISSION one XOR-PEER-ADDRESS or more, all well
+    /// formed; a CHANNEL_BIND a CHANNEL-NUMBER, of whatever range, and a XOR-PEER-ADDRESS; a CONNECT a
+    /// XOR-PEER-ADDRESS; a CONNECTION_BIND a CONNECTION-ID; a REFRESH nothing. Of other types than a
+    /// CREATE_PERMISSION's peers the first shown decides. A decision that refuses gives its code, where
+    /// that is one from 300 to 699. A decision that doesn't fit gives 500. What fits is `Allocate` for an
+    /// ALLOCATE, with one address, or two of distinct families; `Refresh` for a REFRESH; `Connect` for a
+    /// CONNECT; `Grant` for the other three.
+    ///
+    /// Else the request is granted: the reply is the success response, and `grants` has one more grant.
+    /// The success shows, to an ALLOCATE, XOR-RELAYED-ADDRESS of each address, LIFETIME and
+    /// XOR-MAPPED-ADDRESS (RFC 8656, section 7.2); to a REFRESH the LIFETIME that was decided (section
+    /// 8.2); to a CONNECT its CONNECTION-ID (RFC 6062, section 5.2); to others nothing. A signing is
+    /// refused for want of memory alone.
     ///
     /// Where memory is refused, `NoMemory`: nothing was granted, and the authenticator is as it was,
     /// or as validation left it.
@@ -122,7 +128,7 @@ impl Desk {
         ensures answer { IfOk result (λ answer. MatchOption answer (self.new ≡ self.old)
             (λ reply. IsAnswer self.old from bytes.now now (R.stream rng.old) decision.now
             reply.items self.new)) }
-        // A grant is kept exactly where an allocation is granted.
+        // A grant is kept exactly where one is granted.
         ensures grants { IfOk result (λ answer. MatchOption answer
             (self.new.grants ≡ self.old.grants)
             (λ reply. (g : Granted) → (self.new.grants ≡ self.old.grants ++ g ∷ [])
@@ -203,23 +209,13 @@ impl Desk {
         }) }
         ensures err { OnErr result (self.new ≡ self.old) }
     {
-        match verdict_on(self.alloc, request, decision)? {
-            Verdict::Fails(code) => {
-                let reply = failure(self.alloc, request, code)?;
-                self.sign(reply, from)
-            }
-            Verdict::Allocates {
-                transport,
-                relayed,
-                lifetime,
-            } => {
-                let reply = allocated(self.alloc, request, relayed.as_slice(), lifetime, from)?;
-                let reply = self.sign(reply, from)?;
-                let granted = allocation(self.alloc, request, from, transport, relayed, lifetime);
-                self.grants.push(granted)?;
-                Ok(reply)
-            }
+        let what = verdict_on(self.alloc, request, decision)?;
+        let reply = reply_to(self.alloc, request, from, &what)?;
+        let reply = self.sign(reply, from)?;
+        if let Some(grant) = granted_to(self.alloc, request, from, what)? {
+            self.grants.push(grant)?;
         }
+        Ok(reply)
     }
 
     /// A reply to an address, signed under the key of the user by whom its last message was
@@ -260,29 +256,5 @@ fn refusal(
             challenge(alloc, request, ErrorCode::STALE_NONCE, realm, nonce)
         }
         _ => challenge(alloc, request, ErrorCode::UNAUTHORIZED, realm, nonce),
-    }
-}
-
-/// What is kept of an allocation that is granted to a request from an address.
-fn allocation(
-    alloc: Global,
-    request: &Message,
-    from: SocketAddr,
-    transport: TransportType,
-    relayed: ListOf<SocketAddr>,
-    lifetime: u32,
-) -> Grant
-    ensures { result ≡ allocation request.now from transport relayed lifetime }
-{
-    Grant {
-        method: ALLOCATE,
-        number: request.transaction_id(),
-        from,
-        transport: Some(transport),
-        relayed,
-        lifetime: Some(lifetime),
-        peers: ListOf::new(alloc),
-        channel: None,
-        connection: None,
     }
 }

@@ -2,8 +2,4 @@
 //! granted. It does no IO: bytes, addresses, moments and random words come in, replies go out.
 #![tactic(auto)]
 
-pub mod decision;
 pub mod desk;
-pub mod grant;
-mod request;
-mod verdict;

@@ -13,7 +13,7 @@ use program_lines::refusal::LineError;
 use std::alloc::Global;
 use std::net::SocketAddr;
 use stun_proto::Instant;
-use turn_desk_core::decision::Decision;
+use turn_desk_grant::decision::Decision;
 
 /// A line that is answered.
 #[derive(Debug, Drop)]

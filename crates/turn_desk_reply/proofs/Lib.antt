@@ -1,3 +1,4 @@
 pub mod Adding
+pub mod GrantedReplies
 pub mod Room
 pub mod Sizes

@@ -149,7 +149,7 @@ error_ordinary code = let reason = reason-short code in record { fits = record {
 relayed_ordinary : (number : ℕ) (addr : SocketAddr) → IsOrdinary (relayed_attribute number addr)
 relayed_ordinary number addr = let short = xored_short number (address_value addr) in record { fits = record { kind = omega arith; value = omega (arith, short) }; ordinary = refl }
 
-lifetime_ordinary : (lifetime : ℕ) → IsOrdinary (lifetime_of lifetime)
+pub lifetime_ordinary : (lifetime : ℕ) → IsOrdinary (lifetime_of lifetime)
 lifetime_ordinary lifetime = record { fits = record { kind = omega arith; value = omega arith }; ordinary = refl }
 
 mapped_ordinary : (number : ℕ) (addr : SocketAddr) → IsOrdinary (mapped_of number addr)
@@ -163,7 +163,7 @@ allocated_ordinary number lifetime from (a ∷ b ∷ c ∷ rest) few = absurd (o
 
 -- ---- replies
 
-reply_of : (kind number : ℕ) (attributes : List Attr) (old reply : Draft) → old ≡ empty [] None → IsComposed kind number attributes old reply → AllByRecursion IsOrdinary attributes → length (message_text kind number attributes) ≤ 4096 → IsReply kind number attributes reply
+pub reply_of : (kind number : ℕ) (attributes : List Attr) (old reply : Draft) → old ≡ empty [] None → IsComposed kind number attributes old reply → AllByRecursion IsOrdinary attributes → length (message_text kind number attributes) ≤ 4096 → IsReply kind number attributes reply
 reply_of kind number attributes old reply new composed lawful short = record {
   composed = subst (λ (d : Draft). IsComposed kind number attributes d reply) new composed;
   lawful = lawful;

@@ -1,6 +1,7 @@
 //! The replies of a desk, as they are before they are signed: challenges and other error responses,
-//! and the success response to an ALLOCATE.
+//! and the success responses to the methods that it serves.
 #![tactic(auto)]
 
 pub mod allocated;
 pub mod failure;
+pub mod granted;

@@ -8,6 +8,10 @@ use Rattle.std.specs.Prelude.{ℕ}
 abbrev pub allocate_method : ℕ
 allocate_method = 0x003
 
+-- REFRESH
+abbrev pub refresh_method : ℕ
+refresh_method = 0x004
+
 -- SEND
 abbrev pub send_method : ℕ
 send_method = 0x006
@@ -15,6 +19,22 @@ send_method = 0x006
 -- DATA
 abbrev pub data_method : ℕ
 data_method = 0x007
+
+-- CREATE_PERMISSION
+abbrev pub create_permission_method : ℕ
+create_permission_method = 0x008
+
+-- CHANNEL_BIND
+abbrev pub channel_bind_method : ℕ
+channel_bind_method = 0x009
+
+-- CONNECT (RFC 6062, section 6.1)
+abbrev pub connect_method : ℕ
+connect_method = 0x00A
+
+-- CONNECTION_BIND (RFC 6062, section 6.1)
+abbrev pub connection_bind_method : ℕ
+connection_bind_method = 0x00B
 
 -- ---- types of attributes
 

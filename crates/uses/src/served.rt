@@ -41,7 +41,7 @@ pub(crate) fn serve<R: Rng>(
 }
 
 /// The reply of a new desk, which knows one user and relays 203.0.113.5:50000 for ten minutes, to bytes
-/// that came from an address. `None` where they are no ALLOCATE request.
+/// that came from an address. `None` where they are no request that a desk serves.
 pub(crate) fn allocate<R: Rng>(
     alloc: Global,
     bytes: &[u8],

@@ -1,14 +1,25 @@
-use Rattle.std.specs.Prelude.{◌<◌, slice_index}
-use Rattle.std.proofs.Common.{rules, arith, ◌≢◌, inl, inr, List, ℕ, subst, sym, refl}
+use Rattle.std.specs.Prelude.{◌<◌, slice_index, Result, Ok, Err, OnErr}
+use Rattle.std.proofs.Common.{rules, arith, ◌≡◌, ◌≢◌, inl, inr, List, ℕ, subst, sym, refl}
+use Rattle.std.specs.declared.net.socket_addr.SocketAddr.{SocketAddr}
+use Rattle.rand_core.specs.Stream.{Stream}
 use Rattle.stun_proto.specs.ServerAuthErrors.{NoMemory}
 use Rattle.stun_proto.specs.Server.{SameFor}
-use Rattle.turn_desk_core.specs.Requests.{IsServed}
+use Rattle.turn_desk_grant.specs.Requests.{IsServed}
 use Rattle.turn_desk_core.specs.State.{State}
-use Rattle.turn_desk_core.specs.Steps.{IsAnswer}
-use Rattle.turn_desk_core.specs.Verdicts.{verdict_on}
+use Rattle.turn_desk_core.specs.Steps.{IsAnswer, IsAuthAfter}
+use Rattle.turn_desk_grant.specs.Verdicts.{verdict_on}
 use Rattle.turn_desk_core.proofs.Grants.{exactly_granted}
 use Rattle.turn_desk_core.proofs.Keys.{answered, challenged, refusal_after, refused_nonce, takes, takes_key}
 use Rattle.turn_desk_core.proofs.desk.Desk.handle.Goals as goal
+
+-- what a call leaves where memory is refused
+abbrev OutOfMemory : State → SocketAddr → List ℕ → ℕ → Stream → State → Type 0
+OutOfMemory old from bytes now stream new =
+    IsServed bytes × (new.grants ≡ old.grants) × IsAuthAfter old.auth from bytes now stream new.auth
+
+on_err : {T E : Type 0} (result : Result T E) {P : Type 0} → P → OnErr result P
+on_err (Ok value) holds = tt
+on_err (Err error) holds = holds
 
 pub answer-requires-clause-validated : goal.answer-requires-clause-validated
 answer-requires-clause-validated g c =
@@ -44,7 +55,7 @@ returns-in_ok-reply-in-Ok-validate_incoming_message-clause-answer g c =
 
 pub returns-in_ok-reply-in-Ok-validate_incoming_message-clause-grants : goal.returns-in_ok-reply-in-Ok-validate_incoming_message-clause-grants
 returns-in_ok-reply-in-Ok-validate_incoming_message-clause-grants g c grant =
-    exactly_granted c.args.self.now c.answer.new.self c.args.from c.args.bytes.now c.args.now (g.R.Rng.stream c.args.rng.now) c.args.decision.now c.in_ok-reply-in-Ok-validate_incoming_message.reply.items grant
+    exactly_granted c.args.self.now c.answer.new.self c.args.from c.args.bytes.now c.args.now (g.R.Rng.stream c.args.rng.now) c.args.decision.now c.in_ok-reply-in-Ok-validate_incoming_message.reply.items grant (search rules)
     (returns-in_ok-reply-in-Ok-validate_incoming_message-clause-answer g c)
 
 pub returns-in_ok-reply-in-Err : goal.returns-in_ok-reply-in-Err
@@ -65,7 +76,7 @@ returns-in_ok-reply-in-Err g c =
     record {
       none = search rules;
       answer = there;
-      grants = λ grant. exactly_granted c.args.self.now new c.args.from c.args.bytes.now c.args.now stream c.args.decision.now reply grant there;
+      grants = λ grant. exactly_granted c.args.self.now new c.args.from c.args.bytes.now c.args.now stream c.args.decision.now reply grant (subst IsServed c.in-Ok.ensures.0 served) there;
       memory = tt;
       stream = search rules;
       others = λ other different. subst (λ (s : State). SameFor other s.auth c.validate_incoming_message.new.self) c.self.view_is (c.validate_incoming_message.ensures.others other different);
@@ -80,3 +91,35 @@ returns-in_err-reply-in-Err g c = record {
   stream = search rules;
   others = λ other different. subst (λ (s : State). SameFor other s.auth c.validate_incoming_message.new.self) c.self.view_is (c.validate_incoming_message.ensures.others other different);
 }
+
+pub returns-in_err-reply-in-Ok-validate_incoming_message-clause-memory :
+    goal.returns-in_err-reply-in-Ok-validate_incoming_message-clause-memory
+returns-in_err-reply-in-Ok-validate_incoming_message-clause-memory g c =
+    let stream = g.R.Rng.stream c.args.rng.now in
+    let old : State = record { auth = c.self.inside.auth; grants = c.self.inside.grants } in
+    let after = c.validate_incoming_message.new.self in
+    let served : IsServed c.in-Ok.request = search rules in
+    let t = takes c.self.inside.auth c.args.from c.in-Ok.request c.args.now stream c.in-Ok-validate_incoming_message.field-0 after c.in-Ok-validate_incoming_message.ensures.valid in
+    let auth : IsAuthAfter c.self.inside.auth c.args.from c.in-Ok.request c.args.now stream after = inr (inr (t.name, t.algorithm, t.taken)) in
+    let here : OutOfMemory old c.args.from c.in-Ok.request c.args.now stream (record { auth = after; grants = c.self.inside.grants }) = (served, refl, auth) in
+    let kept = subst (λ (new : State). OutOfMemory old c.args.from c.in-Ok.request c.args.now stream new) (sym c.in_err-reply-in-Ok-validate_incoming_message.ensures.err) here in
+    let named : IsServed c.args.bytes.now × (c.answer.new.self.grants ≡ c.args.self.now.grants) × IsAuthAfter c.args.self.now.auth c.args.from c.args.bytes.now c.args.now stream c.answer.new.self.auth =
+    subst (λ (s : State). OutOfMemory s c.args.from c.args.bytes.now c.args.now stream c.answer.new.self) c.self.view_is
+    (subst (λ (b : List ℕ). OutOfMemory old c.args.from b c.args.now stream c.answer.new.self) c.in-Ok.ensures.0 kept) in
+    on_err c.from_residual.result named
+
+pub returns-in_err-reply-in-Ok-validate_incoming_message-clause-others :
+    goal.returns-in_err-reply-in-Ok-validate_incoming_message-clause-others
+returns-in_err-reply-in-Ok-validate_incoming_message-clause-others g c = λ other different.
+    subst (λ (s : State). SameFor other s.auth c.answer.new.self.auth) c.self.view_is
+    (subst (λ (s : State). SameFor other c.self.inside.auth s.auth) (sym c.in_err-reply-in-Ok-validate_incoming_message.ensures.err) (c.validate_incoming_message.ensures.others other different))
+
+pub returns-in_ok-reply-in-Ok-validate_incoming_message-clause-others :
+    goal.returns-in_ok-reply-in-Ok-validate_incoming_message-clause-others
+returns-in_ok-reply-in-Ok-validate_incoming_message-clause-others g c = λ other different.
+    subst (λ (s : State). SameFor other s.auth c.answer.new.self.auth) c.self.view_is
+    (subst (λ (s : State). SameFor other c.self.inside.auth s.auth) (sym c.in_ok-reply-in-Ok-validate_incoming_message.ensures.granted) (c.validate_incoming_message.ensures.others other different))
+
+pub returns-in-Err-NoMemory-clause-others : goal.returns-in-Err-NoMemory-clause-others
+returns-in-Err-NoMemory-clause-others g c = λ other different.
+    subst (λ (s : State). SameFor other s.auth c.validate_incoming_message.new.self) c.self.view_is (c.validate_incoming_message.ensures.others other different)

@@ -1,0 +1,3 @@
+//! What the contracts mean for a layer above, as functions that do nothing.
+
+pub use stun_proto_client::laws::{client_laws, client_signs};

@@ -1,0 +1,4 @@
+pub mod Choosing
+pub mod Signing
+pub mod Stepping
+pub mod Validating

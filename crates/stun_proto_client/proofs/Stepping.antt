@@ -1,0 +1,122 @@
+-- What a validation keeps and accepts, and under which key a client signs.
+use Rattle.std.proofs.Common.{◌≡◌, ℕ, List, Option, Some, None, refl, sym, ap, ◌∙◌, subst, inl, inr}
+use Rattle.std.specs.Prelude.{Result, Ok, Err, MatchResult}
+use Rattle.stun_types.specs.IntegrityAlgorithms.{IntegrityAlgorithm}
+use Rattle.stun_types.specs.MessageClasses.{MessageClass, Request, Indication, Success, Error}
+use Rattle.stun_types.specs.Credentials.{Key, NameAndPassword}
+use Rattle.stun_types_message.proofs.Validating.{validates_last}
+use Rattle.stun_proto_client.specs.Challenges.{challenge_shown}
+use Rattle.stun_proto_client.specs.Client.{Challenge, Client, Standing, standing_by, standing_key, standing_of}
+use Rattle.stun_proto_client.specs.ClientSigning.{addition_by, addition_for}
+use Rattle.stun_proto_client.specs.ClientSteps.{AuthStep, IsKeyOf, accepted_by}
+use Rattle.stun_proto_client.specs.ClientValidation.{IsResent, IsTaken, IsTurnedDown, IsUnauthorized, IsValidated}
+use Rattle.stun_proto_client.specs.Digests.{IsRight}
+use Rattle.stun_proto_client.specs.declared.error.LongTermClientAuthError.{LongTermClientAuthError}
+use Rattle.stun_proto_client.specs.declared.error.LongTermClientAuthError.TheVariants.{Unauthorized, IntegrityFailed, UnsupportedFeature, NoMemory}
+use Rattle.stun_proto_client.specs.declared.validation.LongTermClientValidation.{LongTermClientValidation}
+use Rattle.stun_proto_client.specs.declared.validation.LongTermClientValidation.TheVariants.{ResendRequest, Validated}
+
+-- ---- the client's key
+
+own_account : (account : Option NameAndPassword) (challenge : Option Challenge) (s : Standing) → standing_by account challenge ≡ Some s → account ≡ Some s.account
+own_account None challenge s is = absurd (Prim.cc is)
+own_account (Some account) None s is = absurd (Prim.cc is)
+own_account (Some account) (Some challenge) s is =
+    let same : record { account = account; challenge = challenge } ≡ s = cc in
+    ap (λ (t : Standing). Some t.account) same
+
+own_key : (client : Client) (s : Standing) → standing_of client ≡ Some s → IsKeyOf client (standing_key s)
+own_key client s is = record {
+  account = s.account;
+  own = own_account client.account client.challenge s is;
+  realm = s.challenge.realm;
+  algorithm = s.challenge.choice;
+  is = refl;
+}
+
+-- ---- a step
+
+pub resent : (old : Client) (bytes : List ℕ) (choice : IntegrityAlgorithm) (new : Client) → IsResent old bytes choice new → AuthStep old bytes None new
+resent old bytes choice new r = record {
+  account = ap (λ (c : Client). c.account) r.kept;
+  algorithms = ap (λ (c : Client). c.algorithms) r.kept;
+  anonymous_username = ap (λ (c : Client). c.anonymous_username) r.kept;
+  from_server = tt;
+}
+
+going : (old : Client) (bytes : List ℕ) (by : Option IntegrityAlgorithm) (new : Client) → new ≡ record old { integrity = by } → AuthStep old bytes None new
+going old bytes by new kept = record {
+  account = ap (λ (c : Client). c.account) kept;
+  algorithms = ap (λ (c : Client). c.algorithms) kept;
+  anonymous_username = ap (λ (c : Client). c.anonymous_username) kept;
+  from_server = tt;
+}
+
+same : (old : Client) (bytes : List ℕ) (new : Client) → new ≡ old → AuthStep old bytes None new
+same old bytes new kept = record {
+  account = ap (λ (c : Client). c.account) kept;
+  algorithms = ap (λ (c : Client). c.algorithms) kept;
+  anonymous_username = ap (λ (c : Client). c.anonymous_username) kept;
+  from_server = tt;
+}
+
+validated : (old : Client) (bytes : List ℕ) (algorithm : IntegrityAlgorithm) (new : Client) → IsValidated old bytes algorithm new → AuthStep old bytes (Some algorithm) new
+validated old bytes algorithm new v = record {
+  account = ap (λ (c : Client). c.account) v.kept;
+  algorithms = ap (λ (c : Client). c.algorithms) v.kept;
+  anonymous_username = ap (λ (c : Client). c.anonymous_username) v.kept;
+  from_server = record {
+    key = standing_key v.standing;
+    own = own_key old v.standing v.stands;
+    by_algorithm = sym v.chosen;
+    right = v.right;
+  };
+}
+
+pub step_of : (old new : Client) (bytes : List ℕ) (result : Result LongTermClientValidation LongTermClientAuthError)
+    → MatchResult result (λ answer. IsTaken old bytes answer new) (λ error. IsTurnedDown old bytes error new) → AuthStep old bytes (accepted_by result) new
+step_of old new bytes (Ok (ResendRequest choice)) r = resent old bytes choice new r
+step_of old new bytes (Ok (Validated algorithm)) v = validated old bytes algorithm new v
+step_of old new bytes (Err Unauthorized) u = going old bytes None new u.kept
+step_of old new bytes (Err (IntegrityFailed algorithm)) f = going old bytes (Some f.standing.challenge.choice) new f.kept
+step_of old new bytes (Err UnsupportedFeature) u = same old bytes new u.unchanged
+step_of old new bytes (Err NoMemory) w = same old bytes new w.unchanged
+
+-- ---- what is right is accepted
+
+some_none : {A : Type 0} (x : A) (o : Option A) → o ≡ Some x → o ≡ None → ⊥
+some_none x o is empty = absurd cc
+
+some_some : {A : Type 0} (x y : A) (o : Option A) → o ≡ Some x → o ≡ Some y → x ≡ y
+some_some x y o first second = cc
+
+unauthorized_not : (old : Client) (bytes : List ℕ) (s : Standing) (new : Client) → standing_of old ≡ Some s → IsRight bytes (standing_key s) → IsUnauthorized old bytes new → ⊥
+unauthorized_not old bytes s new stands right u = elim u.cause [
+  | inl absent ↦ some_none s.challenge.choice _ (validates_last bytes (standing_key s).bytes s.challenge.choice right.text right.validates) absent
+  | inr absent ↦ some_none s _ stands absent
+]
+
+pub right_is_accepted : (old new : Client) (bytes : List ℕ) (s : Standing) (result : Result LongTermClientValidation LongTermClientAuthError)
+    → MatchResult result (λ answer. IsTaken old bytes answer new) (λ error. IsTurnedDown old bytes error new) → challenge_shown bytes ≡ None → standing_of old ≡ Some s → IsRight bytes (standing_key s)
+    → accepted_by result ≡ Some s.challenge.choice
+right_is_accepted old new bytes s (Ok (ResendRequest choice)) r none stands right = absurd (some_none r.told _ r.shown none)
+right_is_accepted old new bytes s (Ok (Validated algorithm)) v none stands right =
+    ap (λ (a : IntegrityAlgorithm). Some a) (v.chosen ∙ ap (λ (t : Standing). t.challenge.choice) (some_some v.standing s _ v.stands stands))
+right_is_accepted old new bytes s (Err Unauthorized) u none stands right = absurd (unauthorized_not old bytes s new stands right u)
+right_is_accepted old new bytes s (Err (IntegrityFailed algorithm)) f none stands right =
+    let again = subst (λ (t : Standing). IsRight bytes (standing_key t)) (some_some s f.standing _ stands f.stands) right in
+    absurd (f.wrong.wrong again.text again.validates)
+right_is_accepted old new bytes s (Err UnsupportedFeature) u none stands right = absurd (some_none u.told _ u.shown none)
+right_is_accepted old new bytes s (Err NoMemory) w none stands right = absurd (some_none w.told _ w.shown none)
+
+-- ---- what is signed
+
+signs_by : (client : Client) (standing : Option Standing) (class : MessageClass) (key : Key) → standing_of client ≡ standing → (addition_by client.anonymous_username standing class).signer ≡ Some key → IsKeyOf client key
+signs_by client None class key stands is = absurd (Prim.cc is)
+signs_by client (Some s) Request key stands is = subst (IsKeyOf client) (some_some (standing_key s) key _ refl is) (own_key client s stands)
+signs_by client (Some s) Indication key stands is = absurd (Prim.cc is)
+signs_by client (Some s) Success key stands is = subst (IsKeyOf client) (some_some (standing_key s) key _ refl is) (own_key client s stands)
+signs_by client (Some s) Error key stands is = subst (IsKeyOf client) (some_some (standing_key s) key _ refl is) (own_key client s stands)
+
+pub signs_own : (client : Client) (class : MessageClass) (key : Key) → (addition_for client class).signer ≡ Some key → IsKeyOf client key
+signs_own client class key is = signs_by client (standing_of client) class key refl is

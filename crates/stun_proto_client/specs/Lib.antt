@@ -1,0 +1,9 @@
+pub mod Challenges
+pub mod Choice
+pub mod Client
+pub mod ClientErrors
+pub mod ClientSigning
+pub mod ClientSteps
+pub mod ClientValidation
+pub mod Digests
+pub mod ShortTerm

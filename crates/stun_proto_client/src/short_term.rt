@@ -1,0 +1,183 @@
+//! Short-term credentials (RFC 8489, section 9.1).
+
+ghost use Rattle.std.specs.Prelude.{◌≡◌, Some, None, IfOk, IsSome, MatchResult};
+ghost use Rattle.std.specs.Result.{IsOk};
+ghost use Rattle.stun_types.specs.Refusals.{RefusesFor};
+ghost use Rattle.stun_types.specs.Adding.{IsBegun};
+ghost use Rattle.stun_types.specs.Outcomes.{TakesNoMemory};
+ghost use Rattle.stun_proto_sign.specs.Addition.{addition_refusal};
+ghost use Rattle.stun_proto_sign.specs.AdditionStages.{IsMade};
+ghost use Rattle.stun_proto_sign.specs.Sizes.{size_of};
+ghost use Rattle.std.specs.Bool.{MatchBool};
+ghost use Rattle.stun_proto_client.specs.Digests.{IsRight, IsWrong};
+ghost use Rattle.std.specs.Option.{option_map};
+ghost use Rattle.stun_types.specs.ValidateErrors as invalid;
+ghost use Rattle.stun_proto_client.specs.ShortTerm.{IsShortAnswer, IsShortRefused, short_addition, short_key};
+
+use crate::validation::is_right;
+use std::marker::Model;
+use stun_proto_sign::signing::sign;
+use stun_types::NoMemory;
+use stun_types::message::{
+    IntegrityAlgorithm, IntegrityKey, Message, MessageWrite, ShortTermCredentials, StunWriteError,
+    ValidateError,
+};
+use stun_types::room::hmac_length;
+
+/// Credentials, and the algorithm by which they are used.
+#[derive(Debug, Drop)]
+struct Account {
+    credentials: ShortTermCredentials,
+    algorithm: IntegrityAlgorithm,
+}
+
+/// Authentication by a password that counts in one session, which both sides know. Contracts see the
+/// record `ShortTerm` of `specs/ShortTerm.antt`.
+#[derive(Debug, Drop)]
+pub struct ShortTermAuth {
+    account: Option<Account>,
+}
+
+impl Model for ShortTermAuth {
+    ghost use Rattle.std.specs.Option.{option_map};
+    ghost use Rattle.stun_proto_client.specs.ShortTerm.{ShortTerm};
+
+    ghost Value = { ShortTerm };
+
+    ghost view = { λ auth. record {
+      account = option_map (λ a. record { secret = a.credentials; algorithm = a.algorithm })
+          auth.account;
+    } };
+}
+
+impl ShortTermAuth {
+    /// Without credentials.
+    pub fn new() -> ShortTermAuth
+        ensures { result ≡ record { account = None } }
+    {
+        ShortTermAuth { account: None }
+    }
+
+    /// Sets the credentials and the algorithm by which they are used, in place of others.
+    pub fn set_credentials(
+        &mut self,
+        credentials: ShortTermCredentials,
+        algorithm: IntegrityAlgorithm,
+    )
+        ensures { self.new ≡ record {
+          account = Some (record { secret = credentials; algorithm = algorithm });
+        } }
+    {
+        self.account = Some(Account {
+            credentials,
+            algorithm,
+        });
+    }
+
+    /// The credentials and their algorithm, where they are set.
+    pub fn credentials(&self) -> Option<(&ShortTermCredentials, IntegrityAlgorithm)>
+        ensures { option_map (λ pair. record { secret = pair.0.now; algorithm = pair.1 }) result
+            ≡ self.now.account }
+    {
+        match &self.account {
+            Some(account) => Some((&account.credentials, account.algorithm)),
+            None => None,
+        }
+    }
+
+    /// The key under which messages are signed and validated, where credentials are set: it borrows
+    /// the password.
+    pub fn integrity_key(&self) -> Option<IntegrityKey<'_>>
+        ensures { result ≡ option_map short_key self.now.account }
+    {
+        match self.credentials() {
+            Some((credentials, algorithm)) => Some(credentials.make_key(algorithm)),
+            None => None,
+        }
+    }
+
+    /// How many bytes `sign_outgoing_message` adds: 0 without credentials.
+    pub fn message_signature_bytes(&self) -> usize
+        ensures { result ≡ size_of (short_addition self.now.account) }
+    {
+        match &self.account {
+            Some(account) => 4 + hmac_length(account.algorithm),
+            None => 0,
+        }
+    }
+
+    /// Signs a message, and gives the writer back. With credentials the integrity attribute of their
+    /// algorithm is added, which stands alone and is written in full; without them nothing is.
+    /// Refused as `add_message_integrity` is; where memory is refused, and nothing else is,
+    /// `NoMemory`, which a writer with a greatest size never answers. A refusal drops the writer.
+    pub fn sign_outgoing_message<W: MessageWrite + Drop>(
+        &self,
+        writer: W,
+    ) -> Result<W, StunWriteError>
+        requires { IsBegun (W.draft writer).bytes }
+        ensures ok { IfOk result (λ signed. IsMade (short_addition self.now.account)
+            (W.draft writer) (W.draft signed)) }
+        ensures cause { RefusesFor StunWriteError.NoMemory
+            (addition_refusal (short_addition self.now.account) (W.draft writer)) result }
+        ensures lent { TakesNoMemory (W.draft writer) result }
+    {
+        match self.integrity_key() {
+            Some(key) => sign(writer, &[], Some(&key)),
+            None => sign(writer, &[], None),
+        }
+    }
+
+    /// The same, where `sign_outgoing_message` has nothing to refuse but for memory. Where memory is
+    /// refused, `NoMemory`, and the writer is dropped.
+    pub fn sign_outgoing_message_unchecked<W: MessageWrite + Drop>(
+        &self,
+        writer: W,
+    ) -> Result<W, NoMemory>
+        requires begun { IsBegun (W.draft writer).bytes }
+        requires accepted { addition_refusal (short_addition self.now.account) (W.draft writer)
+            ≡ None }
+        ensures ok { IfOk result (λ signed. IsMade (short_addition self.now.account)
+            (W.draft writer) (W.draft signed)) }
+        ensures lent { IsSome (W.draft writer).limit → IsOk result }
+    {
+        match self.sign_outgoing_message(writer) {
+            Ok(signed) => Ok(signed),
+            Err(StunWriteError::NoMemory) => Err(NoMemory),
+            // What is required leaves no other cause.
+            Err(_) => unreachable!(),
+        }
+    }
+
+    /// Validates a message. Without credentials the answer is `None`. With them it is their
+    /// algorithm, where the last integrity attribute that the message shows is of that algorithm and
+    /// right under the key. Refused with `IntegrityFailed` in every other case.
+    pub fn validate_incoming_message(
+        &self,
+        message: &Message<'_>,
+    ) -> Result<Option<IntegrityAlgorithm>, ValidateError>
+        ensures { MatchResult result (IsShortAnswer self.now.account message.now)
+            (λ error. (error ≡ invalid.IntegrityFailed)
+            × IsShortRefused self.now.account message.now) }
+    {
+        let Some(key) = self.integrity_key() else {
+            return Ok(None);
+        };
+        if is_shown_right(message, &key) {
+            Ok(Some(key.algorithm()))
+        } else {
+            Err(ValidateError::IntegrityFailed)
+        }
+    }
+}
+
+/// Whether the last integrity attribute that a message shows is of a key's algorithm, and right
+/// under it.
+#[tactic(auto, using(crate::proofs::Validating::none_last))]
+fn is_shown_right(message: &Message<'_>, key: &IntegrityKey<'_>) -> bool
+    ensures { MatchBool result (IsRight message.now key.now) (IsWrong message.now key.now) }
+{
+    match message.last_integrity() {
+        Some(last) => is_right(message, last, key),
+        None => false,
+    }
+}

@@ -1,0 +1,45 @@
+//! The algorithm that both sides have.
+
+ghost use Rattle.std.specs.Prelude.{◌≡◌, MatchOption};
+ghost use Rattle.std.specs.Option.{option_copied};
+ghost use Rattle.stun_proto_client.specs.Choice.{HasNoneCommon, IsStrongest, is_common, takes};
+
+use stun_proto_auth::supported::SupportedIntegrity;
+use stun_proto_claim::algorithms::offers;
+use stun_types::message::IntegrityAlgorithm;
+
+/// The strongest algorithm that a client supports and a server takes, where they have one in common:
+/// the server takes those that its PASSWORD-ALGORITHMS lists, or without such a list `Sha1` alone.
+#[tactic(auto, using(crate::proofs::Choosing::sha256_is_strongest, crate::proofs::Choosing::sha1_is_strongest, crate::proofs::Choosing::none_is_common))]
+pub(crate) fn strongest(
+    own: SupportedIntegrity,
+    offered: Option<&[u8]>,
+) -> Option<IntegrityAlgorithm>
+    ensures { MatchOption result (HasNoneCommon own (option_copied offered.entry))
+        (IsStrongest own (option_copied offered.entry)) }
+{
+    if is_common(own, offered, IntegrityAlgorithm::Sha256) {
+        Some(IntegrityAlgorithm::Sha256)
+    } else if is_common(own, offered, IntegrityAlgorithm::Sha1) {
+        Some(IntegrityAlgorithm::Sha1)
+    } else {
+        None
+    }
+}
+
+/// Whether both sides have an algorithm.
+fn is_common(own: SupportedIntegrity, offered: Option<&[u8]>, algorithm: IntegrityAlgorithm) -> bool
+    ensures { result ≡ is_common own (option_copied offered.entry) algorithm }
+{
+    own.supports(algorithm) && takes(offered, algorithm)
+}
+
+/// Whether a server takes an algorithm: it lists it, or lists none and the algorithm is `Sha1`.
+fn takes(offered: Option<&[u8]>, algorithm: IntegrityAlgorithm) -> bool
+    ensures { result ≡ takes (option_copied offered.entry) algorithm }
+{
+    match offered {
+        Some(value) => offers(value, algorithm),
+        None => algorithm == IntegrityAlgorithm::Sha1,
+    }
+}

@@ -1,0 +1,235 @@
+//! What is known of the party that a message goes to, and what is added to the message for it.
+
+ghost use Rattle.std.specs.Prelude.{◌≡◌, IfOk, IsSomeAnd, None, Some};
+ghost use Rattle.stun_types.specs.Refusals.{RefusesFor};
+ghost use Rattle.stun_types.specs.Attributes.{kind_at};
+ghost use Rattle.stun_types.specs.Types.{class_of};
+ghost use Rattle.stun_types.specs.MessageClasses.{Error};
+ghost use Rattle.stun_types.specs.Adding.{IsBegun};
+ghost use Rattle.stun_types.specs.Outcomes.{TakesNoMemory};
+ghost use Rattle.stun_proto_auth.specs.Nonce.{features_told};
+ghost use Rattle.stun_proto_sign.specs.Addition.{addition_refusal};
+ghost use Rattle.stun_proto_sign.specs.AdditionStages.{IsMade};
+ghost use Rattle.stun_proto_sign.specs.Sizes.{size_of};
+ghost use Rattle.stun_proto_server.specs.ServerSigning.{addition, addition_for_user, addition_unvalidated, key_in, signing_refusal_for, size_for};
+
+use std::marker::Model;
+use stun_proto_auth::nonce::NonceFeatures;
+use stun_proto_auth::supported::SupportedIntegrity;
+use stun_proto_sign::part::Part;
+use stun_proto_sign::signing::sign;
+use stun_proto_sign::size::signature_bytes;
+use stun_types::message::{
+    IntegrityAlgorithm, IntegrityKey, MessageClass, MessageWrite, MessageWriteExt, StunWriteError,
+};
+
+/// A user under whose key messages are signed: its name, its password, and the algorithm of the
+/// integrity attribute. Contracts see the record `Signer`.
+#[derive(Debug, Drop)]
+pub(crate) struct SigningUser<'a> {
+    name: &'a str,
+    password: &'a str,
+    algorithm: IntegrityAlgorithm,
+}
+
+impl<'a> Model for SigningUser<'a> {
+    ghost use Rattle.stun_proto_server.specs.ServerSigning.{Signer};
+
+    ghost Value = { Signer };
+
+    ghost view = { λ user.
+        record { name = user.name.now; password = user.password.now; algorithm = user.algorithm } };
+}
+
+impl<'a> SigningUser<'a> {
+    /// The user of this name and password, by an algorithm.
+    pub(crate) fn new(
+        name: &'a str,
+        password: &'a str,
+        algorithm: IntegrityAlgorithm,
+    ) -> SigningUser<'a>
+        ensures { result
+            ≡ record { name = name.now; password = password.now; algorithm = algorithm } }
+    {
+        SigningUser {
+            name,
+            password,
+            algorithm,
+        }
+    }
+
+    /// The user's key in a realm.
+    fn key_in(&self, realm: &str) -> IntegrityKey<'a>
+        ensures { result ≡ key_in realm.now self.now }
+    {
+        IntegrityKey::long_term(self.name, realm, self.password, self.algorithm)
+    }
+}
+
+/// The party that a message goes to, as its server knows it: the realm, the nonce that is kept for
+/// it, the algorithms that are supported, and the user by whom its last message was validated,
+/// where it was. Contracts see the record `Party`.
+#[derive(Debug, Drop)]
+pub(crate) struct Party<'a> {
+    realm: &'a str,
+    nonce: &'a str,
+    supported: SupportedIntegrity,
+    user: Option<SigningUser<'a>>,
+}
+
+impl<'a> Model for Party<'a> {
+    ghost use Rattle.stun_proto_server.specs.ServerSigning.{Party};
+
+    ghost Value = { Party };
+
+    ghost view = { λ to. record {
+      realm = to.realm.now;
+      nonce = to.nonce.now;
+      algorithms = to.supported;
+      user = to.user;
+    } };
+}
+
+impl<'a> Party<'a> {
+    /// A party of which this is known.
+    pub(crate) fn new(
+        realm: &'a str,
+        nonce: &'a str,
+        supported: SupportedIntegrity,
+        user: Option<SigningUser<'a>>,
+    ) -> Party<'a>
+        ensures { result ≡ record {
+          realm = realm.now;
+          nonce = nonce.now;
+          algorithms = supported;
+          user = user.entry;
+        } }
+    {
+        Party {
+            realm,
+            nonce,
+            supported,
+            user,
+        }
+    }
+
+    /// Adds to a message what the party knows the server by. Refused with `IntegrityFailed` where
+    /// the party was not validated and the message is no error response, and then as `sign` is.
+    pub(crate) fn sign_for<W: MessageWrite + Drop>(&self, writer: W) -> Result<W, StunWriteError>
+        requires { IsBegun (W.draft writer).bytes }
+        ensures ok { IfOk result (λ signed. IsSomeAnd
+            (addition self.now (class_of (kind_at (W.draft writer).bytes)))
+            (λ made. IsMade made (W.draft writer) (W.draft signed))) }
+        ensures cause { RefusesFor StunWriteError.NoMemory (signing_refusal_for
+            (addition self.now (class_of (kind_at (W.draft writer).bytes)))
+            (W.draft writer)) result }
+        ensures lent { TakesNoMemory (W.draft writer) result }
+    {
+        let class = writer.class();
+        match (&self.user, class) {
+            (Some(user), class) => self.sign_for_user(writer, user, class),
+            (None, MessageClass::Error) => self.sign_challenge(writer),
+            (None, _) => Err(StunWriteError::IntegrityFailed),
+        }
+    }
+
+    /// Adds what a message of a class gets where the party was validated. Refused as `sign` is.
+    fn sign_for_user<W: MessageWrite + Drop>(
+        &self,
+        writer: W,
+        user: &SigningUser<'_>,
+        class: MessageClass,
+    ) -> Result<W, StunWriteError>
+        requires { IsBegun (W.draft writer).bytes }
+        ensures ok { IfOk result (λ signed. IsMade (addition_for_user self.now user.now class)
+            (W.draft writer) (W.draft signed)) }
+        ensures cause { RefusesFor StunWriteError.NoMemory (addition_refusal
+            (addition_for_user self.now user.now class) (W.draft writer)) result }
+        ensures lent { TakesNoMemory (W.draft writer) result }
+    {
+        match class {
+            MessageClass::Request => {
+                let parts = [
+                    Part::username(user.name),
+                    Part::realm(self.realm),
+                    Part::nonce(self.nonce),
+                ];
+                sign(writer, &parts, Some(&user.key_in(self.realm)))
+            }
+            MessageClass::Indication => sign(writer, &[], None),
+            MessageClass::Success | MessageClass::Error => {
+                sign(writer, &[], Some(&user.key_in(self.realm)))
+            }
+        }
+    }
+
+    /// Adds what an error response gets where the party was not validated. Refused as `sign` is.
+    fn sign_challenge<W: MessageWrite + Drop>(&self, writer: W) -> Result<W, StunWriteError>
+        requires { IsBegun (W.draft writer).bytes }
+        ensures ok { IfOk result (λ signed. IsSomeAnd (addition_unvalidated self.now Error)
+            (λ made. IsMade made (W.draft writer) (W.draft signed))) }
+        ensures cause { RefusesFor StunWriteError.NoMemory (signing_refusal_for
+            (addition_unvalidated self.now Error) (W.draft writer)) result }
+        ensures lent { TakesNoMemory (W.draft writer) result }
+    {
+        let (realm, nonce) = (Part::realm(self.realm), Part::nonce(self.nonce));
+        if self.lists_algorithms() {
+            let list = Part::algorithms(self.supported.entries());
+            sign(writer, &[realm, nonce, list], None)
+        } else {
+            sign(writer, &[realm, nonce], None)
+        }
+    }
+
+    /// Whether the nonce says that the server lists its algorithms.
+    fn lists_algorithms(&self) -> bool
+        ensures { result ≡ (features_told self.now.nonce).password_algorithms }
+    {
+        NonceFeatures::told_by(self.nonce).password_algorithms
+    }
+
+    /// How many bytes are added to a message of a class: 0 where nothing may be, and where a value is
+    /// over its limit.
+    pub(crate) fn bytes_for(&self, class: MessageClass) -> usize
+        ensures { result ≡ size_for (addition self.now class) }
+    {
+        match (&self.user, class) {
+            (Some(user), class) => self.bytes_for_user(user, class),
+            (None, MessageClass::Error) => self.bytes_of_challenge(),
+            (None, _) => 0,
+        }
+    }
+
+    /// How many bytes are added to a message of a class where the party was validated.
+    fn bytes_for_user(&self, user: &SigningUser<'_>, class: MessageClass) -> usize
+        ensures { result ≡ size_of (addition_for_user self.now user.now class) }
+    {
+        match class {
+            MessageClass::Request => signature_bytes(
+                &[
+                    Part::username(user.name),
+                    Part::realm(self.realm),
+                    Part::nonce(self.nonce),
+                ],
+                Some(user.algorithm),
+            ),
+            MessageClass::Indication => 0,
+            MessageClass::Success | MessageClass::Error => {
+                signature_bytes(&[], Some(user.algorithm))
+            }
+        }
+    }
+
+    /// How many bytes are added to an error response where the party was not validated.
+    fn bytes_of_challenge(&self) -> usize
+        ensures { result ≡ size_for (addition_unvalidated self.now Error) }
+    {
+        let (realm, nonce) = (Part::realm(self.realm), Part::nonce(self.nonce));
+        if self.lists_algorithms() {
+            let list = Part::algorithms(self.supported.entries());
+            signature_bytes(&[realm, nonce, list], None)
+        } else {
+            signature_bytes(&[realm, nonce], None)
+        }
+    }
+}

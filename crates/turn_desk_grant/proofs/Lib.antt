@@ -1,0 +1,3 @@
+pub mod Granting
+pub mod Lawful
+pub mod Methods

@@ -1,0 +1,4 @@
+pub mod AskedFor
+pub mod Grants
+pub mod Requests
+pub mod Verdicts
