@@ -8,6 +8,8 @@ mod agent;
 #[cfg(test)]
 mod algorithms;
 #[cfg(test)]
+mod client;
+#[cfg(test)]
 mod digests;
 #[cfg(test)]
 mod grants;

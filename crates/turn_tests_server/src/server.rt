@@ -198,7 +198,7 @@ fn messages_are_validated_or_refused(rt: HostRuntime) -> Result<(), Fail> {
 }
 
 /// A message of the method ALLOCATE and a class that is begun.
-fn begun(alloc: Global, class: MessageClass) -> Result<MessageWriteVec, NoMemory>
+pub(crate) fn begun(alloc: Global, class: MessageClass) -> Result<MessageWriteVec, NoMemory>
     ensures bytes { IfOk result (λ writer. writer.bytes
         ≡ message_text (type_of class 3) 0x7392 []) }
     ensures ended { IfOk result (λ writer. writer.ended ≡ none_ended) }
