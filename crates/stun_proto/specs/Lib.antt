@@ -26,7 +26,9 @@ pub use Rattle.stun_proto_client.specs.ClientSteps
 pub use Rattle.stun_proto_client.specs.ClientValidation
 pub use Rattle.stun_proto_client.specs.Digests
 pub use Rattle.stun_proto_client.specs.ShortTerm
+pub use Rattle.stun_proto_server.specs.Isolation
 pub use Rattle.stun_proto_server.specs.Server
 pub use Rattle.stun_proto_server.specs.ServerSigning
 pub use Rattle.stun_proto_server.specs.ServerValidation
+pub use Rattle.stun_proto_server.specs.Users
 pub use Rattle.stun_proto_server.specs.View

@@ -2,7 +2,7 @@
 //! here does IO: moments and random words come in with the calls.
 //!
 //! [`auth`] has the three authenticators, their settings and their refusals; [`laws`] what the contracts
-//! of a client's authenticator mean for a layer above.
+//! of the long-term ones mean for a layer above.
 #![tactic(auto)]
 
 pub mod auth;

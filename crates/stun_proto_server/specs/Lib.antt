@@ -1,4 +1,6 @@
+pub mod Isolation
 pub mod Server
 pub mod ServerSigning
 pub mod ServerValidation
+pub mod Users
 pub mod View

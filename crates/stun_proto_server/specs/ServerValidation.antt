@@ -1,15 +1,16 @@
 -- What a server holds a message against, and what a validation leaves (RFC 8489, section 9.2.4).
 use Rattle.std.specs.Prelude.{◌≡◌, ◌⊎◌, ℕ, false, List, Option, Some, None, if◌then◌else◌}
 use Rattle.std.specs.FinMap as map
-use Rattle.std.specs.Option.{option_map}
 use Rattle.std.specs.declared.net.socket_addr.SocketAddr.{SocketAddr}
 use Rattle.rand_core.specs.Stream.{Stream}
 use Rattle.stun_types.specs.IntegrityAlgorithms.{IntegrityAlgorithm}
 use Rattle.stun_proto_claim.specs.Claims.{claimed}
 use Rattle.stun_proto_judge.specs.Knowledge.{Knowledge, Named}
-use Rattle.stun_proto_judge.specs.Judgement.{IsAccepted, ServerAccepts, is_response}
+use Rattle.stun_proto_judge.specs.Judgement.{IsRefused, ServerAccepts, is_response}
+use Rattle.stun_proto_judge.specs.declared.error.LongTermServerAuthError.{LongTermServerAuthError}
 use Rattle.stun_proto_server.specs.declared.validation.LongTermServerValidation.{LongTermServerValidation}
 use Rattle.stun_proto_server.specs.declared.validation.LongTermServerValidation.TheVariants.{Validated}
+use Rattle.stun_proto_server.specs.Users.{IsFound, Names}
 use Rattle.stun_proto_server.specs.Server.{Server, has_standing_nonce, nonce_at, refreshed, with_outcome, words_drawn}
 
 -- the password of the user of a name, where there is a name and such a user
@@ -17,24 +18,36 @@ abbrev pub password_at : Server → Option (List ℕ) → Option (List ℕ)
 password_at server None = None
 password_at server (Some name) = map.get server.users name
 
--- the present user of a name, where there is a name: the hash of a name names none yet
-abbrev pub user_at : Server → Option (List ℕ) → Option Named
-user_at server None = None
-user_at server (Some name) =
-    option_map (λ (password : List ℕ). record { name = name; password = password }) (map.get server.users name)
-
--- what a server knows that concerns a message from an address
-abbrev pub known_of : Server → SocketAddr → List ℕ → Knowledge
-known_of server from bytes = record {
+-- what a server knows that concerns a message from an address, where this is the user that it names
+abbrev pub known_of : Server → SocketAddr → Option Named → Knowledge
+known_of server from found = record {
   realm = server.realm;
   algorithms = server.algorithms;
   nonce = nonce_at server from;
-  user = user_at server (claimed bytes).username;
+  user = found;
 }
 
--- a server accepts a message from an address, by an algorithm, as that of a user
-abbrev pub Accepts : Server → SocketAddr → List ℕ → IntegrityAlgorithm → List ℕ → Type 0
-Accepts server from bytes algorithm name = ServerAccepts (known_of server from bytes) bytes algorithm name
+-- a server accepts a message from an address, by an algorithm, as that of a user: one whom it names
+pub record Accepts (server : Server) (from : SocketAddr) (bytes : List ℕ) (algorithm : IntegrityAlgorithm)
+    (name : List ℕ) : Type 0 where
+  pub password : List ℕ
+  pub named : Names server (claimed bytes) (record { name = name; password = password })
+  pub judged : ServerAccepts (known_of server from (Some (record { name = name; password = password }))) bytes
+      algorithm name
+
+-- a server accepts a message from an address as that of some user, by some algorithm
+pub record AcceptsSome (server : Server) (from : SocketAddr) (bytes : List ℕ) : Type 0 where
+  pub algorithm : IntegrityAlgorithm
+  pub name : List ℕ
+  pub accepts : Accepts server from bytes algorithm name
+
+-- a server refuses a message from an address: a response for being one, and another message by what
+-- the server knows of the user whom it names
+pub record Refuses (server : Server) (from : SocketAddr) (bytes : List ℕ) (error : LongTermServerAuthError)
+    : Type 0 where
+  pub found : Option Named
+  pub is_found : is_response bytes ≡ false → IsFound server (claimed bytes) found
+  pub refused : IsRefused (known_of server from found) bytes error
 
 -- how many words a validation draws
 abbrev pub words_of_validation : Server → SocketAddr → List ℕ → ℕ → ℕ
@@ -54,7 +67,7 @@ IsAfterNoMemory server from now stream new = (new ≡ server) ⊎ (new ≡ refre
 pub record WantsMemory (server : Server) (from : SocketAddr) (bytes : List ℕ) (now : ℕ) (stream : Stream) : Type 0 where
   pub no_response : is_response bytes ≡ false
   pub due : (has_standing_nonce server from now ≡ false)
-      ⊎ IsAccepted (known_of (refreshed server from now stream) from bytes) bytes
+      ⊎ AcceptsSome (refreshed server from now stream) from bytes
 
 -- a validation by an algorithm: the server accepts the message as that of a user, and keeps the
 -- user and the algorithm for the address

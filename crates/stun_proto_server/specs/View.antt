@@ -3,6 +3,10 @@ use Rattle.std.specs.Prelude.{map}
 use Rattle.std.specs.Duration.{as_nanos}
 use Rattle.std.specs.FinMap as finite
 use Rattle.std.specs.String.{string_bytes}
+use Rattle.std.specs.declared.alloc.Global.{Global}
+use Rattle.std.specs.declared.string.String.{String}
+use Rattle.stun_types.specs.Credentials.{NameAndPassword}
+use Rattle.stun_proto_judge.specs.Knowledge.{Named}
 use Rattle.stun_proto_server.specs.Server.{Client, Server}
 use Rattle.stun_proto_server.specs.declared.long_term.ClientRecord.{ClientRecord}
 use Rattle.stun_proto_server.specs.declared.long_term.LongTermServerAuth.TheInside.{Inside}
@@ -21,3 +25,7 @@ server_of s = record {
   algorithms = s.supported;
   anonymous_username = s.anonymous_username;
 }
+
+-- the user of an entry
+abbrev pub named_of : String Global × NameAndPassword → Named
+named_of user = record { name = string_bytes user.0; password = user.1.password }

@@ -2,7 +2,9 @@
 //! output: the caller hands in the moment and the random words.
 #![tactic(auto)]
 
+pub mod laws;
 pub mod long_term;
 pub mod outgoing;
 mod party;
+mod users;
 pub mod validation;

@@ -16,8 +16,11 @@ ghost use Rattle.stun_types.specs.Registry.{longest_text};
 ghost use Rattle.stun_types.specs.IntegrityAlgorithms.{Sha1};
 ghost use Rattle.stun_proto_auth.specs.declared.feature.Feature.TheVariants.{Auto};
 ghost use Rattle.stun_proto_server.specs.Server.{nonce_at, has_standing_nonce, outcome_at, words_drawn, with_new_nonce, with_outcome, refreshed, SameFor};
-ghost use Rattle.stun_proto_server.specs.ServerValidation.{password_at, user_at};
+ghost use Rattle.stun_proto_server.specs.ServerValidation.{password_at};
+ghost use Rattle.stun_proto_server.specs.Users.{IsFound, IsFoundBy};
+ghost use Rattle.stun_types.specs.Userhashes.{userhash_of};
 
+use crate::users::user_hashed;
 use rand_core::Rng;
 use std::alloc::Global;
 use std::collections::BTreeMap;
@@ -28,6 +31,7 @@ use stun_proto_agent::instant::Instant;
 use stun_proto_auth::feature::Feature;
 use stun_proto_auth::nonce::{NONCE_WORDS, NonceFeatures, ServerNonce, write_nonce};
 use stun_proto_auth::supported::SupportedIntegrity;
+use stun_proto_claim::claim::Claim;
 use stun_proto_judge::known::NamedUser;
 use stun_proto_judge::user::ValidatedUser;
 use stun_types::message::{IntegrityAlgorithm, LongTermCredentials};
@@ -281,13 +285,36 @@ impl LongTermServerAuth {
         put_outcome(&mut self.clients, from, outcome);
     }
 
-    /// The present user of a name, where there is a name and such a user.
-    pub(crate) fn user_named<'a>(&'a self, name: Option<&'a str>) -> Option<NamedUser<'a>>
-        ensures { result ≡ user_at self.now (option_copied name.entry) }
+    /// The present user whom a claim names: the one of the name that it shows, or, where it shows none,
+    /// the first one whose name has the hash that it shows.
+    #[tactic(auto, using(crate::proofs::Naming::none_claimed))]
+    pub(crate) fn user_claimed<'a>(&'a self, claim: &'a Claim<'_>) -> Option<NamedUser<'a>>
+        ensures { IsFound self.now claim.now result }
     {
-        let name = name?;
-        let password = self.password(name)?;
-        Some(NamedUser::new(name, password))
+        match (claim.username(), claim.user_hash()) {
+            (Some(name), _) => self.user_named(name),
+            (None, Some(hash)) => self.user_hashed(hash),
+            (None, None) => None,
+        }
+    }
+
+    /// The present user of a name, where there is such a one.
+    #[tactic(auto, using(crate::proofs::Naming::by_name, crate::proofs::Naming::none_by_name))]
+    fn user_named<'a>(&'a self, name: &'a str) -> Option<NamedUser<'a>>
+        ensures { IsFoundBy self.now (λ other. other ≡ name.now) result }
+    {
+        match self.password(name) {
+            Some(password) => Some(NamedUser::new(name, password)),
+            None => None,
+        }
+    }
+
+    /// The first present user whose name has this hash in the realm, where there is one.
+    fn user_hashed(&self, hash: &[u8]) -> Option<NamedUser<'_>>
+        ensures { IsFoundBy self.now
+            (λ other. Some hash.now ≡ Some (userhash_of other self.now.realm)) result }
+    {
+        user_hashed(&self.users, self.realm.as_str(), hash)
     }
 
     /// The algorithms that are supported.

@@ -4,9 +4,11 @@ ghost use Rattle.std.specs.Prelude.{◌≡◌, ◌≢◌, ℕ, List, None, IfOk,
 ghost use Rattle.std.specs.declared.net.socket_addr.SocketAddr.{SocketAddr};
 ghost use Rattle.stun_types.specs.IntegrityAlgorithms.{IntegrityAlgorithm as Algorithm};
 ghost use Rattle.stun_types.specs.GeneratorWords.{stream_after};
-ghost use Rattle.stun_proto_judge.specs.Judgement.{IsAccepted, IsRefused, is_response};
+ghost use Rattle.stun_proto_claim.specs.Claims.{claimed};
+ghost use Rattle.stun_proto_judge.specs.Judgement.{is_response};
 ghost use Rattle.stun_proto_server.specs.Server.{SameFor, refreshed, with_outcome};
-ghost use Rattle.stun_proto_server.specs.ServerValidation.{Accepts, IsAfterNoMemory, IsValidated, WantsMemory, after_refusal, known_of, words_of_validation};
+ghost use Rattle.stun_proto_server.specs.ServerValidation.{Accepts, AcceptsSome, IsAfterNoMemory, IsValidated, Refuses, WantsMemory, after_refusal, words_of_validation};
+ghost use Rattle.stun_proto_server.specs.Users.{NamesOne};
 
 use crate::long_term::LongTermServerAuth;
 use rand_core::Rng;
@@ -36,6 +38,9 @@ impl LongTermServerAuth {
     /// with `Unauthorized` where it names no user that is there; with `IntegrityFailed` where its
     /// last integrity attribute is wrong under the key of that user in the server's realm. Of each
     /// kind of attribute the last one shown decides, and a malformed one is as if there were none.
+    /// USERNAME names a user by name; where there is none, USERHASH does so by the hash of name and
+    /// realm, and of several users with the same hash the first name counts. Each user is then looked
+    /// at, which takes a digest a user.
     ///
     /// The outcome is kept for the address: after a validation the user and the algorithm, after a
     /// refusal none. Memory is asked for where a nonce is due, and where the message is accepted. Where
@@ -50,16 +55,16 @@ impl LongTermServerAuth {
     ) -> Result<LongTermServerValidation, LongTermServerAuthError>
         ensures valid { IfOk result (λ answer. IsValidated
             (refreshed self.old from now (R.stream rng.old)) from message.now answer self.new) }
+        // Where a hash names the user, no two users may have the same one.
         ensures accepted { (algorithm : Algorithm) (name : List ℕ)
             → Accepts (refreshed self.old from now (R.stream rng.old)) from message.now
-            algorithm name
+            algorithm name → NamesOne self.old (claimed message.now)
             → MatchResult result
             (λ answer. answer ≡ LongTermServerValidation.Validated algorithm)
             (λ error. error ≡ LongTermServerAuthError.NoMemory) }
         // A message that is refused is forgotten.
         ensures refused { IfErr result (λ error. error ≢ LongTermServerAuthError.NoMemory
-            → IsRefused (known_of (refreshed self.old from now (R.stream rng.old)) from message.now)
-            message.now error
+            → Refuses (refreshed self.old from now (R.stream rng.old)) from message.now error
             × (self.new ≡ after_refusal self.old from message.now now (R.stream rng.old))) }
         // Memory is wanted for a nonce that is due, or to keep the user of a message that is accepted.
         ensures memory { IfErr result (λ error. error ≡ LongTermServerAuthError.NoMemory
@@ -87,12 +92,11 @@ impl LongTermServerAuth {
         ensures valid { IfOk result (λ answer.
             IsValidated self.old from message.now answer self.new) }
         ensures refused { IfErr result (λ error. error ≢ LongTermServerAuthError.NoMemory
-            → IsRefused (known_of self.old from message.now) message.now error) }
+            → Refuses self.old from message.now error) }
         ensures forgotten { IfErr result (λ error. error ≢ LongTermServerAuthError.NoMemory
             → self.new ≡ with_outcome self.old from None) }
         ensures memory { IfErr result (λ error. error ≡ LongTermServerAuthError.NoMemory
-            → IsAccepted (known_of self.old from message.now) message.now
-            × (self.new ≡ self.old)) }
+            → AcceptsSome self.old from message.now × (self.new ≡ self.old)) }
         ensures others { (other : SocketAddr) → other ≢ from → SameFor other self.old self.new }
     {
         match self.judge_sender(message, from) {
@@ -111,6 +115,7 @@ impl LongTermServerAuth {
 
     /// The judgement of a message that is no response, by what is kept for its address. It changes
     /// nothing.
+    #[tactic(auto, using(crate::proofs::Named::accepted, crate::proofs::Named::refused, crate::proofs::Named::wanted))]
     fn judge_sender(
         &self,
         message: &Message<'_>,
@@ -120,16 +125,16 @@ impl LongTermServerAuth {
         ensures valid { IfOk result (λ user.
             Accepts self.now from message.now user.algorithm user.name) }
         ensures refused { IfErr result (λ error. error ≢ LongTermServerAuthError.NoMemory
-            → IsRefused (known_of self.now from message.now) message.now error) }
+            → Refuses self.now from message.now error) }
         ensures memory { IfErr result (λ error. error ≡ LongTermServerAuthError.NoMemory
-            → IsAccepted (known_of self.now from message.now) message.now) }
+            → AcceptsSome self.now from message.now) }
     {
         let claim = Claim::of(message);
         let known = Known::new(
             self.realm(),
             self.supported(),
             self.nonce_for_client(from),
-            self.user_named(claim.username()),
+            self.user_claimed(&claim),
         );
         judge_message(self.alloc(), message, &claim, &known)
     }

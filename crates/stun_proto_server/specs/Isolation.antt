@@ -1,0 +1,61 @@
+-- What an address is answered, and what its calls leave, of two servers that it can't tell apart (RFC 8489, section 9.2).
+use Rattle.std.specs.Prelude.{◌≡◌, ◌↔◌, ℕ, List, [], ◌∷◌, Option}
+use Rattle.std.specs.FinMap as map
+use Rattle.std.specs.declared.net.socket_addr.SocketAddr.{SocketAddr}
+use Rattle.rand_core.specs.Stream.{Stream}
+use Rattle.stun_types.specs.IntegrityAlgorithms.{IntegrityAlgorithm}
+use Rattle.stun_types.specs.MessageClasses.{MessageClass}
+use Rattle.stun_proto_auth.specs.SupportedAlgorithms.{with_algorithm}
+use Rattle.stun_proto_auth.specs.declared.feature.Feature.{Feature}
+use Rattle.stun_proto_judge.specs.declared.error.LongTermServerAuthError.{LongTermServerAuthError}
+use Rattle.stun_proto_judge.specs.Knowledge.{Outcome}
+use Rattle.stun_proto_server.specs.Server.{SameFor, Server, nonce_at, outcome_at, refreshed, with_outcome, words_drawn}
+use Rattle.stun_proto_server.specs.ServerSigning.{addition_for}
+use Rattle.stun_proto_server.specs.ServerValidation.{Accepts, Refuses, WantsMemory}
+
+-- an address gets the same from two servers: the nonce and the outcome that are kept for it, how many
+-- words are drawn for it, which messages are accepted and refused, which want memory, and what is
+-- added to a message that goes to it
+pub record AnswersAlike (client : SocketAddr) (a b : Server) : Type 0 where
+  pub nonce : nonce_at b client ≡ nonce_at a client
+  pub outcome : outcome_at b client ≡ outcome_at a client
+  pub drawn : (now : ℕ) → words_drawn b client now ≡ words_drawn a client now
+  pub accepts : (bytes : List ℕ) (algorithm : IntegrityAlgorithm) (name : List ℕ)
+      → Accepts a client bytes algorithm name ↔ Accepts b client bytes algorithm name
+  pub refuses : (bytes : List ℕ) (error : LongTermServerAuthError)
+      → Refuses a client bytes error ↔ Refuses b client bytes error
+  pub wants : (bytes : List ℕ) (now : ℕ) (stream : Stream)
+      → WantsMemory a client bytes now stream ↔ WantsMemory b client bytes now stream
+  pub adds : (class : MessageClass) → addition_for b client class ≡ addition_for a client class
+
+-- what an address does leaves it with two servers that it can't tell apart: a nonce that is due is
+-- drawn, an outcome is kept, the address is forgotten
+pub record LeavesAlike (client : SocketAddr) (a b : Server) : Type 0 where
+  pub refreshes : (now : ℕ) (stream : Stream)
+      → SameFor client (refreshed a client now stream) (refreshed b client now stream)
+  pub keeps : (outcome : Option Outcome)
+      → SameFor client (with_outcome a client outcome) (with_outcome b client outcome)
+  pub forgets : SameFor client (record a { clients = map.remove a.clients client })
+      (record b { clients = map.remove b.clients client })
+
+-- so does what is done to users and settings
+pub record SetsAlike (client : SocketAddr) (a b : Server) : Type 0 where
+  pub user_added : (name password : List ℕ) → SameFor client (record a { users = map.insert a.users name password })
+      (record b { users = map.insert b.users name password })
+  pub user_removed : (name : List ℕ) → SameFor client (record a { users = map.remove a.users name })
+      (record b { users = map.remove b.users name })
+  pub expiry_set : (expiry : ℕ) → SameFor client (record a { nonce_expiry = expiry })
+      (record b { nonce_expiry = expiry })
+  pub algorithm_added : (algorithm : IntegrityAlgorithm)
+      → SameFor client (record a { algorithms = with_algorithm a.algorithms algorithm })
+      (record b { algorithms = with_algorithm b.algorithms algorithm })
+  pub algorithm_set : (algorithm : IntegrityAlgorithm)
+      → SameFor client (record a { algorithms = algorithm ∷ [] }) (record b { algorithms = algorithm ∷ [] })
+  pub anonymity_set : (feature : Feature) → SameFor client (record a { anonymous_username = feature })
+      (record b { anonymous_username = feature })
+
+-- an address can't see what another one does
+pub record LeavesAlone (client other : SocketAddr) (server : Server) : Type 0 where
+  pub refreshes : (now : ℕ) (stream : Stream) → SameFor client server (refreshed server other now stream)
+  pub keeps : (outcome : Option Outcome) → SameFor client server (with_outcome server other outcome)
+  pub forgets : SameFor client server (record server { clients = map.remove server.clients other })

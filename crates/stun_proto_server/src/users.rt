@@ -1,0 +1,40 @@
+//! The users of a server, and how a message names one.
+
+ghost use Rattle.std.specs.Prelude.{◌≡◌, All, Some};
+ghost use Rattle.std.specs.BTreeMap.{get};
+ghost use Rattle.std.specs.List.{find};
+ghost use Rattle.std.specs.Option.{option_map};
+ghost use Rattle.std.specs.String.{string_bytes, string_cmp};
+ghost use Rattle.stun_proto_server.specs.Users.{is_hash_of};
+ghost use Rattle.stun_proto_server.specs.View.{named_of};
+
+use std::collections::BTreeMap;
+use stun_proto_judge::known::NamedUser;
+use stun_types::attribute::Userhash;
+use stun_types::message::LongTermCredentials;
+
+/// The first user of a map whose name has this hash in a realm, where there is one (RFC 8489, section
+/// 14.4).
+pub(crate) fn user_hashed<'a>(
+    users: &'a BTreeMap<String, LongTermCredentials>,
+    realm: &str,
+    hash: &[u8],
+) -> Option<NamedUser<'a>>
+    ensures first { result ≡ option_map named_of
+        (find (λ user. is_hash_of hash.now realm.now (string_bytes user.0)) users.now.entries) }
+    ensures kept { All (λ user. get string_cmp users.now user.0 ≡ Some user.1) users.now.entries }
+{
+    for (name, user) in users {
+        if is_hash_of(hash, realm, name) {
+            return Some(NamedUser::new(name, user.password()));
+        }
+    }
+    None
+}
+
+/// Whether a hash is that of a name in a realm.
+fn is_hash_of(hash: &[u8], realm: &str, name: &str) -> bool
+    ensures { result ≡ is_hash_of hash.now realm.now name.now }
+{
+    hash == Userhash::compute(name, realm).as_slice()
+}
