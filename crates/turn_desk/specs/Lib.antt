@@ -7,6 +7,8 @@ pub use Rattle.turn_desk_grant.specs.Grants
 pub use Rattle.turn_desk_grant.specs.Requests
 pub use Rattle.turn_desk_grant.specs.Verdicts
 pub use Rattle.turn_desk_core.specs.AuthLending
+pub use Rattle.turn_desk_core.specs.DeskIsolation
+pub use Rattle.turn_desk_core.specs.DeskSteps
 pub use Rattle.turn_desk_core.specs.State
 pub use Rattle.turn_desk_core.specs.Steps
 pub use Rattle.turn_desk_replay.specs.Address

@@ -3,6 +3,7 @@
 #![tactic(auto)]
 
 pub use turn_desk_core::desk::Desk;
+pub use turn_desk_core::laws::{desk_steps, desks_answer_alike};
 pub use turn_desk_grant::decision::Decision;
 pub use turn_desk_grant::grant::Grant;
 pub use turn_desk_replay::trace::replay;

@@ -7,10 +7,12 @@ use Rattle.rand_core.specs.Stream.{Stream}
 use Rattle.stun_types.specs.Grammar.{number_at}
 use Rattle.stun_types.specs.MessageReading.{IsReadAs}
 use Rattle.stun_proto.specs.Judgement.{user_key}
-use Rattle.stun_proto_judge.proofs.Judging.{not_both}
-use Rattle.stun_proto.specs.Server.{refreshed}
-use Rattle.stun_proto.specs.ServerValidation.{known_of}
-use Rattle.turn_desk_reply.specs.Replies.{signed_attributes}
+use Rattle.stun_types.specs.MessageClasses.{Success, Error}
+use Rattle.stun_types.specs.Attributes.{kind_at}
+use Rattle.stun_types.specs.Types.{method_of, type_of}
+use Rattle.stun_types.specs.Objections.{error_type}
+use Rattle.turn_desk_reply.specs.Replies.{signed_attributes, success_type}
+use Rattle.turn_desk_grant.proofs.Methods.{by_method}
 use Rattle.turn_desk_grant.specs.declared.decision.Decision.{Decision}
 use Rattle.turn_desk_grant.specs.declared.grant.Grant as granted
 use Rattle.turn_desk_grant.specs.Requests.{IsServed}
@@ -48,11 +50,23 @@ kept_is_granted old new from bytes now stream decision reply g served v more =
       read = subst (λ (kind : ℕ). IsReadAs kind (number_at bytes) (signed_attributes kind (number_at bytes) shows (user_key old.auth.realm v.name v.password v.algorithm) v.algorithm) reply) kept.success v.read;
     }
 
+-- no error response is a success response
+no_success : (bytes : List ℕ) → IsServed bytes → success_type bytes ≡ error_type bytes → ⊥
+no_success bytes served = by_method (λ (m : ℕ). type_of Success m ≡ type_of Error m → ⊥)
+    (record {
+      allocate = λ p. omega (arith, p);
+      refresh = λ p. omega (arith, p);
+      create_permission = λ p. omega (arith, p);
+      channel_bind = λ p. omega (arith, p);
+      connect = λ p. omega (arith, p);
+      connection_bind = λ p. omega (arith, p);
+    }) (method_of (kind_at bytes)) served.method
+
 pub exactly_granted : (old new : State) (from : SocketAddr) (bytes : List ℕ) (now : ℕ) (stream : Stream) (decision : Decision) (reply : List ℕ) (g : granted.Grant) → IsServed bytes → IsAnswer old from bytes now stream decision reply new
     → KeepsMore old new g ↔ IsGranted old from bytes now stream decision reply g
 exactly_granted old new from bytes now stream decision reply g served (inl away) = (
   λ more. absurd (not_one_more old.grants g (sym away.granted ∙ more)),
-  λ is. absurd (not_both (known_of (refreshed old.auth from now stream) from bytes) bytes is.algorithm is.name away.error is.accepts away.judged.refused),
+  λ is. absurd (no_success bytes served (sym is.read.kind ∙ away.read.kind)),
 )
 exactly_granted old new from bytes now stream decision reply g served (inr v) = (
   λ more. kept_is_granted old new from bytes now stream decision reply g served v more,

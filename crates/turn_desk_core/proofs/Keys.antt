@@ -1,5 +1,5 @@
 -- What a validation keeps for its address, and the key that a reply to it is signed under.
-use Rattle.std.specs.Prelude.{◌≡◌, ◌≢◌, ℕ, ◌<◌, slice_index, Bool, true, false, cond, List, [], ◌∷◌, ◌++◌, Option, Some, None, IsSome, IsSomeAnd, if◌then◌else◌, map as map_list}
+use Rattle.std.specs.Prelude.{◌≡◌, ℕ, ◌<◌, slice_index, Bool, true, false, cond, List, [], ◌∷◌, ◌++◌, Option, Some, None, IsSome, IsSomeAnd, if◌then◌else◌, map as map_list}
 use Rattle.std.proofs.Common.{refl, sym, ap, ◌∙◌, subst, inl, inr}
 use Rattle.std.proofs.lemmas.Bool.{cases_Bool}
 use Rattle.std.specs.Ordering.{is_eq}
@@ -14,33 +14,32 @@ use Rattle.stun_types.specs.MessageClasses.{MessageClass, Request, Indication, S
 use Rattle.stun_types.specs.Attributes.{Attr}
 use Rattle.stun_types.specs.Types.{is_response_class}
 use Rattle.stun_types.specs.Drafts.{Draft}
-use Rattle.stun_types.specs.Text.{message_text}
 use Rattle.stun_types.specs.Credentials.{Key}
-use Rattle.stun_types.specs.Signing.{signing_refusal}
+use Rattle.stun_types.specs.Integrity.{Validates}
+use Rattle.stun_types.specs.Signing.{signing_refusal, text_to_sign}
+use Rattle.stun_types.specs.Text.{message_text}
 use Rattle.stun_types.specs.Calls.{Integrity, IsWritten, Ordinary, after_calls}
 use Rattle.stun_types.specs.MessageReading.{IsReadAs}
-use Rattle.stun_types_integrity_laws.proofs.Composed.{composed_read, signed_read, signed_text_of}
+use Rattle.stun_types_integrity_laws.proofs.Composed.{signed_read, signed_text_of}
 use Rattle.stun_proto.specs.Addition.{Addition, parts_refusal}
 use Rattle.stun_proto.specs.AdditionStages.{IsMade}
 use Rattle.stun_proto_sign.proofs.Making.{made_written}
-use Rattle.stun_proto.specs.Judgement.{IsRefused, is_response, user_key}
-use Rattle.stun_proto.specs.Knowledge.{Named, Outcome}
-use Rattle.stun_proto.specs.Claims.{claimed}
+use Rattle.stun_proto.specs.Judgement.{is_response, user_key}
+use Rattle.stun_proto.specs.Knowledge.{Outcome}
 use Rattle.stun_proto.specs.Server.{Client, Server, nonce_at, has_standing_nonce, refreshed, with_outcome, set_outcome}
 use Rattle.stun_proto.specs.ServerSigning.{Party, Signer, addition, addition_by, addition_for, key_in, party_at, party_by_client, party_by_outcome, party_by_password, signing_refusal_for}
-use Rattle.stun_proto.specs.ServerValidation.{IsValidated, after_refusal, known_of, user_at}
+use Rattle.stun_proto.specs.ServerValidation.{IsValidated, after_refusal}
 use Rattle.stun_types.specs.Grammar.{number_at}
-use Rattle.stun_proto.specs.ServerAuthErrors.{LongTermServerAuthError, NoMemory}
 use Rattle.stun_proto.specs.ServerValidations.{LongTermServerValidation, Validated}
-use Rattle.stun_types.specs.Objections.{error_type}
 use Rattle.turn_desk_reply.specs.Replies.{IsReply, signed_attributes, signed_text}
 use Rattle.turn_desk_grant.specs.declared.verdict.Verdict.{Verdict}
 use Rattle.turn_desk_grant.specs.Requests.{IsServed}
 use Rattle.turn_desk_core.specs.State.{State}
-use Rattle.turn_desk_core.specs.Steps.{IsChallenge, IsSignedFor, IsTaken, IsTurnedReply, IsVerdict, key_at, key_of_party, refusal_attributes}
+use Rattle.turn_desk_core.specs.Steps.{IsSignedFor, IsTaken, IsVerdict, key_at, key_of_party}
 use Rattle.turn_desk_grant.specs.Verdicts.{grants_of, reply_attributes, reply_type}
-use Rattle.turn_desk_core.proofs.Numbers.{error_type_fits, number_fits, reply_type_fits}
+use Rattle.turn_desk_core.proofs.Numbers.{number_fits, reply_type_fits}
 use Rattle.turn_desk_core.proofs.Nonces.{refreshed_nonce, refreshed_realm}
+use Rattle.turn_desk_core.proofs.Ordinary.{signed_valid}
 
 -- ---- what is kept
 
@@ -101,30 +100,14 @@ pub record IsKeyOf (old new : Server) (from : SocketAddr) (name : List ℕ) (alg
   pub present : map.get old.users name ≡ Some password
   pub key : key_at new from ≡ Some (record { bytes = user_key old.realm name password algorithm; algorithm = algorithm })
 
--- the user of a name and a password
-abbrev user_by : List ℕ → List ℕ → Named
-user_by name password = record { name = name; password = password }
-
--- the user that is found by a name is there under its own
-found_by : (server : Server) (shown name password : List ℕ) (found : Option (List ℕ)) → map.get server.users shown ≡ found
-    → option_map (user_by shown) found ≡ Some (user_by name password) → map.get server.users name ≡ Some password
-found_by server shown name password None is h = absurd (Prim.cc h)
-found_by server shown name password (Some own) is h =
-    let same : ◌≡◌ {A = Named} (record { name = name; password = password }) (record { name = shown; password = own }) = Prim.cc h in
-    ap (λ (user : Named). map.get server.users user.name) same ∙ is ∙ ap (λ (user : Named). Some user.password) (sym same)
-
-user_found : (server : Server) (shown : Option (List ℕ)) (name password : List ℕ) → user_at server shown ≡ Some (record { name = name; password = password }) → map.get server.users name ≡ Some password
-user_found server None name password h = absurd (Prim.cc h)
-user_found server (Some shown) name password h = found_by server shown name password (map.get server.users shown) refl h
-
 pub taken_key : (old : Server) (from : SocketAddr) (bytes : List ℕ) (now : ℕ) (stream : Stream) (name : List ℕ) (algorithm : IntegrityAlgorithm) (new : Server) → (refreshed old from now stream).realm ≡ old.realm
     → IsTaken old from bytes now stream name algorithm new → IsKeyOf old new from name algorithm
 taken_key old from bytes now stream name algorithm new realm taken =
     let r = refreshed old from now stream in
     let users = refreshed_users old from now stream in
-    let present : map.get r.users name ≡ Some taken.accepts.password = user_found r (claimed bytes).username name taken.accepts.password taken.accepts.present in
-    let kept = kept_outcome r from taken.accepts.nonce (Some (record { name = name; algorithm = algorithm })) taken.accepts.stands in
-    let party = party_kept (with_outcome r from (Some (record { name = name; algorithm = algorithm }))) from taken.accepts.nonce name taken.accepts.password algorithm kept present in
+    let present : map.get r.users name ≡ Some taken.accepts.password = taken.accepts.named.present in
+    let kept = kept_outcome r from taken.accepts.judged.nonce (Some (record { name = name; algorithm = algorithm })) taken.accepts.judged.stands in
+    let party = party_kept (with_outcome r from (Some (record { name = name; algorithm = algorithm }))) from taken.accepts.judged.nonce name taken.accepts.password algorithm kept present in
     record {
       password = taken.accepts.password;
       present = ap (λ u. map.get u name) (sym users) ∙ present;
@@ -178,6 +161,7 @@ signed_by server from (Some key) old new kind number attributes is has made repl
       own = is;
       text = signed_text_of kind number attributes key.algorithm key.bytes new written;
       read = λ k n. signed_read kind number attributes key.algorithm key.bytes new k n reply.lawful written;
+      valid = λ k n. signed_valid kind number attributes key.algorithm key.bytes new k n reply.lawful written;
     }
 
 pub signed_for : (server : Server) (from : SocketAddr) (class : MessageClass) (old new : Draft) (text : List ℕ) → is_response_class class ≡ true → IsSome (key_at server from) → text ≡ new.bytes
@@ -185,18 +169,6 @@ pub signed_for : (server : Server) (from : SocketAddr) (class : MessageClass) (o
 signed_for server from class old new text response has told made kind number attributes reply =
     let own = subst (λ (a : Option Addition). IsSomeAnd a (λ made. IsMade made old new)) (added_for server from class response has) made in
     rw told (signed_by server from (key_at server from) old new kind number attributes refl has own reply)
-
--- a reply that shows the nonce
-pub turned : (server : Server) (from : SocketAddr) (bytes : List ℕ) (error : LongTermServerAuthError) (realm nonce : List ℕ) (draft : Draft) (text : List ℕ) → realm ≡ server.realm → nonce_at server from ≡ Some nonce → text ≡ draft.bytes
-    → IsReply (error_type bytes) (number_at bytes) (refusal_attributes error realm nonce) draft → IsTurnedReply server from bytes error text
-turned server from bytes error realm nonce draft text same kept told reply =
-    let here : IsReply (error_type bytes) (number_at bytes) (refusal_attributes error server.realm nonce) draft = subst (λ (r : List ℕ). IsReply (error_type bytes) (number_at bytes) (refusal_attributes error r nonce) draft) same reply in
-    rw told (record {
-      nonce = nonce;
-      kept = kept;
-      text = here.composed.text;
-      read = λ k n. composed_read (error_type bytes) (number_at bytes) (refusal_attributes error server.realm nonce) draft k n here.lawful here.composed.written;
-    })
 
 -- ---- a validation
 
@@ -238,6 +210,8 @@ answered old new from bytes now stream what after reply are served t signed is =
       text = text;
       read = subst (λ (own : Key). IsReadAs (reply_type bytes what) (number_at bytes) (signed_attributes (reply_type bytes what) (number_at bytes) (reply_attributes bytes from what) own.bytes own.algorithm) reply) same
           (signed.read (reply_type_fits bytes what served) (number_fits bytes are served));
+      valid = subst (λ (own : Key). Validates reply own.bytes own.algorithm (text_to_sign own.algorithm (message_text (reply_type bytes what) (number_at bytes) (reply_attributes bytes from what)))) same
+          (signed.valid (reply_type_fits bytes what served) (number_fits bytes are served));
       granted = ap (λ (s : State). s.grants) is;
     }
   where
@@ -262,22 +236,3 @@ refused_nonce old from now stream new is =
     elim_nonce : (found : Option (List ℕ)) → nonce_at (refreshed old from now stream) from ≡ found → IsSome found → IsSome (nonce_at new from)
     elim_nonce None has some = absurd (Prim.cc some)
     elim_nonce (Some nonce) has some = rw (is, outcome_nonce (refreshed old from now stream) from nonce None has) refl
-
--- the answer to a request that is refused
-pub challenged : (old new : State) (from : SocketAddr) (bytes : List ℕ) (now : ℕ) (stream : Stream) (error : LongTermServerAuthError) (after : Server) (reply : List ℕ) → ((i : ℕ) → slice_index bytes i < 256) → IsServed bytes
-    → error ≢ NoMemory → (error ≢ NoMemory → IsRefused (known_of (refreshed old.auth from now stream) from bytes) bytes error) → (error ≢ NoMemory → after ≡ after_refusal old.auth from bytes now stream)
-    → new ≡ record { auth = after; grants = old.grants } → IsTurnedReply after from bytes error reply
-    → IsChallenge old from bytes now stream reply new
-challenged old new from bytes now stream error after reply are served ample refused left is told =
-    let gone = refusal_after old.auth from bytes now stream after served (left ample) in
-    let same : after.realm ≡ old.auth.realm = ap (λ (s : Server). s.realm) gone ∙ refreshed_realm old.auth from now stream in
-    let auth : new.auth ≡ after = ap (λ (s : State). s.auth) is in
-    record {
-      error = error;
-      judged = record { ample = ample; refused = refused ample; after = auth ∙ gone };
-      nonce = told.nonce;
-      kept = ap (λ (s : Server). nonce_at s from) auth ∙ told.kept;
-      text = told.text ∙ ap (λ (r : List ℕ). message_text (error_type bytes) (number_at bytes) (refusal_attributes error r told.nonce)) same;
-      read = subst (λ (r : List ℕ). IsReadAs (error_type bytes) (number_at bytes) (refusal_attributes error r told.nonce) reply) same (told.read (error_type_fits bytes served) (number_fits bytes are served));
-      granted = ap (λ (s : State). s.grants) is;
-    }

@@ -1,5 +1,9 @@
+pub mod Alike
+pub mod Challenges
 pub mod Grants
 pub mod Keys
 pub mod Nonces
 pub mod Numbers
+pub mod Ordinary
 pub mod Responses
+pub mod StepLaws

@@ -34,3 +34,11 @@ refreshed_realm server from now stream =
       | inl stands ↦ rw stands refl
       | inr stands ↦ rw stands refl
     ]
+
+-- and the algorithms that are supported
+pub refreshed_algorithms : (server : Server) (from : SocketAddr) (now : ℕ) (stream : Stream) → (refreshed server from now stream).algorithms ≡ server.algorithms
+refreshed_algorithms server from now stream =
+    elim (cases_Bool (has_standing_nonce server from now)) [
+      | inl stands ↦ rw stands refl
+      | inr stands ↦ rw stands refl
+    ]

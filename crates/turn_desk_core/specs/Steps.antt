@@ -1,5 +1,6 @@
--- What a desk answers a request, and what that leaves (RFC 8489, section 9.2.4; RFC 8656, sections 7.2 to 12.2).
-use Rattle.std.specs.Prelude.{◌≡◌, ◌≢◌, ◌⊎◌, ◌<◌, ◌^◌, ℕ, List, ◌++◌, Option, Some, None}
+-- What a desk answers a request, and what that leaves (RFC 8489, section 9.2.4; RFC 8656, sections
+-- 7.2 to 12.2).
+use Rattle.std.specs.Prelude.{◌≡◌, ◌≢◌, ◌⊎◌, ◌<◌, ◌≤◌, ◌^◌, ℕ, List, ◌++◌, length, Option, Some, None}
 use Rattle.std.specs.FinMap as map
 use Rattle.std.specs.Option.{option_and_then, option_map}
 use Rattle.std.specs.declared.net.socket_addr.SocketAddr.{SocketAddr}
@@ -10,11 +11,14 @@ use Rattle.stun_types.specs.Grammar.{number_at}
 use Rattle.stun_types.specs.Text.{message_text}
 use Rattle.stun_types.specs.MessageReading.{IsReadAs}
 use Rattle.stun_types.specs.Credentials.{Key}
+use Rattle.stun_types.specs.Integrity.{Validates}
+use Rattle.stun_types.specs.Signing.{text_to_sign}
 use Rattle.stun_proto.specs.ServerAuthErrors.{LongTermServerAuthError, BadRequest, StaleNonce, NoMemory}
-use Rattle.stun_proto.specs.Judgement.{IsRefused, user_key}
+use Rattle.stun_proto.specs.Judgement.{user_key}
 use Rattle.stun_proto.specs.Server.{Server, nonce_at, refreshed, with_outcome}
-use Rattle.stun_proto.specs.ServerSigning.{Party, key_in, party_at}
-use Rattle.stun_proto.specs.ServerValidation.{Accepts, IsAfterNoMemory, known_of}
+use Rattle.stun_proto.specs.Addition.{attrs}
+use Rattle.stun_proto.specs.ServerSigning.{Party, challenge_parts, key_in, party_at}
+use Rattle.stun_proto.specs.ServerValidation.{Accepts, IsAfterNoMemory, Refuses}
 use Rattle.turn_desk_grant.specs.declared.decision.Decision.{Decision}
 use Rattle.turn_desk_grant.specs.declared.grant.Grant as granted
 use Rattle.turn_desk_grant.specs.declared.verdict.Verdict.{Verdict}
@@ -22,7 +26,8 @@ use Rattle.turn_desk_grant.specs.Grants.{IsGrant}
 use Rattle.turn_desk_core.specs.State.{State}
 use Rattle.turn_desk_grant.specs.Verdicts.{grants_of, reply_attributes, reply_type, verdict_on}
 use Rattle.stun_types.specs.Objections.{error_type}
-use Rattle.turn_desk_reply.specs.Replies.{challenge_attributes, failure_attributes, signed_attributes, signed_text, success_type}
+use Rattle.turn_desk_reply.specs.Replies.{failure_attributes, signed_attributes, signed_text, success_type}
+use Rattle.stun_types.specs.Registry.{longest_text, most_algorithms}
 use Rattle.stun_types.specs.Registry.{bad_request_code, stale_nonce_code, unauthorized_code}
 
 -- ---- the key of a party
@@ -36,7 +41,7 @@ abbrev pub key_at : Server → SocketAddr → Option Key
 key_at server from = key_of_party (party_at server from)
 
 -- the text is that of a reply to an address, signed under the key of the user as whom its last
--- message was validated, and is read as that
+-- message was validated; it is read as that, and validates under that key
 pub record IsSignedFor (server : Server) (from : SocketAddr) (kind number : ℕ) (attributes : List Attr)
     (reply : List ℕ) : Type 0 where
   pub key : Key
@@ -44,21 +49,43 @@ pub record IsSignedFor (server : Server) (from : SocketAddr) (kind number : ℕ)
   pub text : reply ≡ signed_text kind number attributes key.bytes key.algorithm
   pub read : kind < 2 ^ 14 → number < 2 ^ 96
       → IsReadAs kind number (signed_attributes kind number attributes key.bytes key.algorithm) reply
+  pub valid : kind < 2 ^ 14 → number < 2 ^ 96
+      → Validates reply key.bytes key.algorithm (text_to_sign key.algorithm (message_text kind number attributes))
 
--- what the answer to a request shows that is refused: ERROR-CODE alone to one that is malformed, else a challenge
-abbrev pub refusal_attributes : LongTermServerAuthError → List ℕ → List ℕ → List Attr
-refusal_attributes BadRequest realm nonce = failure_attributes bad_request_code
-refusal_attributes StaleNonce realm nonce = challenge_attributes stale_nonce_code realm nonce
-refusal_attributes _ realm nonce = challenge_attributes unauthorized_code realm nonce
+-- ---- what is shown to a party that was not validated
 
--- a reply to a request that was turned away, which shows the nonce that is kept for the address
-pub record IsTurnedReply (server : Server) (from : SocketAddr) (bytes : List ℕ) (error : LongTermServerAuthError)
+-- such a party as a server knows it, by the nonce that is kept for it
+abbrev pub unvalidated_party : Server → List ℕ → Party
+unvalidated_party server nonce =
+    record { realm = server.realm; nonce = nonce; algorithms = server.algorithms; user = None }
+
+-- what a challenge shows: ERROR-CODE, and what a server adds: REALM, NONCE, and where the nonce
+-- says so PASSWORD-ALGORITHMS
+abbrev pub challenge_attributes : ℕ → Party → List Attr
+challenge_attributes code party = failure_attributes code ++ attrs (challenge_parts party)
+
+-- what the answer to a refused request shows: ERROR-CODE alone where it is malformed, else what a
+-- challenge shows
+abbrev pub refusal_attributes : LongTermServerAuthError → Party → List Attr
+refusal_attributes BadRequest party = failure_attributes bad_request_code
+refusal_attributes StaleNonce party = challenge_attributes stale_nonce_code party
+refusal_attributes _ party = challenge_attributes unauthorized_code party
+
+-- a reply to a request that was turned away, which shows this of the party at the address, by the
+-- nonce that is kept for it
+pub record IsTurnedReply (server : Server) (from : SocketAddr) (bytes : List ℕ) (shows : Party → List Attr)
     (reply : List ℕ) : Type 0 where
   pub nonce : List ℕ
   pub kept : nonce_at server from ≡ Some nonce
-  pub text : reply ≡ message_text (error_type bytes) (number_at bytes) (refusal_attributes error server.realm nonce)
+  pub text : reply ≡ message_text (error_type bytes) (number_at bytes) (shows (unvalidated_party server nonce))
   pub read : error_type bytes < 2 ^ 14 → number_at bytes < 2 ^ 96
-      → IsReadAs (error_type bytes) (number_at bytes) (refusal_attributes error server.realm nonce) reply
+      → IsReadAs (error_type bytes) (number_at bytes) (shows (unvalidated_party server nonce)) reply
+
+-- what a server adds for a party has room in its attributes
+pub record FitsChallenge (party : Party) : Type 0 where
+  pub realm : length party.realm ≤ longest_text
+  pub nonce : length party.nonce ≤ longest_text
+  pub algorithms : length party.algorithms ≤ most_algorithms
 
 -- ---- validation
 
@@ -66,10 +93,11 @@ pub record IsTurnedReply (server : Server) (from : SocketAddr) (bytes : List ℕ
 pub record IsTurnedAway (old : Server) (from : SocketAddr) (bytes : List ℕ) (now : ℕ) (stream : Stream)
     (error : LongTermServerAuthError) (new : Server) : Type 0 where
   pub ample : error ≢ NoMemory
-  pub refused : IsRefused (known_of (refreshed old from now stream) from bytes) bytes error
+  pub refused : Refuses (refreshed old from now stream) from bytes error
   pub after : new ≡ with_outcome (refreshed old from now stream) from None
 
--- the authenticator accepts the request as that of a user, by an algorithm, and keeps that for its address
+-- the authenticator accepts the request as that of a user, by an algorithm, and keeps that for its
+-- address
 pub record IsTaken (old : Server) (from : SocketAddr) (bytes : List ℕ) (now : ℕ) (stream : Stream) (name : List ℕ)
     (algorithm : IntegrityAlgorithm) (new : Server) : Type 0 where
   pub accepts : Accepts (refreshed old from now stream) from bytes algorithm name
@@ -78,19 +106,23 @@ pub record IsTaken (old : Server) (from : SocketAddr) (bytes : List ℕ) (now : 
 
 -- ---- answers
 
--- a request that is refused is answered with an error response that shows the nonce which now
--- stands for its address, and nothing is granted
+-- a request that is refused is answered with an error response: to one that is malformed with 400
+-- alone, else with 401 or 438, the realm, the nonce which now stands for its address, and the list
+-- of the algorithms that are supported, where that nonce says that there is one; nothing is granted
 pub record IsChallenge (old : State) (from : SocketAddr) (bytes : List ℕ) (now : ℕ) (stream : Stream) (reply : List ℕ)
     (new : State) : Type 0 where
   pub error : LongTermServerAuthError
   pub judged : IsTurnedAway old.auth from bytes now stream error new.auth
   pub nonce : List ℕ
   pub kept : nonce_at new.auth from ≡ Some nonce
-  pub text : reply ≡ message_text (error_type bytes) (number_at bytes) (refusal_attributes error old.auth.realm nonce)
-  pub read : IsReadAs (error_type bytes) (number_at bytes) (refusal_attributes error old.auth.realm nonce) reply
+  pub text : reply ≡ message_text (error_type bytes) (number_at bytes)
+      (refusal_attributes error (unvalidated_party old.auth nonce))
+  pub read : IsReadAs (error_type bytes) (number_at bytes)
+      (refusal_attributes error (unvalidated_party old.auth nonce)) reply
   pub granted : new.grants ≡ old.grants
 
--- a request of a user is answered by the verdict, under the key that validated it, and what the verdict grants is kept
+-- a request of a user is answered by the verdict, under the key that validated it, and what the
+-- verdict grants is kept
 pub record IsVerdict (old : State) (from : SocketAddr) (bytes : List ℕ) (now : ℕ) (stream : Stream) (what : Verdict)
     (reply : List ℕ) (new : State) : Type 0 where
   pub name : List ℕ
@@ -103,6 +135,9 @@ pub record IsVerdict (old : State) (from : SocketAddr) (bytes : List ℕ) (now :
   pub read : IsReadAs (reply_type bytes what) (number_at bytes)
       (signed_attributes (reply_type bytes what) (number_at bytes) (reply_attributes bytes from what)
       (user_key old.auth.realm name password algorithm) algorithm) reply
+  pub valid : Validates reply (user_key old.auth.realm name password algorithm) algorithm
+      (text_to_sign algorithm (message_text (reply_type bytes what) (number_at bytes)
+      (reply_attributes bytes from what)))
   pub granted : new.grants ≡ old.grants ++ grants_of bytes from what
 
 -- a request that is served is answered, by what the driver decided

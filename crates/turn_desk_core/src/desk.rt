@@ -1,6 +1,6 @@
 //! The desk: requests in, replies out.
 
-ghost use Rattle.std.specs.Prelude.{◌≡◌, ◌≢◌, ◌↔◌, ◌≤◌, ◌++◌, ◌∷◌, IfOk, OnErr, IsSome, None, MatchOption, MatchResult, [], ℕ, List, length, true};
+ghost use Rattle.std.specs.Prelude.{◌≡◌, ◌≢◌, ◌↔◌, ◌≤◌, ◌++◌, ◌∷◌, IfOk, OnErr, IsSome, None, Some, MatchOption, MatchResult, [], ℕ, List, true};
 ghost use Rattle.std.specs.Borrow.{sem};
 ghost use Rattle.std.specs.declared.net.socket_addr.SocketAddr.{SocketAddr};
 ghost use Rattle.stun_types.specs.GeneratorWords.{stream_after};
@@ -10,15 +10,14 @@ ghost use Rattle.stun_types.specs.IntegrityAlgorithms.{IntegrityAlgorithm};
 ghost use Rattle.stun_types.specs.Adding.{IsBegun};
 ghost use Rattle.stun_types.specs.Lent.{own_draft};
 ghost use Rattle.stun_types.specs.Signing.{signing_refusal};
-ghost use Rattle.stun_types.specs.Registry.{longest_text};
+ghost use Rattle.stun_types.specs.Registry.{greatest_code, least_code};
 ghost use Rattle.stun_proto.specs.Judgement.{is_response};
-ghost use Rattle.stun_proto.specs.Server.{SameFor, nonce_at, words_drawn};
-ghost use Rattle.stun_types.specs.Objections.{error_type};
+ghost use Rattle.stun_proto.specs.Server.{SameFor, nonce_at, outcome_at, words_drawn};
 ghost use Rattle.turn_desk_reply.specs.Replies.{IsReply};
 ghost use Rattle.turn_desk_grant.specs.declared.grant.Grant.{Grant as Granted};
 ghost use Rattle.turn_desk_core.specs.AuthLending.{LendsAuth};
 ghost use Rattle.turn_desk_grant.specs.Requests.{IsServed};
-ghost use Rattle.turn_desk_core.specs.Steps.{IsAnswer, IsAuthAfter, IsGranted, IsSignedFor, IsTurnedReply, key_at, refusal_attributes};
+ghost use Rattle.turn_desk_core.specs.Steps.{FitsChallenge, IsAnswer, IsAuthAfter, IsGranted, IsSignedFor, IsTurnedReply, challenge_attributes, key_at, refusal_attributes, unvalidated_party};
 ghost use Rattle.turn_desk_grant.specs.Verdicts.{grants_of, reply_attributes, reply_type, verdict_on};
 
 use rand_core::Rng;
@@ -35,7 +34,7 @@ use turn_desk_grant::grant::Grant;
 use turn_desk_grant::reply::{granted_to, reply_to};
 use turn_desk_grant::request::is_served;
 use turn_desk_grant::verdict::verdict_on;
-use turn_desk_reply::failure::{challenge, failure};
+use turn_desk_reply::failure::failure;
 
 /// A small server core. Contracts see its authenticator and what it granted.
 #[derive(Debug, Drop)]
@@ -91,9 +90,10 @@ impl Desk {
     /// and CONNECTION_BIND. To bytes that are no message, and to other classes and methods, the answer
     /// is `None`, and nothing changes. A request is validated first (RFC 8489, section 9.2.4). Where it
     /// shows no integrity attribute, names no user, or its digest is wrong, the reply is a challenge: an
-    /// error response with its number that shows ERROR-CODE 401, REALM and NONCE. Where its nonce is not
-    /// the one that stands for its address, the challenge has 438. Where it lacks what validation needs,
-    /// the reply is an error response that shows ERROR-CODE 400 alone.
+    /// error response with its number that shows ERROR-CODE 401, REALM and NONCE, and PASSWORD-ALGORITHMS
+    /// where the nonce says that there is a list. Where its nonce is not the one that stands for its
+    /// address, the challenge has 438. Where it lacks what validation needs, the reply is an error
+    /// response that shows ERROR-CODE 400 alone.
     ///
     /// A request that is validated as a user's gets a signed reply, under the key that validated it. It
     /// is an error response with 400 where what the method needs is missing: an ALLOCATE needs a
@@ -170,8 +170,8 @@ impl Desk {
         }
     }
 
-    /// The reply to a request that was refused: an error response with 400 to a malformed one, else a
-    /// challenge. A nonce is kept for its address. Where memory is refused, `NoMemory`.
+    /// The reply to a request that was refused: an error response with 400 alone to a malformed one, else
+    /// a challenge. A nonce is kept for its address, and no user. Where memory is refused, `NoMemory`.
     fn turn_away(
         &self,
         request: &Message,
@@ -180,12 +180,49 @@ impl Desk {
     ) -> Result<Vec<u8>, NoMemory>
         requires request { IsServed request.now }
         requires nonce { IsSome (nonce_at self.now.auth from) }
-        ensures { IfOk result (λ reply.
-            IsTurnedReply self.now.auth from request.now error reply.items) }
+        requires unvalidated { outcome_at self.now.auth from ≡ None }
+        ensures { IfOk result (λ reply. IsTurnedReply self.now.auth from request.now
+            (refusal_attributes error) reply.items) }
     {
-        let nonce = self.auth.nonce_for_client(from).unwrap();
-        let reply = refusal(self.alloc, request, error, self.auth.realm(), nonce)?;
-        Ok(reply.finish())
+        match error {
+            LongTermServerAuthError::BadRequest => {
+                let reply = failure(self.alloc, request, ErrorCode::BAD_REQUEST)?;
+                Ok(reply.finish())
+            }
+            LongTermServerAuthError::StaleNonce => {
+                self.challenge(request, from, ErrorCode::STALE_NONCE)
+            }
+            _ => self.challenge(request, from, ErrorCode::UNAUTHORIZED),
+        }
+    }
+
+    /// The error response with this code to a request, and what the authenticator adds to it for an
+    /// address for which a nonce is kept, and no user: REALM, NONCE, and PASSWORD-ALGORITHMS where that
+    /// nonce says that there is a list (RFC 8489, section 9.2.4). Where memory is refused, `NoMemory`.
+    fn challenge(&self, request: &Message, from: SocketAddr, code: u16) -> Result<Vec<u8>, NoMemory>
+        requires request { IsServed request.now }
+        requires least { least_code ≤ code }
+        requires most { code ≤ greatest_code }
+        requires nonce { IsSome (nonce_at self.now.auth from) }
+        requires unvalidated { outcome_at self.now.auth from ≡ None }
+        ensures { IfOk result (λ reply. IsTurnedReply self.now.auth from request.now
+            (challenge_attributes code) reply.items) }
+    {
+        self.has_room(from);
+        let reply = failure(self.alloc, request, code)?;
+        let challenge = self.auth.sign_outgoing_message_unchecked(reply, from)?;
+        Ok(challenge.finish())
+    }
+
+    /// What a challenge shows of the server fits into its attributes: the realm and the nonce are short,
+    /// and there are few algorithms. Nothing is done.
+    fn has_room(&self, from: SocketAddr)
+        ensures { (nonce : List ℕ) → nonce_at self.now.auth from ≡ Some nonce
+            → FitsChallenge (unvalidated_party self.now.auth nonce) }
+    {
+        let _ = self.auth.realm();
+        let _ = self.auth.nonce_for_client(from);
+        let _ = self.auth.supported_integrity();
     }
 
     /// The signed reply to a request that was validated, and what is granted by it. Where memory is
@@ -232,29 +269,5 @@ impl Desk {
     {
         let signed = self.auth.sign_outgoing_message_unchecked(reply, from)?;
         Ok(signed.finish())
-    }
-}
-
-/// The error response to a request that was refused, of a server's realm, with the nonce that is kept
-/// for the address. A server's realm and nonces are short. Where memory is refused, `NoMemory`.
-fn refusal(
-    alloc: Global,
-    request: &Message,
-    error: LongTermServerAuthError,
-    realm: &str,
-    nonce: &str,
-) -> Result<MessageWriteVec, NoMemory>
-    requires request { IsServed request.now }
-    requires realm { length realm.now ≤ longest_text }
-    requires nonce { length nonce.now ≤ longest_text }
-    ensures { IfOk result (λ reply. IsReply (error_type request.now) (number_at request.now)
-        (refusal_attributes error realm.now nonce.now) (own_draft reply)) }
-{
-    match error {
-        LongTermServerAuthError::BadRequest => failure(alloc, request, ErrorCode::BAD_REQUEST),
-        LongTermServerAuthError::StaleNonce => {
-            challenge(alloc, request, ErrorCode::STALE_NONCE, realm, nonce)
-        }
-        _ => challenge(alloc, request, ErrorCode::UNAUTHORIZED, realm, nonce),
     }
 }

@@ -3,3 +3,4 @@
 #![tactic(auto)]
 
 pub mod desk;
+pub mod laws;

@@ -81,13 +81,6 @@ error_room kind number code a old reply new begun is =
     let size : attr_size (error_attribute code) ≤ 4096 = omega (arith, reason) in
     room_left kind number [] old reply (attr_size a) new begun (none-length kind number) (rw is size)
 
--- for REALM, or for NONCE, behind what the whole of a short message has before it
-pub text_room : (kind number type : ℕ) (before after : List Attr) (text value : List ℕ) (reply : Draft) → IsComposed kind number before (empty [] None) reply → length (message_text kind number (before ++ after)) ≤ 4096 → value ≡ text → length text ≤ longest_text
-    → add_refusal reply (attr_size (attr_of type value)) ≡ None
-text_room kind number type before after text value reply composed short is fits =
-    let size : attr_size (attr_of type text) ≤ 4096 = omega (arith, fits) in
-    room_left kind number before (empty [] None) reply (attr_size (attr_of type value)) refl composed (prefix-length kind number before after short) (rw is size)
-
 -- for XOR-RELAYED-ADDRESS, of the same number
 pub relayed_room : (kind number own : ℕ) (before : List Attr) (old reply : Draft) → old ≡ empty [] None → IsComposed kind number before old reply → length (message_text kind number before) ≤ 4096 → (addr : SocketAddr)
     → add_refusal reply (attr_size (relayed_attribute own addr)) ≡ None

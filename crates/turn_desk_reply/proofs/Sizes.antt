@@ -15,10 +15,10 @@ use Rattle.stun_types_build.proofs.Adds.{length-attribute_text}
 use Rattle.stun_types.specs.Addresses.{address_value}
 use Rattle.stun_types.specs.Xor.{xor_bytes, xored, octets_mask}
 use Rattle.stun_types.specs.ErrorCodes.{CodeAndOther, reason_for, reason_of}
-use Rattle.stun_types.specs.Registry.{longest_text, nonce_kind, realm_kind, xor_mapped_address_kind}
+use Rattle.stun_types.specs.Registry.{longest_text, xor_mapped_address_kind}
 use Rattle.stun_types.specs.Signing.{order_refusal, signing_refusal}
 use Rattle.stun_types.specs.Objections.{error_attribute}
-use Rattle.turn_desk_reply.specs.Replies.{IsReply, allocated_attributes, challenge_attributes, failure_attributes, relayed_attribute}
+use Rattle.turn_desk_reply.specs.Replies.{IsReply, allocated_attributes, failure_attributes, relayed_attribute}
 use Rattle.turn_types.specs.TurnRegistry.{lifetime_kind}
 
 -- an xor is no longer than what it is made with
@@ -129,18 +129,6 @@ failure-length kind number code =
     let none = no_body in
     omega (arith, text, body, none, reason)
 
-pub challenge-length : (kind number code : ℕ) (realm nonce : List ℕ) → length realm ≤ longest_text → length nonce ≤ longest_text → length (message_text kind number (challenge_attributes code realm nonce)) ≤ 4096
-challenge-length kind number code realm nonce r m =
-    let reason = reason-short code in
-    let a : Attr = record { kind = realm_kind; value = realm } in
-    let b : Attr = record { kind = nonce_kind; value = nonce } in
-    let text = text-length kind number (challenge_attributes code realm nonce) in
-    let s1 = body-length (a ∷ b ∷ []) (error_attribute code) in
-    let s2 = body-length (b ∷ []) a in
-    let s3 = body-length [] b in
-    let s4 = no_body in
-    omega (arith, text, s1, s2, s3, s4, reason, r, m)
-
 -- ---- ordinary attributes
 
 error_ordinary : (code : ℕ) → IsOrdinary (error_attribute code)
@@ -172,12 +160,6 @@ reply_of kind number attributes old reply new composed lawful short = record {
 
 pub failure_reply : (kind number code : ℕ) (old reply : Draft) → old ≡ empty [] None → IsComposed kind number (failure_attributes code) old reply → IsReply kind number (failure_attributes code) reply
 failure_reply kind number code old reply new composed = reply_of kind number (failure_attributes code) old reply new composed (error_ordinary code, tt) (failure-length kind number code)
-
-pub challenge_reply : (kind number code : ℕ) (realm nonce : List ℕ) (reply : Draft) → length realm ≤ longest_text → length nonce ≤ longest_text → IsComposed kind number (challenge_attributes code realm nonce) (empty [] None) reply → IsReply kind number (challenge_attributes code realm nonce) reply
-challenge_reply kind number code realm nonce reply r m composed =
-    reply_of kind number (challenge_attributes code realm nonce) (empty [] None) reply refl composed
-    (error_ordinary code, (record { fits = record { kind = omega arith; value = omega (arith, r) }; ordinary = refl }, (record { fits = record { kind = omega arith; value = omega (arith, m) }; ordinary = refl }, tt)))
-    (challenge-length kind number code realm nonce r m)
 
 pub allocated_reply : (kind number lifetime : ℕ) (from : SocketAddr) (relayed : List SocketAddr) (old reply : Draft) → old ≡ empty [] None → length relayed ≤ 2 → IsComposed kind number (allocated_attributes number relayed lifetime from) old reply → IsReply kind number (allocated_attributes number relayed lifetime from) reply
 allocated_reply kind number lifetime from relayed old reply new few composed = reply_of kind number (allocated_attributes number relayed lifetime from) old reply new composed (allocated_ordinary number lifetime from relayed few) (allocated-length kind number lifetime from relayed few)

@@ -1,4 +1,5 @@
--- What a desk's replies show, before they are signed (RFC 8489, section 9.2.4; RFC 8656, section 7.3).
+-- What a desk's replies show, before its authenticator adds to them (RFC 8489, section 6.3.4; RFC 8656,
+-- section 7.3).
 use Rattle.std.specs.Prelude.{◌≡◌, ℕ, List, [], ◌∷◌, ◌++◌, map, None}
 use Rattle.std.specs.List.{AllByRecursion}
 use Rattle.std.specs.declared.net.socket_addr.SocketAddr.{SocketAddr}
@@ -15,7 +16,7 @@ use Rattle.stun_types.specs.Xor.{xored}
 use Rattle.stun_types.specs.Objections.{error_attribute}
 use Rattle.stun_types.specs.Signing.{signature, signing_refusal}
 use Rattle.turn_types.specs.TurnRegistry.{lifetime_kind, xor_relayed_address_kind}
-use Rattle.stun_types.specs.Registry.{nonce_kind, realm_kind, xor_mapped_address_kind}
+use Rattle.stun_types.specs.Registry.{xor_mapped_address_kind}
 
 -- the type of the success response to a request
 abbrev pub success_type : List ℕ → ℕ
@@ -24,14 +25,6 @@ success_type request = type_of Success (method_of (kind_at request))
 -- what an error response shows: ERROR-CODE
 abbrev pub failure_attributes : ℕ → List Attr
 failure_attributes code = error_attribute code ∷ []
-
--- what a challenge shows: ERROR-CODE, REALM, NONCE
-abbrev pub challenge_attributes : ℕ → List ℕ → List ℕ → List Attr
-challenge_attributes code realm nonce =
-    error_attribute code
-    ∷ record { kind = realm_kind; value = realm }
-    ∷ record { kind = nonce_kind; value = nonce }
-    ∷ []
 
 -- XOR-RELAYED-ADDRESS of an address, in a message of this number
 abbrev pub relayed_attribute : ℕ → SocketAddr → Attr

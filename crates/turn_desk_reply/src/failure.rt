@@ -1,22 +1,23 @@
 //! Error responses (RFC 8489, section 6.3.4).
 
-ghost use Rattle.std.specs.Prelude.{◌≡◌, ◌≤◌, IfOk, IfErr, length};
+ghost use Rattle.std.specs.Prelude.{◌≡◌, ◌≤◌, IfOk, IfErr};
 ghost use Rattle.stun_types.specs.Attributes.{kind_at};
 ghost use Rattle.stun_types.specs.Types.{class_of};
 ghost use Rattle.stun_types.specs.Grammar.{number_at};
 ghost use Rattle.stun_types.specs.MessageClasses.{Request};
-ghost use Rattle.stun_types.specs.Registry.{longest_text, greatest_code, least_code};
+ghost use Rattle.stun_types.specs.Registry.{greatest_code, least_code};
 ghost use Rattle.stun_types.specs.Lent.{own_draft};
 ghost use Rattle.stun_types.specs.Objections.{error_type};
-ghost use Rattle.turn_desk_reply.specs.Replies.{IsReply, challenge_attributes, failure_attributes};
+ghost use Rattle.turn_desk_reply.specs.Replies.{IsReply, failure_attributes};
 
 use std::alloc::Global;
 use stun_types::NoMemory;
-use stun_types::attribute::{ErrorCode, Nonce, Realm};
+use stun_types::attribute::ErrorCode;
 use stun_types::message::{Message, MessageWriteVec, StunWriteError, add_as};
 
 /// The error response to a request that shows the code, with the reason that goes with it, and
-/// nothing else. Where memory is refused, `NoMemory`.
+/// nothing else. What makes a challenge of it is for the server's authenticator to add. Where memory
+/// is refused, `NoMemory`.
 pub fn failure(alloc: Global, request: &Message, code: u16) -> Result<MessageWriteVec, NoMemory>
     requires request { class_of (kind_at request.now) ≡ Request }
     requires least { least_code ≤ code }
@@ -25,31 +26,6 @@ pub fn failure(alloc: Global, request: &Message, code: u16) -> Result<MessageWri
         (failure_attributes code) (own_draft reply)) }
 {
     match write_failure(alloc, request, code) {
-        Ok(reply) => Ok(reply),
-        Err(StunWriteError::NoMemory) => Err(NoMemory),
-        Err(_) => unreachable!(),
-    }
-}
-
-/// The error response to a request that shows the code, REALM and NONCE: a challenge (RFC 8489,
-/// section 9.2.4). The realm and the nonce have at most 763 bytes each, as those of a server have.
-/// Where memory is refused, `NoMemory`.
-pub fn challenge(
-    alloc: Global,
-    request: &Message,
-    code: u16,
-    realm: &str,
-    nonce: &str,
-) -> Result<MessageWriteVec, NoMemory>
-    requires request { class_of (kind_at request.now) ≡ Request }
-    requires least { least_code ≤ code }
-    requires most { code ≤ greatest_code }
-    requires realm { length realm.now ≤ longest_text }
-    requires nonce { length nonce.now ≤ longest_text }
-    ensures { IfOk result (λ reply. IsReply (error_type request.now) (number_at request.now)
-        (challenge_attributes code realm.now nonce.now) (own_draft reply)) }
-{
-    match write_challenge(alloc, request, code, realm, nonce) {
         Ok(reply) => Ok(reply),
         Err(StunWriteError::NoMemory) => Err(NoMemory),
         Err(_) => unreachable!(),
@@ -72,30 +48,5 @@ fn write_failure(
     let code = ErrorCode::builder(code).build(alloc)?;
     let mut reply = Message::builder_error(request, MessageWriteVec::new(alloc))?;
     add_as(&mut reply, &code, &code)?;
-    Ok(reply)
-}
-
-/// `challenge`, with the writer's error, which is want of memory alone.
-fn write_challenge(
-    alloc: Global,
-    request: &Message,
-    code: u16,
-    realm: &str,
-    nonce: &str,
-) -> Result<MessageWriteVec, StunWriteError>
-    requires request { class_of (kind_at request.now) ≡ Request }
-    requires least { least_code ≤ code }
-    requires most { code ≤ greatest_code }
-    requires realm { length realm.now ≤ longest_text }
-    requires nonce { length nonce.now ≤ longest_text }
-    ensures reply { IfOk result (λ reply. IsReply (error_type request.now) (number_at request.now)
-        (challenge_attributes code realm.now nonce.now) (own_draft reply)) }
-    ensures memory { IfErr result (λ error. error ≡ StunWriteError.NoMemory) }
-{
-    let realm = Realm::new(alloc, realm)?;
-    let nonce = Nonce::new(alloc, nonce)?;
-    let mut reply = write_failure(alloc, request, code)?;
-    add_as(&mut reply, &realm, &realm)?;
-    add_as(&mut reply, &nonce, &nonce)?;
     Ok(reply)
 }

@@ -6,10 +6,11 @@ use Rattle.stun_proto.specs.ServerAuthErrors.{NoMemory}
 use Rattle.stun_proto.specs.Server.{SameFor}
 use Rattle.turn_desk_grant.specs.Requests.{IsServed}
 use Rattle.turn_desk_core.specs.State.{State}
-use Rattle.turn_desk_core.specs.Steps.{IsAnswer, IsAuthAfter}
+use Rattle.turn_desk_core.specs.Steps.{IsAnswer, IsAuthAfter, IsTurnedAway}
 use Rattle.turn_desk_grant.specs.Verdicts.{verdict_on}
+use Rattle.turn_desk_core.proofs.Challenges.{challenged, refused_outcome}
 use Rattle.turn_desk_core.proofs.Grants.{exactly_granted}
-use Rattle.turn_desk_core.proofs.Keys.{answered, challenged, refusal_after, refused_nonce, takes, takes_key}
+use Rattle.turn_desk_core.proofs.Keys.{answered, refusal_after, refused_nonce, takes, takes_key}
 use Rattle.turn_desk_core.proofs.desk.Desk.handle.Goals as goal
 
 -- what a call leaves where memory is refused
@@ -32,10 +33,11 @@ turn_away-requires g c =
     let stream = g.R.Rng.stream c.args.rng.now in
     let served : IsServed c.in-Ok.request = search rules in
     let ample : c.in-Err.error ≢ NoMemory = search rules in
+    let left = refusal_after c.self.inside.auth c.args.from c.in-Ok.request c.args.now stream c.validate_incoming_message.new.self served (c.in-Err.ensures.refused ample).1 in
     record {
       request = served;
-      nonce = refused_nonce c.self.inside.auth c.args.from c.args.now stream c.validate_incoming_message.new.self
-          (refusal_after c.self.inside.auth c.args.from c.in-Ok.request c.args.now stream c.validate_incoming_message.new.self served (c.in-Err.ensures.refused ample).1);
+      nonce = refused_nonce c.self.inside.auth c.args.from c.args.now stream c.validate_incoming_message.new.self left;
+      unvalidated = refused_outcome c.self.inside.auth c.args.from c.args.now stream c.validate_incoming_message.new.self left;
     }
 
 pub returns-in_ok-reply-in-Ok-validate_incoming_message-clause-answer : goal.returns-in_ok-reply-in-Ok-validate_incoming_message-clause-answer
@@ -67,9 +69,13 @@ returns-in_ok-reply-in-Err g c =
     let served : IsServed c.in-Ok.request = search rules in
     let ample : c.in-Err.error ≢ NoMemory = search rules in
     let are : (i : ℕ) → slice_index c.in-Ok.request i < 256 = subst (λ (b : List ℕ). (i : ℕ) → slice_index b i < 256) (sym c.in-Ok.ensures.0) (λ i. omega (arith, c.type_inv.bytes i)) in
+    let away : IsTurnedAway old.auth c.args.from c.in-Ok.request c.args.now stream c.in-Err.error new.auth = record {
+      ample = ample;
+      refused = (c.in-Err.ensures.refused ample).0;
+      after = refusal_after c.self.inside.auth c.args.from c.in-Ok.request c.args.now stream c.validate_incoming_message.new.self served (c.in-Err.ensures.refused ample).1;
+    } in
     let here : IsAnswer old c.args.from c.in-Ok.request c.args.now stream c.args.decision.now reply new =
-    inl (challenged old new c.args.from c.in-Ok.request c.args.now stream c.in-Err.error c.validate_incoming_message.new.self reply are served ample
-    (λ a. (c.in-Err.ensures.refused a).0) (λ a. (c.in-Err.ensures.refused a).1) refl c.in_ok-reply-in-Err.ensures) in
+    inl (challenged old new c.args.from c.in-Ok.request c.args.now stream c.in-Err.error reply are served away refl c.in_ok-reply-in-Err.ensures) in
     let there : IsAnswer c.args.self.now c.args.from c.args.bytes.now c.args.now stream c.args.decision.now reply new =
     subst (λ (s : State). IsAnswer s c.args.from c.args.bytes.now c.args.now stream c.args.decision.now reply new) c.self.view_is
     (subst (λ (b : List ℕ). IsAnswer old c.args.from b c.args.now stream c.args.decision.now reply new) c.in-Ok.ensures.0 here) in
@@ -83,14 +89,30 @@ returns-in_ok-reply-in-Err g c =
     }
 
 pub returns-in_err-reply-in-Err : goal.returns-in_err-reply-in-Err
-returns-in_err-reply-in-Err g c = record {
-  none = search rules;
-  answer = search rules;
-  grants = search rules;
-  memory = search rules;
-  stream = search rules;
-  others = λ other different. subst (λ (s : State). SameFor other s.auth c.validate_incoming_message.new.self) c.self.view_is (c.validate_incoming_message.ensures.others other different);
-}
+returns-in_err-reply-in-Err g c =
+    let stream = g.R.Rng.stream c.args.rng.now in
+    let old : State = record { auth = c.self.inside.auth; grants = c.self.inside.grants } in
+    let after = c.validate_incoming_message.new.self in
+    let new : State = record { auth = after; grants = c.self.inside.grants } in
+    let served : IsServed c.in-Ok.request = search rules in
+    let ample : c.in-Err.error ≢ NoMemory = search rules in
+    let away : IsTurnedAway c.self.inside.auth c.args.from c.in-Ok.request c.args.now stream c.in-Err.error after = record {
+      ample = ample;
+      refused = (c.in-Err.ensures.refused ample).0;
+      after = refusal_after c.self.inside.auth c.args.from c.in-Ok.request c.args.now stream after served (c.in-Err.ensures.refused ample).1;
+    } in
+    let here : OutOfMemory old c.args.from c.in-Ok.request c.args.now stream new = (served, refl, inr (inl (c.in-Err.error, away))) in
+    let named : OutOfMemory c.args.self.now c.args.from c.args.bytes.now c.args.now stream new =
+    subst (λ (s : State). OutOfMemory s c.args.from c.args.bytes.now c.args.now stream new) c.self.view_is
+    (subst (λ (b : List ℕ). OutOfMemory old c.args.from b c.args.now stream new) c.in-Ok.ensures.0 here) in
+    record {
+      none = search rules;
+      answer = search rules;
+      grants = search rules;
+      memory = on_err c.from_residual-in_err-reply-in-Err.result named;
+      stream = search rules;
+      others = λ other different. subst (λ (s : State). SameFor other s.auth c.validate_incoming_message.new.self) c.self.view_is (c.validate_incoming_message.ensures.others other different);
+    }
 
 pub returns-in_err-reply-in-Ok-validate_incoming_message-clause-memory :
     goal.returns-in_err-reply-in-Ok-validate_incoming_message-clause-memory

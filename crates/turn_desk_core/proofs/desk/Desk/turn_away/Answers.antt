@@ -1,13 +1,19 @@
-use Rattle.std.proofs.Common.{rules, ◌≡◌, Some, subst}
+use Rattle.std.proofs.Common.{rules, sym, subst}
+use Rattle.std.specs.Prelude.{IsSome}
 use Rattle.stun_types.specs.Lent.{own_draft}
+use Rattle.stun_types.specs.Registry.{bad_request_code}
 use Rattle.stun_proto.specs.Server.{nonce_at}
+use Rattle.stun_proto.specs.ServerAuthErrors.{LongTermServerAuthError}
 use Rattle.turn_desk_core.specs.State.{State}
-use Rattle.turn_desk_core.specs.Steps.{IsTurnedReply}
-use Rattle.turn_desk_core.proofs.Keys.{turned}
+use Rattle.turn_desk_core.specs.Steps.{IsTurnedReply, refusal_attributes}
+use Rattle.turn_desk_reply.specs.Replies.{failure_attributes}
+use Rattle.turn_desk_core.proofs.Challenges.{keeps_nonce, plain_reply}
 use Rattle.turn_desk_core.proofs.desk.Desk.turn_away.Goals as goal
 
-pub returns : goal.returns
-returns c =
-    let kept : nonce_at c.self.inside.auth c.args.from ≡ Some c.unwrap-nonce.result.now = search rules in
-    subst (λ (s : State). IsTurnedReply s.auth c.args.from c.args.request.now c.args.error c.finish.result.items) c.self.view_is
-    (turned c.self.inside.auth c.args.from c.args.request.now c.args.error c.realm.result.now c.unwrap-nonce.result.now (own_draft c.in_ok-reply.reply) c.finish.result.items c.realm.ensures.value kept c.finish.ensures c.in_ok-reply.ensures)
+pub returns-in_ok-reply-in-BadRequest : goal.returns-in_ok-reply-in-BadRequest
+returns-in_ok-reply-in-BadRequest c =
+    let has : IsSome (nonce_at c.self.inside.auth c.args.from) = search rules in
+    let k = keeps_nonce c.self.inside.auth c.args.from has in
+    subst (λ (error : LongTermServerAuthError). IsTurnedReply c.args.self.now.auth c.args.from c.args.request.now (refusal_attributes error) c.finish.result.items) (sym c.in-BadRequest.is)
+    (subst (λ (s : State). IsTurnedReply s.auth c.args.from c.args.request.now (λ party. failure_attributes bad_request_code) c.finish.result.items) c.self.view_is
+    (plain_reply c.self.inside.auth c.args.from c.args.request.now k.nonce bad_request_code (own_draft c.in_ok-reply-in-BadRequest.reply) c.finish.result.items k.kept c.in_ok-reply-in-BadRequest.ensures c.finish.ensures))

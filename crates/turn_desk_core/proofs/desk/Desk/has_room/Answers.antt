@@ -1,0 +1,12 @@
+use Rattle.std.proofs.Common.{◌≡◌, Some, subst}
+use Rattle.stun_proto.specs.Server.{nonce_at}
+use Rattle.turn_desk_core.specs.State.{State}
+use Rattle.turn_desk_core.specs.Steps.{FitsChallenge, unvalidated_party}
+use Rattle.turn_desk_core.proofs.Challenges.{server_fits}
+use Rattle.turn_desk_core.proofs.desk.Desk.has_room.Goals as goal
+
+pub returns : goal.returns
+returns c nonce =
+    subst (λ (s : State). nonce_at s.auth c.args.from ≡ Some nonce → FitsChallenge (unvalidated_party s.auth nonce)) c.self.view_is
+    (λ has. server_fits c.self.inside.auth c.args.from c.realm.result.now nonce c.nonce_for_client.result c.supported_integrity.result.now
+    c.realm.ensures.value c.realm.ensures.short c.nonce_for_client.ensures.value c.nonce_for_client.ensures.short c.supported_integrity.ensures.value c.supported_integrity.ensures.distinct has)

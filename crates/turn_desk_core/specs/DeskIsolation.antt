@@ -1,0 +1,20 @@
+-- What an address is answered by two desks that it can't tell apart.
+use Rattle.std.specs.Prelude.{◌≡◌, ℕ, List, ◌++◌}
+use Rattle.std.specs.declared.net.socket_addr.SocketAddr.{SocketAddr}
+use Rattle.rand_core.specs.Stream.{Stream}
+use Rattle.stun_proto.specs.Server.{SameFor}
+use Rattle.turn_desk_grant.specs.declared.decision.Decision.{Decision}
+use Rattle.turn_desk_grant.specs.declared.grant.Grant as granted
+use Rattle.turn_desk_core.specs.State.{State}
+use Rattle.turn_desk_core.specs.Steps.{IsAnswer}
+
+-- an answer that one desk gives, another gives too; the address can't tell the two apart afterwards;
+-- and both grant the same
+pub record IsAnsweredAlike (a b : State) (from : SocketAddr) (bytes : List ℕ) (now : ℕ) (stream : Stream)
+    (decision : Decision) (reply : List ℕ) (new : State) : Type 0 where
+  pub left : State
+  pub answer : IsAnswer b from bytes now stream decision reply left
+  pub same : SameFor from new.auth left.auth
+  pub grants : List granted.Grant
+  pub here : new.grants ≡ a.grants ++ grants
+  pub there : left.grants ≡ b.grants ++ grants

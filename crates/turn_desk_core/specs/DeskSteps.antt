@@ -1,0 +1,69 @@
+-- What an answered request is for a layer above, whatever the desk was asked before.
+use Rattle.std.specs.Prelude.{◌≡◌, ◌⊎◌, ℕ, List, [], ◌∷◌, ◌++◌, Some, false, true}
+use Rattle.std.specs.FinMap as map
+use Rattle.std.specs.declared.net.socket_addr.SocketAddr.{SocketAddr}
+use Rattle.stun_types.specs.IntegrityAlgorithms.{IntegrityAlgorithm}
+use Rattle.stun_types.specs.MessageClasses.{Success, Error}
+use Rattle.stun_types.specs.Attributes.{Attr, kind_at}
+use Rattle.stun_types.specs.Types.{class_of, method_of}
+use Rattle.stun_types.specs.Grammar.{number_at, shown}
+use Rattle.stun_types.specs.Adding.{has_kind}
+use Rattle.stun_types.specs.Shape.{kinds_of}
+use Rattle.stun_types.specs.Integrity.{Validates}
+use Rattle.stun_proto.specs.Judgement.{is_response, user_key}
+use Rattle.stun_proto.specs.Server.{Server}
+use Rattle.turn_types.specs.TurnRegistry.{connection_id_kind}
+use Rattle.turn_desk_grant.specs.declared.decision.Decision.{Decision}
+use Rattle.turn_desk_grant.specs.declared.grant.Grant as granted
+use Rattle.turn_desk_grant.specs.Grants.{IsGrant}
+use Rattle.turn_desk_core.specs.State.{State}
+
+-- ---- under which key
+
+-- a request and its reply validate under one key, by one algorithm: the key of a user, in the
+-- server's realm
+pub record IsSignedAlike (server : Server) (bytes reply : List ℕ) : Type 0 where
+  pub name : List ℕ
+  pub password : List ℕ
+  pub present : map.get server.users name ≡ Some password
+  pub algorithm : IntegrityAlgorithm
+  pub asked : List ℕ
+  pub validated : Validates bytes (user_key server.realm name password algorithm) algorithm asked
+  pub answered : List ℕ
+  pub signed : Validates reply (user_key server.realm name password algorithm) algorithm answered
+
+-- a message that validates under no key
+abbrev pub IsUnsigned : List ℕ → Type 0
+IsUnsigned bytes = (key text : List ℕ) (algorithm : IntegrityAlgorithm) → ¬ Validates bytes key algorithm text
+
+-- ---- what is granted
+
+-- one grant is kept, with the number, the source and the method of the request; what is kept of it,
+-- and what the reply shows before its integrity attribute, are by the case of that method
+pub record IsRecorded (old : State) (from : SocketAddr) (bytes : List ℕ) (decision : Decision) (reply : List ℕ)
+    (new : State) : Type 0 where
+  pub grant : granted.Grant
+  pub kept : new.grants ≡ old.grants ++ grant ∷ []
+  pub number : grant.number ≡ number_at bytes
+  pub source : grant.from ≡ from
+  pub method : grant.method.0 ≡ method_of (kind_at bytes)
+  pub shows : List Attr
+  pub granted_by : IsGrant bytes from decision shows grant
+  pub integrity : Attr
+  pub told : shown reply ≡ shows ++ integrity ∷ []
+
+-- ---- the step
+
+-- a reply is a response to the request, of its method and number; a success says that the request
+-- validated under the key that signs the reply, and that one grant of it is kept; an error leaves
+-- the grants, and shows no CONNECTION-ID; a reply that is signed at all is signed by such a key
+pub record DeskStep (old : State) (from : SocketAddr) (bytes : List ℕ) (decision : Decision) (reply : List ℕ)
+    (new : State) : Type 0 where
+  pub responds : is_response reply ≡ true
+  pub method : method_of (kind_at reply) ≡ method_of (kind_at bytes)
+  pub number : number_at reply ≡ number_at bytes
+  pub accepts : class_of (kind_at reply) ≡ Success → IsSignedAlike old.auth bytes reply
+  pub grants : class_of (kind_at reply) ≡ Success → IsRecorded old from bytes decision reply new
+  pub keeps : class_of (kind_at reply) ≡ Error → new.grants ≡ old.grants
+  pub refuses : class_of (kind_at reply) ≡ Error → has_kind connection_id_kind (kinds_of (shown reply)) ≡ false
+  pub signs : IsUnsigned reply ⊎ IsSignedAlike old.auth bytes reply

@@ -1,0 +1,37 @@
+//! What the contracts of a desk mean for a layer above. The functions do nothing; each contract is a law.
+
+ghost use Rattle.std.specs.Prelude.{List, ℕ};
+ghost use Rattle.std.specs.declared.net.socket_addr.SocketAddr.{SocketAddr};
+ghost use Rattle.rand_core.specs.Stream.{Stream};
+ghost use Rattle.turn_desk_grant.specs.declared.decision.Decision.{Decision};
+ghost use Rattle.turn_desk_grant.specs.Requests.{IsServed};
+ghost use Rattle.turn_desk_core.specs.State.{State};
+ghost use Rattle.turn_desk_core.specs.Steps.{IsAnswer};
+ghost use Rattle.turn_desk_core.specs.DeskIsolation.{IsAnsweredAlike};
+ghost use Rattle.turn_desk_core.specs.DeskSteps.{DeskStep};
+ghost use Rattle.stun_proto.specs.Server.{SameFor};
+
+/// An answer to a request that is served is a response to it, never a request. A success says that the
+/// request validated under the key of a user, and that one grant of it is kept, with its number, its
+/// source and what its method asks for. An error adds to no grants, and shows no CONNECTION-ID. The key
+/// that signs a reply is the one under which the request validated.
+pub fn desk_steps()
+    ensures { (old new : State) (from : SocketAddr) (bytes reply : List ℕ) (now : ℕ)
+        (stream : Stream) (decision : Decision)
+        → IsServed bytes
+        → IsAnswer old from bytes now stream decision reply new
+        → DeskStep old from bytes decision reply new }
+{}
+
+/// Addresses are apart: what a desk answers to an address is fixed by what that address sees of its
+/// authenticator, which calls of other addresses leave as it was (`addresses_are_apart` of
+/// `stun_proto`, and the clause `others` of `handle`). Where an address can't tell two desks apart, an
+/// answer of the one is an answer of the other, both grant the same, and the address can't tell them
+/// apart afterwards.
+pub fn desks_answer_alike()
+    ensures { (a b new : State) (from : SocketAddr) (bytes reply : List ℕ) (now : ℕ)
+        (stream : Stream) (decision : Decision)
+        → SameFor from a.auth b.auth
+        → IsAnswer a from bytes now stream decision reply new
+        → IsAnsweredAlike a b from bytes now stream decision reply new }
+{}
