@@ -1,7 +1,8 @@
 -- Setup lines of a trace.
 use Rattle.std.specs.Prelude.{ℕ, ◌≡◌, ◌≤◌, List, [], ◌∷◌, length, codes}
 use Rattle.turn_desk_replay.specs.declared.setup.Algorithms.{Algorithms}
-use Rattle.turn_desk_replay.specs.declared.setup.Algorithms.TheVariants.{Sha1}
+use Rattle.turn_desk_replay.specs.declared.setup.Algorithms.TheVariants.{Sha1, Sha256, Sha1AndSha256, Sha256AndSha1}
+use Rattle.stun_types.specs.IntegrityAlgorithms as integrity
 use Rattle.stun_proto.specs.Features.{Feature, Auto, Required, Disabled}
 use Rattle.turn_desk_replay.specs.declared.setup.TheConstants.{MAX_REALM, MAX_USERNAME}
 use Rattle.turn_desk_replay.specs.declared.setup.Setup.{Setup}
@@ -10,6 +11,16 @@ use Rattle.turn_desk_replay.specs.declared.setup.Setup.TheVariants.{Desk, User}
 -- the word for the algorithms
 abbrev pub algorithms_word : Algorithms → List ℕ
 algorithms_word Sha1 = codes "sha1"
+algorithms_word Sha256 = codes "sha256"
+algorithms_word Sha1AndSha256 = codes "sha1,sha256"
+algorithms_word Sha256AndSha1 = codes "sha256,sha1"
+
+-- the algorithms themselves, in the order in which the word names them
+abbrev pub algorithms_in_order : Algorithms → List integrity.IntegrityAlgorithm
+algorithms_in_order Sha1 = integrity.Sha1 ∷ []
+algorithms_in_order Sha256 = integrity.Sha256 ∷ []
+algorithms_in_order Sha1AndSha256 = integrity.Sha1 ∷ integrity.Sha256 ∷ []
+algorithms_in_order Sha256AndSha1 = integrity.Sha256 ∷ integrity.Sha1 ∷ []
 
 -- the word for the anonymity
 abbrev pub anonymity_word : Feature → List ℕ

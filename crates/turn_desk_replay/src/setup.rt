@@ -15,11 +15,17 @@ pub const MAX_REALM: usize = registry::MAX_TEXT_LENGTH;
 /// The most bytes of a user's name (RFC 8489, section 14.3).
 pub const MAX_USERNAME: usize = registry::MAX_USERNAME_LENGTH;
 
-/// The algorithms that a desk supports.
+/// The algorithms that a desk supports, in their order.
 #[derive(Clone, Copy, Debug, PartialEq, Eq)]
 pub enum Algorithms {
     /// `sha1`
     Sha1,
+    /// `sha256`
+    Sha256,
+    /// `sha1,sha256`
+    Sha1AndSha256,
+    /// `sha256,sha1`
+    Sha256AndSha1,
 }
 
 /// A line that stands before the events.
@@ -80,13 +86,16 @@ pub fn read_user<'a>(words: &[&'a str]) -> Option<Setup<'a>>
     Some(Setup::User { name, password })
 }
 
-/// The algorithms that a word names.
+/// The algorithms that a word names: one, or both in either order.
 pub fn read_algorithms(word: &str) -> Option<Algorithms>
     ensures { MatchOption result ((a : Algorithms) → word.now ≢ algorithms_word a)
         (λ a. word.now ≡ algorithms_word a) }
 {
     match word {
         "sha1" => Some(Algorithms::Sha1),
+        "sha256" => Some(Algorithms::Sha256),
+        "sha1,sha256" => Some(Algorithms::Sha1AndSha256),
+        "sha256,sha1" => Some(Algorithms::Sha256AndSha1),
         _ => None,
     }
 }

@@ -1,11 +1,13 @@
 //! The replay of a trace.
 
-ghost use Rattle.std.specs.Prelude.{◌≡◌, ◌≢◌, ◌+◌, Err, OnOk, OnErr, option_map};
+ghost use Rattle.std.specs.Prelude.{◌≡◌, ◌≢◌, ◌≤◌, ◌+◌, [], length, Err, IfOk, OnOk, OnErr, option_map};
+ghost use Rattle.std.specs.FinMap as map;
 ghost use Rattle.std.specs.Io.KnownBytes.{Appends};
 ghost use Rattle.program_lines.specs.Input.{TakesAll, TakesAtMost, TakesLines};
 ghost use Rattle.std.specs.List.{AllByRecursion};
 ghost use Rattle.program_lines.specs.Cut.{lines_of};
 ghost use Rattle.turn_desk_replay.specs.TraceLines.{IsReadable};
+ghost use Rattle.turn_desk_replay.specs.Setup.{algorithms_in_order};
 ghost use Rattle.turn_desk_replay.specs.Replay.{answer_text, Prints, PrintsAnswers};
 
 use crate::answer::{Answer, reply_line};
@@ -22,6 +24,7 @@ use rand_core::SeedableRng;
 use std::alloc::Global;
 use std::io::{Read, Write};
 use stun_proto::auth::{Feature, LongTermServerAuth};
+use stun_types::NoMemory;
 use stun_types::message::{IntegrityAlgorithm, LongTermCredentials};
 use turn_desk_core::desk::Desk;
 
@@ -106,13 +109,8 @@ impl Progress {
         if self.desk.is_some() || realm.len() > MAX_REALM {
             return Err(LineError::Bad);
         }
-        let realm = String::from_str(self.alloc, realm)?;
-        let mut auth = LongTermServerAuth::new(self.alloc, realm);
-        match algorithms {
-            Algorithms::Sha1 => auth.set_supported_integrity(IntegrityAlgorithm::Sha1),
-        }
-        auth.set_anonymous_username(anonymity);
-        self.desk = Some(Desk::new(self.alloc, auth));
+        let desk = new_desk(self.alloc, realm, algorithms, anonymity)?;
+        self.desk = Some(desk);
         Ok(())
     }
 
@@ -142,6 +140,47 @@ impl Progress {
             &mut words,
         )?;
         Ok(reply)
+    }
+}
+
+/// A desk of a realm, which knows no user and has granted nothing. It supports the algorithms that
+/// were named, in their order.
+fn new_desk(
+    alloc: Global,
+    realm: &str,
+    algorithms: Algorithms,
+    anonymity: Feature,
+) -> Result<Desk, NoMemory>
+    requires { length realm.now ≤ MAX_REALM }
+    ensures realm { IfOk result (λ desk. desk.auth.realm ≡ realm.now) }
+    ensures algorithms { IfOk result (λ desk.
+        desk.auth.algorithms ≡ algorithms_in_order algorithms) }
+    ensures anonymity { IfOk result (λ desk. desk.auth.anonymous_username ≡ anonymity) }
+    ensures users { IfOk result (λ desk. desk.auth.users ≡ map.empty) }
+    ensures grants { IfOk result (λ desk. desk.grants ≡ []) }
+{
+    let realm = String::from_str(alloc, realm)?;
+    let mut auth = LongTermServerAuth::new(alloc, realm);
+    support(&mut auth, algorithms);
+    auth.set_anonymous_username(anonymity);
+    Ok(Desk::new(alloc, auth))
+}
+
+/// Has a server support these algorithms in their order, and no other.
+fn support(auth: &mut LongTermServerAuth, algorithms: Algorithms)
+    ensures { auth.new ≡ record auth.old { algorithms = algorithms_in_order algorithms } }
+{
+    match algorithms {
+        Algorithms::Sha1 => auth.set_supported_integrity(IntegrityAlgorithm::Sha1),
+        Algorithms::Sha256 => auth.set_supported_integrity(IntegrityAlgorithm::Sha256),
+        Algorithms::Sha1AndSha256 => {
+            auth.set_supported_integrity(IntegrityAlgorithm::Sha1);
+            auth.add_supported_integrity(IntegrityAlgorithm::Sha256);
+        }
+        Algorithms::Sha256AndSha1 => {
+            auth.set_supported_integrity(IntegrityAlgorithm::Sha256);
+            auth.add_supported_integrity(IntegrityAlgorithm::Sha1);
+        }
     }
 }
 
