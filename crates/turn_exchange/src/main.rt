@@ -1,7 +1,8 @@
-//! One exchange between a client and a desk, through the library's own calls: the client is challenged
-//! and granted, and its signed request then comes from another address. Each step prints a line: what
-//! was made, or what the desk replied, which nonce it then keeps for the address, and how many grants
-//! there are.
+//! One exchange between a client and a desk that supports both algorithms, through the library's own
+//! calls. The client is challenged. It is granted by HMAC-SHA256, and again, under the hash of its name,
+//! by HMAC-SHA1; its first signed request then comes from another address. Each step prints a line:
+//! what was made, or what the desk replied, which nonce it then keeps for the address, and how many
+//! grants there are.
 //!
 //! A step that is refused memory prints `no memory` in place of the reply, and is taken once more. The
 //! exit status is 0 where no step was refused memory, 2 where one was, and 3 where one was refused it

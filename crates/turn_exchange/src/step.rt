@@ -1,12 +1,12 @@
 //! The steps of the exchange.
 
-use crate::requests::{SIGNED, UNSIGNED};
+use crate::requests::{HASHED, STRONGER, UNSIGNED};
 use std::net::{IpAddr, Ipv4Addr, SocketAddr};
 
 /// A step of the exchange.
 #[derive(Clone, Copy)]
 pub(crate) enum Step {
-    /// A desk of the realm `realm` is made.
+    /// A desk of the realm `realm` is made, which supports both algorithms.
     Desk,
     /// The desk gets to know `user`.
     User,
@@ -47,7 +47,7 @@ impl Sender {
 }
 
 /// All steps, in order.
-pub(crate) const STEPS: [Step; 6] = [
+pub(crate) const STEPS: [Step; 7] = [
     Step::Desk,
     Step::User,
     Step::Decision,
@@ -58,14 +58,20 @@ pub(crate) const STEPS: [Step; 6] = [
         seed: 0,
     }),
     Step::Request(Request {
-        name: "signed",
-        bytes: SIGNED,
+        name: "stronger",
+        bytes: STRONGER,
         sender: Sender::Client,
         seed: 0,
     }),
     Step::Request(Request {
-        name: "signed",
-        bytes: SIGNED,
+        name: "hashed",
+        bytes: HASHED,
+        sender: Sender::Client,
+        seed: 0,
+    }),
+    Step::Request(Request {
+        name: "stronger",
+        bytes: STRONGER,
         sender: Sender::Stranger,
         seed: 1,
     }),

@@ -8,7 +8,7 @@ use std::net::{IpAddr, Ipv4Addr, SocketAddr};
 use std::{fmt, io};
 use stun_proto::Instant;
 use stun_proto::auth::LongTermServerAuth;
-use stun_types::message::LongTermCredentials;
+use stun_types::message::{IntegrityAlgorithm, LongTermCredentials};
 use stun_types::{ListOf, NoMemory};
 use turn_desk::{Decision, Desk};
 
@@ -46,7 +46,8 @@ impl Exchange {
 
     fn make_desk(&mut self) -> Result<(), NoMemory> {
         let realm = String::from_str(self.alloc, "realm")?;
-        let auth = LongTermServerAuth::new(self.alloc, realm);
+        let mut auth = LongTermServerAuth::new(self.alloc, realm);
+        auth.add_supported_integrity(IntegrityAlgorithm::Sha256);
         self.desk = Some(Desk::new(self.alloc, auth));
         Ok(())
     }

@@ -61,7 +61,7 @@ const STRONGER_REPLY: &str =
     "010300242112a442000000000000000000007392001c0020550a7b75133ca916599014530ef15cd078dbb719f4a9dc72f990ad4bb61066c7";
 
 /// A client with these settings.
-fn client_with(
+pub(crate) fn client_with(
     alloc: Global,
     algorithms: &str,
     anonymity: &str,
@@ -89,8 +89,15 @@ fn answer(
     client: &mut LongTermClientAuth,
     text: &str,
 ) -> Result<&'static str, Fail> {
-    let bytes = hex::decode(alloc, text)?;
-    let message = Message::from_bytes(bytes.as_slice())?;
+    answer_to(client, hex::decode(alloc, text)?.as_slice())
+}
+
+/// What a client answers to a message.
+pub(crate) fn answer_to(
+    client: &mut LongTermClientAuth,
+    bytes: &[u8],
+) -> Result<&'static str, Fail> {
+    let message = Message::from_bytes(bytes)?;
     Ok(match client.validate_incoming_message(&message) {
         Ok(Answer::ResendRequest(IntegrityAlgorithm::Sha1)) => "resend-sha1",
         Ok(Answer::ResendRequest(IntegrityAlgorithm::Sha256)) => "resend-sha256",
@@ -104,7 +111,10 @@ fn answer(
 }
 
 /// The ALLOCATE request that a client signs.
-fn request(alloc: Global, client: &LongTermClientAuth) -> Result<Vec<u8>, StunWriteError> {
+pub(crate) fn request(
+    alloc: Global,
+    client: &LongTermClientAuth,
+) -> Result<Vec<u8>, StunWriteError> {
     let writer = begun(alloc, MessageClass::Request)?;
     let signed = client.sign_outgoing_message(writer)?;
     Ok(signed.finish())

@@ -14,12 +14,18 @@ mod digests;
 #[cfg(test)]
 mod grants;
 #[cfg(test)]
+mod handshake;
+#[cfg(test)]
 mod keys;
 #[cfg(test)]
 mod nonces;
+#[cfg(test)]
+mod recorded;
 #[cfg(test)]
 mod replaying;
 #[cfg(test)]
 mod rows;
 #[cfg(test)]
 mod server;
+#[cfg(test)]
+mod userhash;

@@ -80,11 +80,15 @@ success stranger 192.168.0.1:1000 48 refused
 request stranger 192.168.0.1:1000 0 refused
 indication stranger 192.168.0.1:1000 48 refused
 success refused 192.168.0.1:1000 48 refused
+# nor was that to a server of both algorithms
+error list 192.168.0.1:1000 60 0113003c2112a442000000000000000000007392001400057265616c6d0000000015001d6f624d61744a6f73327741414167796944624943587750446151316861000000800200080001000000020000
+success list 192.168.0.1:1000 60 refused
 # to another address
 success validated 192.168.0.1:1001 0 refused
 error validated 192.168.0.1:1001 0 refused";
 
-const CLIENT: &str = "192.168.0.1:1000";
+/// The address of the client.
+pub(crate) const CLIENT: &str = "192.168.0.1:1000";
 
 /// Makes `user` known to a server by a password.
 fn set_password(alloc: Global, server: &mut LongTermServerAuth, text: &str) -> Result<(), Fail> {
@@ -98,6 +102,9 @@ fn set_password(alloc: Global, server: &mut LongTermServerAuth, text: &str) -> R
 pub(crate) fn server_after(alloc: Global, before: &str) -> Result<LongTermServerAuth, Fail> {
     let mut server = LongTermServerAuth::new(alloc, String::from_str(alloc, "realm")?);
     set_password(alloc, &mut server, "pass")?;
+    if before == "list" {
+        server.add_supported_integrity(IntegrityAlgorithm::Sha256);
+    }
     if before != "new" && before != "stranger" {
         answer(alloc, &mut server, SIGNED)?;
     }
@@ -113,15 +120,21 @@ pub(crate) fn server_after(alloc: Global, before: &str) -> Result<LongTermServer
     Ok(server)
 }
 
-/// What a server answers to a message from the client, given in hex, in the first moment and with the
-/// zero seed.
+/// What a server answers to a message from the client, given in hex, as `answer_from_server`.
 pub(crate) fn answer(
     alloc: Global,
     server: &mut LongTermServerAuth,
     text: &str,
 ) -> Result<&'static str, Fail> {
-    let bytes = hex::decode(alloc, text)?;
-    let message = Message::from_bytes(bytes.as_slice())?;
+    answer_from_server(server, hex::decode(alloc, text)?.as_slice())
+}
+
+/// What a server answers to a message from the client, in the first moment and with the zero seed.
+pub(crate) fn answer_from_server(
+    server: &mut LongTermServerAuth,
+    bytes: &[u8],
+) -> Result<&'static str, Fail> {
+    let message = Message::from_bytes(bytes)?;
     let from = CLIENT.parse::<SocketAddr>()?;
     let mut words = ChaCha20Rng::from_seed([0; 32]);
     let answer = server.validate_incoming_message(&message, from, Instant::ZERO, &mut words);
@@ -210,7 +223,7 @@ pub(crate) fn begun(alloc: Global, class: MessageClass) -> Result<MessageWriteVe
 }
 
 /// What a server makes of a message of a class that goes to an address, by either call.
-fn signed(
+pub(crate) fn signed(
     alloc: Global,
     server: &LongTermServerAuth,
     class: MessageClass,
