@@ -49,6 +49,15 @@ fn user_of(settings: &str) -> Option<NamedUser<'static>> {
     }
 }
 
+/// The nonce that stands: the one that is shown, another one, or none.
+fn standing<'a>(settings: &str, shown: Option<&'a str>) -> Option<&'a str> {
+    match settings {
+        "stale" => Some(NONCE),
+        "none" => None,
+        _ => shown,
+    }
+}
+
 /// What a server answers to a message that is no response, by what it knows.
 fn judged(
     alloc: Global,
@@ -60,19 +69,16 @@ fn judged(
         return Err(Fail::from("a response"));
     }
     let claim = Claim::of(&message);
-    let nonce = match settings {
-        "stale" => Some(NONCE),
-        "none" => None,
-        _ => claim.nonce(),
-    };
+    let claim = &claim;
     let sha1 = SupportedIntegrity::only(IntegrityAlgorithm::Sha1);
     let supported = match settings {
         "both" => sha1.with(IntegrityAlgorithm::Sha256),
         "sha256" => SupportedIntegrity::only(IntegrityAlgorithm::Sha256),
         _ => sha1,
     };
+    let nonce = standing(settings, claim.nonce());
     let known = Known::new("realm", supported, nonce, user_of(settings));
-    Ok(judge_message(alloc, &message, &claim, &known))
+    Ok(judge_message(alloc, &message, claim, &known))
 }
 
 /// A server answers so to a message.
