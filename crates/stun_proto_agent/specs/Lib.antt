@@ -1,1 +1,13 @@
-pub mod Moments
+pub mod AgentRest
+pub use Rattle.stun_proto_transaction.specs.Agents
+pub mod Codes
+pub mod Handling
+pub mod Least
+pub mod Numbers
+pub use Rattle.stun_proto_schedule.specs.Moments
+pub use Rattle.stun_proto_schedule.specs.Schedule
+pub mod RequestLending
+pub mod Requests
+pub mod Sending
+pub mod State
+pub mod View

@@ -1,4 +1,15 @@
 //! The agent of STUN requests, and the clock that it goes by. It performs no input or output.
 #![tactic(auto)]
 
-pub mod instant;
+pub mod agent;
+pub mod builder;
+pub mod error;
+pub mod handling;
+
+pub use stun_proto_schedule::instant;
+
+pub mod laws;
+mod outstanding;
+pub mod request;
+pub mod sending;
+pub mod transmitting;

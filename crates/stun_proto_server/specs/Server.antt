@@ -8,7 +8,7 @@ use Rattle.std.specs.Ordering.{nat_cmp}
 use Rattle.std.specs.contracts.net.socket_addr.SocketAddr as addr
 use Rattle.std.specs.declared.net.socket_addr.SocketAddr.{SocketAddr}
 use Rattle.rand_core.specs.Stream.{Stream}
-use Rattle.stun_proto_agent.specs.Moments.{moment_after}
+use Rattle.stun_proto_schedule.specs.Moments.{moment_after}
 use Rattle.stun_proto_auth.specs.contracts.feature.Feature as feature
 use Rattle.stun_proto_auth.specs.declared.feature.Feature.{Feature}
 use Rattle.stun_proto_auth.specs.Nonce.{features_offered, nonce_text}

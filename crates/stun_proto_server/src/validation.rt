@@ -13,12 +13,12 @@ ghost use Rattle.stun_proto_server.specs.Users.{NamesOne};
 use crate::long_term::LongTermServerAuth;
 use rand_core::Rng;
 use std::net::SocketAddr;
-use stun_proto_agent::instant::Instant;
 use stun_proto_claim::claim::Claim;
 use stun_proto_judge::error::LongTermServerAuthError;
 use stun_proto_judge::judgement::judge_message;
 use stun_proto_judge::known::Known;
 use stun_proto_judge::user::ValidatedUser;
+use stun_proto_schedule::instant::Instant;
 use stun_types::message::{IntegrityAlgorithm, Message};
 
 /// What a server answers to a message that it takes.

@@ -2,7 +2,7 @@
 
 ghost use Rattle.std.specs.Prelude.{◌≡◌, ◌↔◌, ◌+◌, ◌-◌, ◌≤◌, IsSome, IfSome};
 ghost use Rattle.std.specs.Duration.{as_nanos};
-ghost use Rattle.stun_proto_agent.specs.Moments.{greatest_moment, moment_after};
+ghost use Rattle.stun_proto_schedule.specs.Moments.{greatest_moment, moment_after};
 
 use std::marker::Model;
 use std::time::Duration;

@@ -1,0 +1,41 @@
+//! What is due to be sent again.
+
+ghost use Rattle.std.specs.Prelude.{◌≡◌, MatchOption, None, Some};
+ghost use Rattle.std.specs.Borrow.{sem};
+ghost use Rattle.std.specs.FinMap as finite;
+ghost use Rattle.stun_proto_agent.specs.AgentRest.{AgentRests};
+ghost use Rattle.stun_proto_transaction.specs.Agents.{Transaction, transmitted};
+ghost use Rattle.stun_proto_agent.specs.Least.{IsLeast};
+ghost use Rattle.stun_proto_agent.specs.Sending.{IsAfterTransmit, IsDueSent, IsSent, NoneDue, is_due_of, kept_under};
+ghost use Rattle.stun_proto_agent.specs.State.{is_tcp};
+
+use crate::agent::StunAgent;
+use stun_proto_schedule::instant::Instant;
+use stun_types::message::TransactionId;
+use stun_types::transmit::Transmit;
+
+impl StunAgent {
+    /// What is due to be sent again at a moment (RFC 8489, section 6.2.1): the request of least number of
+    /// which a transmission is left whose moment isn't later, with its own bytes, to where it went. It
+    /// counts as made. One call answers one transmission: call it again until it answers `None`, which
+    /// means that none is due and that nothing has changed. What it costs grows with the number of
+    /// outstanding requests alone.
+    pub fn poll_transmit<'a>(&'a mut self, now: Instant) -> Option<Transmit<&'a [u8]>>
+        ensures sent { MatchOption result (NoneDue self.old now) (IsDueSent self.old now) }
+        ensures* state { sem 𝓛 (AgentRests self.entry (λ new. IsAfterTransmit self.old now new)) }
+    {
+        let number = self.due(now)?;
+        self.transmit(number);
+        self.transmission(number)
+    }
+
+    /// What goes out for the request of a number, where it is outstanding.
+    fn transmission(&self, number: TransactionId) -> Option<Transmit<&[u8]>>
+        ensures { MatchOption result (finite.get self.now.outstanding number ≡ None)
+            (λ sent. (t : Transaction) × (finite.get self.now.outstanding number ≡ Some t)
+            × IsSent self.now t.bytes t.to sent) }
+    {
+        let to = self.target_of(number)?;
+        Some(self.send_data(self.bytes_of(number), to))
+    }
+}

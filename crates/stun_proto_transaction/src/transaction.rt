@@ -1,0 +1,210 @@
+//! A request that is outstanding: what is kept of it, and what a caller changes of it. Contracts of other
+//! crates name `Cancelled` and `Change`.
+
+ghost use Rattle.std.specs.Prelude.{◌≡◌, ◌+◌, ◌<◌, ◌≤◌, ◌^◌, true};
+ghost use Rattle.stun_types.specs.Grammar.{shown};
+ghost use Rattle.stun_types.specs.MessageValidation.{last_algorithm};
+ghost use Rattle.stun_proto_transaction.specs.Agents.{changed, goes_on, has_left, is_due, is_ended, integrity_of, is_over, next_moment, next_slot, transmitted, without_retransmissions};
+ghost use Rattle.stun_proto_schedule.specs.Schedule.{transmissions};
+
+use std::marker::Model;
+use std::net::SocketAddr;
+use stun_proto_schedule::instant::Instant;
+use stun_proto_schedule::waits::Waits;
+use stun_types::message::{IntegrityAlgorithm, Message};
+
+/// What of a transaction is cancelled. Contracts name it; no call answers it.
+#[derive(Clone, Copy, Debug, PartialEq, Eq)]
+pub enum Cancelled {
+    /// Nothing is.
+    Nothing,
+    /// Nothing more is sent; the end is the same.
+    Retransmissions,
+    /// Nothing more is sent, and the transaction has ended.
+    Whole,
+}
+
+impl Cancelled {
+    /// Whether nothing is cancelled.
+    fn goes_on(self) -> bool
+        ensures { result ≡ goes_on self }
+    {
+        match self {
+            Cancelled::Nothing => true,
+            Cancelled::Retransmissions | Cancelled::Whole => false,
+        }
+    }
+
+    /// What is cancelled where nothing more is sent.
+    fn silenced(self) -> Cancelled
+        ensures { result ≡ without_retransmissions self }
+    {
+        match self {
+            Cancelled::Whole => Cancelled::Whole,
+            Cancelled::Nothing | Cancelled::Retransmissions => Cancelled::Retransmissions,
+        }
+    }
+
+    /// Whether all is cancelled.
+    pub fn is_over(self) -> bool
+        ensures { result ≡ is_over self }
+    {
+        match self {
+            Cancelled::Whole => true,
+            Cancelled::Nothing | Cancelled::Retransmissions => false,
+        }
+    }
+}
+
+/// A request that is outstanding: its bytes and where they go, the moment at which it was sent, how many
+/// of its transmissions were made, how long is waited, and what is cancelled. Contracts see the record
+/// `Transaction` of `specs/Agents.antt`.
+#[derive(Debug, Drop)]
+pub struct Transaction {
+    bytes: Vec<u8>,
+    to: SocketAddr,
+    sent: Instant,
+    used: u32,
+    waits: Waits,
+    cancelled: Cancelled,
+}
+
+impl Model for Transaction {
+    ghost use Rattle.stun_proto_transaction.specs.Agents.{Transaction as TransactionOf};
+
+    ghost Value = { TransactionOf };
+
+    ghost view = { λ t. record {
+      bytes = t.bytes.items;
+      to = t.to;
+      sent = t.sent;
+      used = t.used;
+      waits = t.waits;
+      cancelled = t.cancelled;
+    } };
+}
+
+impl Transaction {
+    /// A request whose first transmission is made at a moment.
+    pub fn new(bytes: Vec<u8>, to: SocketAddr, sent: Instant, waits: Waits) -> Transaction
+        ensures { result ≡ record {
+          bytes = bytes.items;
+          to = to;
+          sent = sent;
+          used = 1;
+          waits = waits;
+          cancelled = Cancelled.Nothing;
+        } }
+    {
+        Transaction {
+            bytes,
+            to,
+            sent,
+            used: 1,
+            waits,
+            cancelled: Cancelled::Nothing,
+        }
+    }
+
+    /// The bytes of the request.
+    pub fn bytes(&self) -> &[u8]
+        ensures { result.now ≡ self.now.bytes }
+    {
+        self.bytes.as_slice()
+    }
+
+    /// Where the request goes.
+    pub fn to(&self) -> SocketAddr
+        ensures { result ≡ self.now.to }
+    {
+        self.to
+    }
+
+    /// Whether the transaction is cancelled as a whole.
+    pub fn is_over(&self) -> bool
+        ensures { result ≡ is_over self.now.cancelled }
+    {
+        self.cancelled.is_over()
+    }
+
+    /// Whether a transmission is left.
+    fn has_left(&self, is_tcp: bool) -> bool
+        ensures { result ≡ has_left is_tcp self.now }
+    {
+        self.cancelled.goes_on() && self.used < self.waits.transmissions(is_tcp)
+    }
+
+    /// The moment of the next transmission.
+    fn next_slot(&self) -> Instant
+        ensures { result ≡ next_slot self.now }
+    {
+        self.waits.slot(self.sent, self.used)
+    }
+
+    /// Whether a transmission is due at a moment.
+    pub fn is_due(&self, is_tcp: bool, now: Instant) -> bool
+        ensures { result ≡ is_due is_tcp now self.now }
+    {
+        self.has_left(is_tcp) && self.next_slot() <= now
+    }
+
+    /// Whether the transaction has ended at a moment.
+    pub fn is_ended(&self, now: Instant) -> bool
+        ensures { result ≡ is_ended now self.now }
+    {
+        self.is_over() || self.waits.end(self.sent) <= now
+    }
+
+    /// The next moment at which there is something to do.
+    pub fn next_moment(&self, is_tcp: bool) -> Instant
+        ensures { result ≡ next_moment is_tcp self.now }
+    {
+        if self.has_left(is_tcp) {
+            self.next_slot()
+        } else {
+            self.waits.end(self.sent)
+        }
+    }
+
+    /// The algorithm of the last integrity attribute that the request shows, or `None`.
+    pub fn integrity(&self) -> Option<IntegrityAlgorithm>
+        ensures { result ≡ integrity_of self.now }
+    {
+        match Message::from_bytes(self.bytes.as_slice()) {
+            Ok(request) => request.last_integrity(),
+            Err(_) => None,
+        }
+    }
+
+    /// Counts a transmission, where one is left.
+    pub fn transmit(&mut self, is_tcp: bool)
+        ensures { self.new ≡ transmitted is_tcp self.old }
+    {
+        if self.cancelled.goes_on() && self.used < self.waits.transmissions(is_tcp) {
+            self.used += 1;
+        }
+    }
+
+    /// Changes the transaction.
+    pub fn change(&mut self, change: Change)
+        ensures { self.new ≡ changed change self.old }
+    {
+        match change {
+            Change::Rewaited(waits) => self.waits = waits,
+            Change::Silenced => self.cancelled = self.cancelled.silenced(),
+            Change::Ended => self.cancelled = Cancelled::Whole,
+        }
+    }
+}
+
+/// What a caller changes of a transaction, by the calls of `StunRequestMut`. Contracts name it; no call
+/// takes it.
+#[derive(Debug, Drop)]
+pub enum Change {
+    /// It waits otherwise; the waits count from the first sending.
+    Rewaited(Waits),
+    /// Nothing more is sent; the end is the same.
+    Silenced,
+    /// Nothing more is sent, and it has ended.
+    Ended,
+}
