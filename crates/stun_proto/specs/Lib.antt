@@ -1,10 +1,22 @@
 -- The definitions that the contracts below this face cite, each file under its own name.
+pub mod AgentErrors
+pub mod AgentPolls
 pub mod ClientAuthErrors
 pub mod ClientValidations
 pub mod Features
 pub mod ServerAuthErrors
 pub mod ServerValidations
+pub use Rattle.stun_proto_agent.specs.AgentRest
+pub use Rattle.stun_proto_agent.specs.Agents
+pub use Rattle.stun_proto_agent.specs.Handling
+pub use Rattle.stun_proto_agent.specs.Least
 pub use Rattle.stun_proto_agent.specs.Moments
+pub use Rattle.stun_proto_agent.specs.Numbers
+pub use Rattle.stun_proto_agent.specs.RequestLending
+pub use Rattle.stun_proto_agent.specs.Requests
+pub use Rattle.stun_proto_agent.specs.Schedule
+pub use Rattle.stun_proto_agent.specs.Sending
+pub use Rattle.stun_proto_agent.specs.State
 pub use Rattle.stun_proto_auth.specs.Nonce
 pub use Rattle.stun_proto_auth.specs.Orders
 pub use Rattle.stun_proto_auth.specs.SupportedAlgorithms

@@ -1,4 +1,5 @@
 //! What the contracts mean for a layer above, as functions that do nothing.
 
+pub use stun_proto_agent::laws::{agent_laws, nothing_new, numbers_are_shown, numbers_come_and_go};
 pub use stun_proto_client::laws::{client_laws, client_signs};
 pub use stun_proto_server::laws::addresses_are_apart;
