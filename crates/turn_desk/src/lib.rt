@@ -2,8 +2,6 @@
 //! but through the reader and the writer that `replay` is handed.
 #![tactic(auto)]
 
-pub use turn_desk_core::desk::Desk;
-pub use turn_desk_core::laws::{desk_steps, desks_answer_alike};
-pub use turn_desk_grant::decision::Decision;
-pub use turn_desk_grant::grant::Grant;
+pub use turn_desk_replay::laws::{desk_steps, desks_answer_alike};
 pub use turn_desk_replay::trace::replay;
+pub use turn_desk_replay::{Decision, Desk, Grant};

@@ -15,7 +15,7 @@ use Rattle.stun_proto.specs.Knowledge.{Outcome}
 use Rattle.stun_proto.specs.Server.{SameFor, Server, refreshed, with_outcome}
 use Rattle.stun_proto.specs.ServerSigning.{Party}
 use Rattle.stun_proto_server.proofs.Isolated.{answers_alike, leaves_alike}
-use Rattle.turn_desk_reply.specs.Replies.{signed_attributes, signed_text}
+use Rattle.turn_desk_grant.specs.Replies.{signed_attributes, signed_text}
 use Rattle.turn_desk_grant.specs.declared.decision.Decision.{Decision}
 use Rattle.turn_desk_grant.specs.declared.verdict.Verdict.{Verdict}
 use Rattle.turn_desk_grant.specs.Verdicts.{grants_of, reply_attributes, reply_type, verdict_on}

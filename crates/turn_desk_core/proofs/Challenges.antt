@@ -31,9 +31,9 @@ use Rattle.stun_proto.specs.ServerAuthErrors.{LongTermServerAuthError}
 use Rattle.stun_proto.specs.ServerSigning.{Party, addition, addition_for, challenge_parts, list_for, party_by_client, party_by_outcome, signing_refusal_for}
 use Rattle.stun_proto_sign.proofs.Making.{made_written, parts_accept}
 use Rattle.stun_proto_sign.proofs.Reaching.{reached_end, reached_first, reached_step}
-use Rattle.turn_desk_reply.specs.Replies.{IsReply, failure_attributes}
-use Rattle.turn_desk_reply.proofs.Room.{room_left, text_accepted}
-use Rattle.turn_desk_reply.proofs.Sizes.{failure-length}
+use Rattle.turn_desk_grant.specs.Replies.{IsReply, failure_attributes}
+use Rattle.turn_desk_grant.proofs.Room.{room_left, text_accepted}
+use Rattle.turn_desk_grant.proofs.Sizes.{failure-length}
 use Rattle.turn_desk_grant.specs.Requests.{IsServed}
 use Rattle.turn_desk_grant.proofs.Methods.{by_method}
 use Rattle.turn_desk_core.specs.State.{State}

@@ -11,7 +11,7 @@ use Rattle.stun_types.specs.MessageClasses.{Success, Error}
 use Rattle.stun_types.specs.Attributes.{kind_at}
 use Rattle.stun_types.specs.Types.{method_of, type_of}
 use Rattle.stun_types.specs.Objections.{error_type}
-use Rattle.turn_desk_reply.specs.Replies.{signed_attributes, success_type}
+use Rattle.turn_desk_grant.specs.Replies.{signed_attributes, success_type}
 use Rattle.turn_desk_grant.proofs.Methods.{by_method}
 use Rattle.turn_desk_grant.specs.declared.decision.Decision.{Decision}
 use Rattle.turn_desk_grant.specs.declared.grant.Grant as granted

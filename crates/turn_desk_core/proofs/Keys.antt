@@ -31,7 +31,7 @@ use Rattle.stun_proto.specs.ServerSigning.{Party, Signer, addition, addition_by,
 use Rattle.stun_proto.specs.ServerValidation.{IsValidated, after_refusal}
 use Rattle.stun_types.specs.Grammar.{number_at}
 use Rattle.stun_proto.specs.ServerValidations.{LongTermServerValidation, Validated}
-use Rattle.turn_desk_reply.specs.Replies.{IsReply, signed_attributes, signed_text}
+use Rattle.turn_desk_grant.specs.Replies.{IsReply, signed_attributes, signed_text}
 use Rattle.turn_desk_grant.specs.declared.verdict.Verdict.{Verdict}
 use Rattle.turn_desk_grant.specs.Requests.{IsServed}
 use Rattle.turn_desk_core.specs.State.{State}

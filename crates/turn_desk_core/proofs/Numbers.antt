@@ -10,7 +10,7 @@ use Rattle.stun_types.specs.Objections.{error_type}
 use Rattle.stun_types.specs.Attributes.{kind_at}
 use Rattle.stun_types.specs.MessageClasses.{Success, Error}
 use Rattle.stun_types.specs.Types.{method_of, type_of}
-use Rattle.turn_desk_reply.specs.Replies.{success_type}
+use Rattle.turn_desk_grant.specs.Replies.{success_type}
 use Rattle.turn_desk_grant.proofs.Methods.{by_method}
 use Rattle.turn_desk_grant.specs.declared.verdict.Verdict.{Verdict}
 use Rattle.turn_desk_grant.specs.declared.verdict.Verdict.TheVariants.{Fails, Allocates, Refreshes, Permits, Binds, Connects, Joins}

@@ -8,7 +8,7 @@ use Rattle.stun_types.specs.Drafts.{Draft}
 use Rattle.stun_types.specs.Objections.{error_type}
 use Rattle.stun_types.specs.Text.{header_text, message_text}
 use Rattle.stun_proto.specs.Judgement.{is_response}
-use Rattle.turn_desk_reply.specs.Replies.{IsReply, success_type}
+use Rattle.turn_desk_grant.specs.Replies.{IsReply, success_type}
 use Rattle.turn_desk_grant.specs.declared.verdict.Verdict.{Verdict}
 use Rattle.turn_desk_grant.specs.declared.verdict.Verdict.TheVariants.{Fails, Allocates, Refreshes, Permits, Binds, Connects, Joins}
 use Rattle.turn_desk_grant.specs.Requests.{IsServed}

@@ -25,8 +25,8 @@ use Rattle.stun_proto.specs.Server.{Server, refreshed}
 use Rattle.stun_proto.specs.ServerAuthErrors.{LongTermServerAuthError, BadRequest, IntegrityFailed, NoMemory, StaleNonce, Unauthorized}
 use Rattle.stun_proto.specs.ServerSigning.{Party, list_for}
 use Rattle.stun_proto.specs.ServerValidation.{Accepts}
-use Rattle.turn_types.specs.TurnRegistry.{connection_id_kind}
-use Rattle.turn_desk_reply.specs.Replies.{failure_attributes, success_type}
+use Rattle.turn_desk_grant.specs.TurnRegistry.{connection_id_kind}
+use Rattle.turn_desk_grant.specs.Replies.{failure_attributes, success_type}
 use Rattle.turn_desk_grant.specs.declared.decision.Decision.{Decision}
 use Rattle.turn_desk_grant.specs.declared.grant.Grant as granted
 use Rattle.turn_desk_grant.specs.declared.verdict.Verdict.{Verdict}

@@ -12,7 +12,7 @@ use Rattle.stun_types.specs.Shape.{kinds_of}
 use Rattle.stun_types.specs.Integrity.{Validates}
 use Rattle.stun_proto.specs.Judgement.{is_response, user_key}
 use Rattle.stun_proto.specs.Server.{Server}
-use Rattle.turn_types.specs.TurnRegistry.{connection_id_kind}
+use Rattle.turn_desk_grant.specs.TurnRegistry.{connection_id_kind}
 use Rattle.turn_desk_grant.specs.declared.decision.Decision.{Decision}
 use Rattle.turn_desk_grant.specs.declared.grant.Grant as granted
 use Rattle.turn_desk_grant.specs.Grants.{IsGrant}

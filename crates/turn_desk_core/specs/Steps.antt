@@ -26,7 +26,7 @@ use Rattle.turn_desk_grant.specs.Grants.{IsGrant}
 use Rattle.turn_desk_core.specs.State.{State}
 use Rattle.turn_desk_grant.specs.Verdicts.{grants_of, reply_attributes, reply_type, verdict_on}
 use Rattle.stun_types.specs.Objections.{error_type}
-use Rattle.turn_desk_reply.specs.Replies.{failure_attributes, signed_attributes, signed_text, success_type}
+use Rattle.turn_desk_grant.specs.Replies.{failure_attributes, signed_attributes, signed_text, success_type}
 use Rattle.stun_types.specs.Registry.{longest_text, most_algorithms}
 use Rattle.stun_types.specs.Registry.{bad_request_code, stale_nonce_code, unauthorized_code}
 

@@ -13,7 +13,7 @@ ghost use Rattle.stun_types.specs.Signing.{signing_refusal};
 ghost use Rattle.stun_types.specs.Registry.{greatest_code, least_code};
 ghost use Rattle.stun_proto.specs.Judgement.{is_response};
 ghost use Rattle.stun_proto.specs.Server.{SameFor, nonce_at, outcome_at, words_drawn};
-ghost use Rattle.turn_desk_reply.specs.Replies.{IsReply};
+ghost use Rattle.turn_desk_grant.specs.Replies.{IsReply};
 ghost use Rattle.turn_desk_grant.specs.declared.grant.Grant.{Grant as Granted};
 ghost use Rattle.turn_desk_core.specs.AuthLending.{LendsAuth};
 ghost use Rattle.turn_desk_grant.specs.Requests.{IsServed};
@@ -30,11 +30,11 @@ use stun_types::attribute::ErrorCode;
 use stun_types::message::{Message, MessageWrite, MessageWriteVec};
 use stun_types::{ListOf, NoMemory};
 use turn_desk_grant::decision::Decision;
+use turn_desk_grant::failure::failure;
 use turn_desk_grant::grant::Grant;
 use turn_desk_grant::reply::{granted_to, reply_to};
 use turn_desk_grant::request::is_served;
 use turn_desk_grant::verdict::verdict_on;
-use turn_desk_reply::failure::failure;
 
 /// A small server core. Contracts see its authenticator and what it granted.
 #[derive(Debug, Drop)]

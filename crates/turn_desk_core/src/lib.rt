@@ -4,3 +4,7 @@
 
 pub mod desk;
 pub mod laws;
+
+// What stands above this crate has these through it.
+pub use stun_proto as proto;
+pub use turn_desk_grant::{decision, grant};

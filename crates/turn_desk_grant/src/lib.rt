@@ -9,3 +9,6 @@ pub mod peers;
 pub mod reply;
 pub mod request;
 pub mod verdict;
+
+// What stands above this crate has these through it.
+pub use turn_desk_reply::failure;

@@ -3,7 +3,7 @@ use Rattle.std.specs.Prelude.{ℕ, ◌≡◌, ◌≤◌, List, [], ◌∷◌, le
 use Rattle.turn_desk_replay.specs.declared.setup.Algorithms.{Algorithms}
 use Rattle.turn_desk_replay.specs.declared.setup.Algorithms.TheVariants.{Sha1, Sha256, Sha1AndSha256, Sha256AndSha1}
 use Rattle.stun_types.specs.IntegrityAlgorithms as integrity
-use Rattle.stun_proto.specs.Features.{Feature, Auto, Required, Disabled}
+use Rattle.turn_desk_core.specs.Features.{Feature, Auto, Required, Disabled}
 use Rattle.turn_desk_replay.specs.declared.setup.TheConstants.{MAX_REALM, MAX_USERNAME}
 use Rattle.turn_desk_replay.specs.declared.setup.Setup.{Setup}
 use Rattle.turn_desk_replay.specs.declared.setup.Setup.TheVariants.{Desk, User}

@@ -12,8 +12,8 @@ use crate::number::{read_seed, read_u64};
 use program_lines::refusal::LineError;
 use std::alloc::Global;
 use std::net::SocketAddr;
-use stun_proto::Instant;
-use turn_desk_grant::decision::Decision;
+use turn_desk_core::decision::Decision;
+use turn_desk_core::proto::Instant;
 
 /// A line that is answered.
 #[derive(Debug, Drop)]

@@ -15,3 +15,9 @@ pub mod line;
 pub mod number;
 pub mod setup;
 pub mod trace;
+
+// What stands above this crate has these through it.
+pub use turn_desk_core::decision::Decision;
+pub use turn_desk_core::desk::Desk;
+pub use turn_desk_core::grant::Grant;
+pub use turn_desk_core::laws;

@@ -2,12 +2,12 @@
 
 ghost use Rattle.std.specs.Prelude.{◌≡◌, ◌≢◌, MatchOption, map};
 ghost use Rattle.turn_desk_replay.specs.declared.setup.Algorithms.{Algorithms};
-ghost use Rattle.stun_proto.specs.Features.{Feature};
+ghost use Rattle.turn_desk_core.specs.Features.{Feature};
 ghost use Rattle.turn_desk_replay.specs.declared.setup.Setup.{Setup};
 ghost use Rattle.turn_desk_replay.specs.Setup.{algorithms_word, anonymity_word, IsDesk, IsUser};
 
-use stun_proto::auth::Feature as Anonymity;
 use stun_types::registry;
+use turn_desk_core::proto::auth::Feature as Anonymity;
 
 /// The most bytes of a realm (RFC 8489, section 14.9).
 pub const MAX_REALM: usize = registry::MAX_TEXT_LENGTH;

@@ -23,10 +23,10 @@ use rand_chacha::ChaCha20Rng;
 use rand_core::SeedableRng;
 use std::alloc::Global;
 use std::io::{Read, Write};
-use stun_proto::auth::{Feature, LongTermServerAuth};
 use stun_types::NoMemory;
 use stun_types::message::{IntegrityAlgorithm, LongTermCredentials};
 use turn_desk_core::desk::Desk;
+use turn_desk_core::proto::auth::{Feature, LongTermServerAuth};
 
 /// Reads a trace whole, does what its lines say, and prints one line for each event line. At the
 /// first bad line it prints `bad trace: line N`, lines counted from 1; where memory is refused `no

@@ -6,7 +6,7 @@ use Rattle.stun_proto.specs.Server.{nonce_at}
 use Rattle.stun_proto.specs.ServerAuthErrors.{LongTermServerAuthError}
 use Rattle.turn_desk_core.specs.State.{State}
 use Rattle.turn_desk_core.specs.Steps.{IsTurnedReply, refusal_attributes}
-use Rattle.turn_desk_reply.specs.Replies.{failure_attributes}
+use Rattle.turn_desk_grant.specs.Replies.{failure_attributes}
 use Rattle.turn_desk_core.proofs.Challenges.{keeps_nonce, plain_reply}
 use Rattle.turn_desk_core.proofs.desk.Desk.turn_away.Goals as goal
 
