@@ -11,8 +11,8 @@ use std::process::Abort;
 use std::test::Fail;
 use stun_types::TransportType;
 use stun_types::message::{Method, TransactionId};
-use turn_desk::{Decision, Desk, Grant};
 use turn_desk_replay::event::{ToDesk, read_to_desk};
+use turn_desk_replay::{Decision, Desk, Grant};
 
 /// A request that is challenged, with a number of its own.
 pub(crate) const UNSIGNED: &str =

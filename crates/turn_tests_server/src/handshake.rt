@@ -14,7 +14,7 @@ use std::test::Fail;
 use stun_proto::auth::{Feature, LongTermClientAuth};
 use stun_proto_claim::claim::Claim;
 use stun_types::message::{IntegrityAlgorithm, Message, MessageClass};
-use turn_desk::Desk;
+use turn_desk_replay::Desk;
 
 /// The server's algorithms and whether it offers hashed names; the client's and whether it hides its
 /// name. Then the algorithm by which both sign, or `unsupported`, and how the request names the user

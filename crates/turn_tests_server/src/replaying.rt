@@ -5,8 +5,8 @@ use program_lines::input::MAX_INPUT;
 use program_lines::status::Status;
 use std::io;
 use std::io::{Error, ErrorKind, Read, Write};
-use turn_desk::replay;
 use turn_desk_replay::answer::reply_line;
+use turn_desk_replay::trace::replay;
 
 /// A reader of a remark of so many bytes, behind which it fails or ends.
 #[derive(Drop)]

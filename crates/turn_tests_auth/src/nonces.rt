@@ -63,7 +63,7 @@ fn features_of_nonces(rt: HostRuntime) -> Result<(), Fail> {
 }
 
 /// The first nonce of the zero seed.
-const ZERO: &str = "obMatJos2QAAAgyiDbICXwPDaQ1ha";
+pub(crate) const ZERO: &str = "obMatJos2QAAAgyiDbICXwPDaQ1ha";
 
 /// The same of a server that takes no hashed names.
 const WITHOUT_HASHES: &str = "obMatJos2AAAAgyiDbICXwPDaQ1ha";

@@ -1,7 +1,8 @@
 //! Keys of credentials, and what they sign.
 
-use crate::rows::words;
 use hex::FromHex;
+use program_lines::cut::is_skipped;
+use program_lines::word::pieces;
 use std::process::Abort;
 use std::test::Fail;
 use stun_types::attribute::{MessageIntegrity, MessageIntegritySha256};
@@ -147,8 +148,7 @@ fn keys_of(credentials: &MessageIntegrityCredentials) -> [IntegrityKey<'_>; 2] {
 
 /// The HMACs of a row hold.
 fn row_holds(rt: &(impl Abort + AllocGlobal), row: &str) -> Result<(), Fail> {
-    match words(rt.alloc(), row)?.as_slice() {
-        [] => {}
+    match pieces(rt.alloc(), row, ' ')?.as_slice() {
         [password, name, realm, text, sha1, sha256] => {
             let (sha1, sha256) = (<[u8; 20]>::from_hex(*sha1)?, <[u8; 32]>::from_hex(*sha256)?);
             let text = hex::decode(rt.alloc(), *text)?;
@@ -165,7 +165,9 @@ fn row_holds(rt: &(impl Abort + AllocGlobal), row: &str) -> Result<(), Fail> {
 #[test]
 fn keys_of_credentials(rt: HostRuntime) -> Result<(), Fail> {
     for row in SIGNED.lines() {
-        row_holds(&rt, row)?;
+        if !is_skipped(row.as_bytes()) {
+            row_holds(&rt, row)?;
+        }
     }
     // keys are equal by their bytes, for whatever algorithm they were made
     let (sha1, sha256) = (IntegrityAlgorithm::Sha1, IntegrityAlgorithm::Sha256);

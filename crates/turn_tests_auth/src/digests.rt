@@ -1,7 +1,8 @@
 //! Digests of texts.
 
-use crate::rows::words;
 use hex::FromHex;
+use program_lines::cut::is_skipped;
+use program_lines::word::pieces;
 use std::process::Abort;
 use std::test::Fail;
 use stun_types::attribute::Fingerprint;
@@ -51,8 +52,7 @@ fn are_hmacs(rt: &impl Abort, key: &[u8], text: &[u8], sha1: [u8; 20], sha256: [
 
 /// The HMACs of a row hold.
 fn row_holds(rt: &(impl Abort + AllocGlobal), row: &str) -> Result<(), Fail> {
-    match words(rt.alloc(), row)?.as_slice() {
-        [] => {}
+    match pieces(rt.alloc(), row, ' ')?.as_slice() {
         [key, text, sha1, sha256] => {
             let (sha1, sha256) = (<[u8; 20]>::from_hex(*sha1)?, <[u8; 32]>::from_hex(*sha256)?);
             let key = hex::decode(rt.alloc(), *key)?;
@@ -67,7 +67,9 @@ fn row_holds(rt: &(impl Abort + AllocGlobal), row: &str) -> Result<(), Fail> {
 #[test]
 fn hmacs_of_texts(rt: HostRuntime) -> Result<(), Fail> {
     for row in HMACS.lines() {
-        row_holds(&rt, row)?;
+        if !is_skipped(row.as_bytes()) {
+            row_holds(&rt, row)?;
+        }
     }
     let shown = format!(in rt.alloc(); "{:?}", HmacSha1::new(b"secret"))?;
     assert!(rt; shown.as_str() == "Hmac { .. }", "a key is shown");

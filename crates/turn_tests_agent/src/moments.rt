@@ -2,7 +2,7 @@
 
 use std::process::Abort;
 use std::time::Duration;
-use stun_proto::Instant;
+use stun_proto_schedule::instant::Instant;
 
 /// What is added to a moment, both in nanoseconds, and the sum, where there is one: else the greatest
 /// moment stands for it.
