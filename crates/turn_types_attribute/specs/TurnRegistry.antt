@@ -36,6 +36,10 @@ connect_method = 0x00A
 abbrev pub connection_bind_method : ℕ
 connection_bind_method = 0x00B
 
+-- CONNECTION_ATTEMPT (RFC 6062, section 6.1)
+abbrev pub connection_attempt_method : ℕ
+connection_attempt_method = 0x00C
+
 -- ---- types of attributes
 
 -- CHANNEL-NUMBER (section 18.1)

@@ -1,0 +1,127 @@
+-- Whatever the network does, each step of a run is safe, and nothing is told twice.
+use Rattle.std.proofs.Common.{inl, inr, ◌≤◌, List, [], ◌∷◌, refl, sym, subst, arith}
+use Rattle.turn_runs.specs.Words.{Words, WireLaws}
+use Rattle.turn_runs.specs.Steps.{Call, ClientStep, DeskStep}
+use Rattle.turn_runs.specs.Runs.{Step, AtClient, AtDesk, AtEach, Leads, IsLawful, IsSignedByClient, IsSignedByDesk, IsSigned, AreDistinct, IsAuthentic, NoForgery, IsNew, IsUnforged}
+use Rattle.turn_runs.specs.Headline.{IsSafe, AnswersOnce}
+use Rattle.turn_runs.proofs.Tools.{both_at, some_weaker, from_some}
+use Rattle.turn_runs.proofs.Numbers.{numbered_growing}
+use Rattle.turn_runs.proofs.Keeps.{Kept, DrewWell, not_own, by_desk, past_of, request_drawn, traced_later, with_later, handled_signed, keeps_call}
+
+module _ {C D : Type 0} (W : Words C D) (laws : WireLaws W.wire) (first last : C) (distinct : AreDistinct W (W.client.seed first) (W.client.count last)) where
+  keeps_desk : (earlier : List (Step C D)) (d : D) (c : C) → Kept W first earlier c → Kept W first (AtDesk d ∷ earlier) c
+  keeps_desk earlier d c kept = record {
+    account = kept.account;
+    seed = kept.seed;
+    all = kept.all;
+    numbered = kept.numbered;
+    unique = kept.unique;
+    requests = kept.requests;
+    outstanding = kept.outstanding;
+    queued = kept.queued;
+    taken = kept.taken;
+    attempted = kept.attempted;
+    drew = (tt, kept.drew);
+    kept = λ h k. traced_later W laws (AtDesk d) earlier h (kept.kept h k);
+    waits = λ number peer w. let h = kept.waits number peer w in (h.0, inr h.1);
+    buffered = λ bytes key text a b own valid. inr (kept.buffered bytes key text a b own valid);
+    pending = kept.pending;
+    pending_is = kept.pending_is;
+    pending_traced = λ t i. with_later W laws (AtDesk d) earlier t (kept.pending_traced t i);
+    pending_of = kept.pending_of;
+    pending_once = kept.pending_once;
+    told = kept.told;
+    told_is = kept.told_is;
+    told_once = kept.told_once;
+    apart = kept.apart;
+    gone = kept.gone;
+  }
+
+  safe_desk : (earlier : List (Step C D)) (d : D) (c : C) → Kept W first earlier c → DeskStep W.wire W.desk d →
+      AtEach (λ s _. IsLawful W s) earlier → NoForgery W first (W.client.count last) earlier → IsAuthentic W first (W.client.count last) (AtDesk d) earlier →
+      IsSafe W first last (AtDesk d) earlier
+  safe_desk earlier d c kept step lawful no_forgery authentic = record {
+    desks = tt;
+    clients = λ key b m own validated shows is has.
+        let v = step.validates key b validated in (
+          v.0,
+          v.1,
+          some_weaker _ (λ one _. IsSignedByClient W key b v.0 one) (λ one _ h. h.0) earlier
+              (request_drawn W laws first (W.client.count last) kept.all d earlier key v.0 b m authentic
+              (past_of W laws first (W.client.count last) kept.all earlier no_forgery kept.drew lawful) own v.1 shows is has),
+        );
+    reflects = tt;
+    holds = tt;
+    names = tt;
+  }
+
+  safe_call : (earlier : List (Step C D)) (call : Call C) → Kept W first earlier call.before → (step : ClientStep W.client call) →
+      AtEach (λ s _. IsLawful W s) earlier → NoForgery W first (W.client.count last) earlier → IsAuthentic W first (W.client.count last) (AtClient call) earlier → W.client.count call.after ≤ W.client.count last →
+      Kept W first (AtClient call ∷ earlier) call.after → IsSafe W first last (AtClient call) earlier
+  safe_call earlier call kept step lawful no_forgery authentic fits after = record {
+    desks = λ bytes key text a m came own valid shows responds.
+        some_weaker _ (λ one _. IsSignedByDesk W key a text one)
+        (λ one before h. by_desk W laws kept.all kept.requests bytes key text a m valid shows responds one h.1 h.0)
+        earlier (both_at (λ s _. DrewWell W kept.all s) (λ one _. IsSigned W key a text one) earlier kept.drew (handled_signed W laws first (W.client.count last) distinct earlier call kept step lawful no_forgery authentic fits bytes key text a came own valid));
+    clients = tt;
+    reflects = λ bytes key text a m came valid shows responds signed.
+        from_some _ ⊥ (λ one before h. not_own W laws kept.all kept.requests bytes key text a m valid shows responds one h.1 h.0)
+        earlier (both_at (λ s _. DrewWell W kept.all s) (λ one _. IsSignedByClient W key a text one) earlier kept.drew signed);
+    holds = λ h k. after.kept h (step.shows h k);
+    names = λ p i. let n = step.names p i in (n.0, n.1, n.2, after.kept n.0 n.2);
+  }
+
+  safe_from : IsNew W first → (run : List (Step C D)) (c : C) → Leads first run c → AtEach (λ s _. IsLawful W s) run → NoForgery W first (W.client.count last) run →
+      W.client.count c ≤ W.client.count last → Kept W first run c × AtEach (IsSafe W first last) run
+  safe_from new [] c leads lawful no_forgery fits = (
+    subst (λ (x : C). Kept W first [] x) (sym leads) (record {
+      account = refl;
+      seed = refl;
+      all = [];
+      numbered = λ m i. absurd i;
+      unique = λ a b i j e. absurd i;
+      requests = λ m i. absurd i;
+      outstanding = λ m o. absurd (new.none_outstanding m o);
+      queued = λ m o. absurd (new.none_queued m o);
+      taken = λ n t. absurd (new.none_taken n t);
+      attempted = new.none_attempted;
+      drew = tt;
+      kept = λ h k. absurd (new.none_kept h k);
+      waits = λ number peer w. absurd (new.none_waits number peer w);
+      buffered = λ bytes key text a b own valid. absurd (new.none_buffered bytes b);
+      pending = [];
+      pending_is = sym new.none_created;
+      pending_traced = λ t i. absurd i;
+      pending_of = λ t i. absurd i;
+      pending_once = tt;
+      told = [];
+      told_is = refl;
+      told_once = tt;
+      apart = λ t u i j e. i;
+      gone = λ t i. elim i [
+        | inl p ↦ absurd p
+        | inr q ↦ absurd q
+      ];
+    }),
+    tt,
+  )
+  safe_from new (AtDesk d ∷ earlier) c leads lawful no_forgery fits =
+      let h = safe_from new earlier c leads lawful.1 no_forgery.1 fits in
+      (keeps_desk earlier d c h.0, (safe_desk earlier d c h.0 lawful.0 lawful.1 no_forgery.1 no_forgery.0, h.1))
+  safe_from new (AtClient call ∷ earlier) c leads lawful no_forgery fits =
+      let step : ClientStep W.client call = lawful.0 in
+      let there : W.client.count call.after ≤ W.client.count last = subst (λ (x : C). W.client.count x ≤ W.client.count last) leads.0 fits in
+      let grows = numbered_growing W.client call.before (W.client.count call.before) (W.client.count call.after) [] step.begun step.numbered in
+      let h = safe_from new earlier call.before leads.1 lawful.1 no_forgery.1 (omega (arith, grows, there)) in
+      let kept : Kept W first earlier call.before = h.0 in
+      let after = keeps_call W laws first (W.client.count last) distinct earlier call kept step lawful.1 no_forgery.1 no_forgery.0 there in (
+        subst (λ (x : C). Kept W first (AtClient call ∷ earlier) x) (sym leads.0) after,
+        (safe_call earlier call kept step lawful.1 no_forgery.1 no_forgery.0 there after, h.1),
+      )
+
+-- the headline: each step is safe, and nothing is told twice in answer to one request
+pub safe : {C D : Type 0} (W : Words C D) → WireLaws W.wire → (first : C) (run : List (Step C D)) (last : C) → IsUnforged W first run last →
+    AtEach (IsSafe W first last) run × AnswersOnce W run
+safe W laws first run last is =
+    let h = safe_from W laws first last is.distinct is.new run last is.leads is.lawful is.authentic (omega arith) in
+    (h.1, (h.0.told, h.0.told_is, h.0.told_once))

@@ -1,0 +1,8 @@
+use Rattle.turn_runs.proofs.Safe.{safe}
+use Rattle.turn_runs.proofs.runs_are_safe.Goals as goal
+
+pub returns : goal.returns
+returns g c = record {
+  steps = λ first run last is. (safe g.L.Layers.words g.L.Layers.laws first run last is).0;
+  once = λ first run last is. (safe g.L.Layers.words g.L.Layers.laws first run last is).1;
+}

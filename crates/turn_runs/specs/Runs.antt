@@ -1,0 +1,98 @@
+-- Runs of a client and a desk, the newest step first: behind each stand those that came before it.
+use Rattle.std.specs.Prelude.{◌≡◌, ◌≢◌, ◌⊎◌, ℕ, ◌<◌, List, [], ◌∷◌, Some}
+use Rattle.turn_runs.specs.Members.{IsIn}
+use Rattle.turn_runs.specs.Messages.{Message, Held}
+use Rattle.turn_runs.specs.Names.{SocketAddr, IntegrityAlgorithm}
+use Rattle.turn_runs.specs.Words.{Words}
+use Rattle.turn_runs.specs.Steps.{Call, IsOwnKey, ClientStep, DeskStep}
+
+pub data Step (C D : Type 0) : Type 0 where
+  AtClient : (call : Call C) → Step C D
+  AtDesk : (d : D) → Step C D
+
+-- at some step of the run, with the steps before it
+abbrev pub AtSome : {S : Type 0} → (S → List S → Type 0) → List S → Type 0
+AtSome P [] = ⊥
+AtSome P (s ∷ earlier) = P s earlier ⊎ AtSome P earlier
+
+-- at each step of the run, with the steps before it
+abbrev pub AtEach : {S : Type 0} → (S → List S → Type 0) → List S → Type 0
+AtEach P [] = Unit {0}
+AtEach P (s ∷ earlier) = P s earlier × AtEach P earlier
+
+-- the run leads the client from one state to another; the desk's steps leave it alone
+abbrev pub Leads : {C D : Type 0} → C → List (Step C D) → C → Type 0
+Leads first [] last = last ≡ first
+Leads first (AtClient call ∷ earlier) last = (last ≡ call.after) × Leads first earlier call.before
+Leads first (AtDesk d ∷ earlier) last = Leads first earlier last
+
+module _ {C D : Type 0} (W : Words C D) where
+  -- the step is one by the contracts
+  abbrev pub IsLawful : Step C D → Type 0
+  IsLawful (AtClient call) = ClientStep W.client call
+  IsLawful (AtDesk d) = DeskStep W.wire W.desk d
+
+  -- one of this client's keys
+  abbrev pub IsKeyOf : C → List ℕ → Type 0
+  IsKeyOf c key = IsOwnKey W.wire (W.client.account c) key
+
+  -- a text under a key was signed by the client at this step, in what it drew
+  abbrev pub IsSignedByClient : (key : List ℕ) → IntegrityAlgorithm → (text : List ℕ) → Step C D → Type 0
+  IsSignedByClient key a text (AtClient call) =
+      (bytes : List ℕ) × (call.drawn ≡ Some bytes) × W.wire.Validates bytes key a text
+  IsSignedByClient key a text (AtDesk d) = ⊥
+
+  -- a text under a key was signed by the desk at this step: it is covered in the reply to bytes
+  -- that the desk validated with that key
+  abbrev pub IsSignedByDesk : (key : List ℕ) → IntegrityAlgorithm → (text : List ℕ) → Step C D → Type 0
+  IsSignedByDesk key a text (AtClient call) = ⊥
+  IsSignedByDesk key a text (AtDesk d) =
+      (reply : List ℕ) × (W.desk.reply d ≡ Some reply) × W.wire.Covers reply a text
+      × ((b : IntegrityAlgorithm) × W.desk.ValidatedWith d key b)
+
+  abbrev pub IsSigned : (key : List ℕ) → IntegrityAlgorithm → (text : List ℕ) → Step C D → Type 0
+  IsSigned key a text s = IsSignedByClient key a text s ⊎ IsSignedByDesk key a text s
+
+  -- it was signed before, by either side
+  abbrev pub WasSigned : (key : List ℕ) → IntegrityAlgorithm → (text : List ℕ) → List (Step C D) → Type 0
+  WasSigned key a text earlier = AtSome (λ one _. IsSigned key a text one) earlier
+
+  -- one of the first numbers of the stream of a seed
+  abbrev pub HasNumber : (seed : W.wire.Seed) → (count : ℕ) → ℕ → Type 0
+  HasNumber seed count n = (place : ℕ) × (place < count) × (n ≡ W.wire.number seed place)
+
+  abbrev pub AreDistinct : (seed : W.wire.Seed) → (count : ℕ) → Type 0
+  AreDistinct seed count = (i j : ℕ) → i < j → j < count → W.wire.number seed i ≢ W.wire.number seed j
+
+  -- what arrives at the client, or at the desk with a number of the client's, and validates with a
+  -- client's key was signed before
+  abbrev pub IsAuthentic : (first : C) → (count : ℕ) → Step C D → List (Step C D) → Type 0
+  IsAuthentic first count (AtClient call) earlier =
+      (bytes key text : List ℕ) (a : IntegrityAlgorithm) → IsIn bytes call.came → IsKeyOf first key →
+      W.wire.Validates bytes key a text → WasSigned key a text earlier
+  IsAuthentic first count (AtDesk d) earlier =
+      (key text : List ℕ) (a : IntegrityAlgorithm) (m : Message) → IsKeyOf first key →
+      W.wire.Validates (W.desk.request d) key a text → W.wire.shown (W.desk.request d) ≡ Some m →
+      HasNumber (W.client.seed first) count m.number → WasSigned key a text earlier
+
+  abbrev pub NoForgery : (first : C) → (count : ℕ) → List (Step C D) → Type 0
+  NoForgery first count run = AtEach (IsAuthentic first count) run
+
+  -- a client of which nothing was asked yet
+  pub record IsNew (c : C) : Type 0 where
+    pub none_outstanding : (m : Message) → W.client.IsOutstanding c m → ⊥
+    pub none_queued : (m : Message) → W.client.IsQueued c m → ⊥
+    pub none_taken : (n : ℕ) → W.client.IsTaken c n → ⊥
+    pub none_kept : (h : Held) → W.client.IsKept c h → ⊥
+    pub none_waits : (number : ℕ) (peer : SocketAddr) → W.client.Waits c number peer → ⊥
+    pub none_attempted : (n : ℕ) → W.client.IsAttempted c n → ⊥
+    pub none_buffered : (bytes : List ℕ) → W.client.IsBuffered c bytes → ⊥
+    pub none_created : W.client.created c ≡ []
+
+  -- a lawful run of a new client, where nothing is forged and no number comes twice
+  pub record IsUnforged (first : C) (run : List (Step C D)) (last : C) : Type 0 where
+    pub new : IsNew first
+    pub leads : Leads first run last
+    pub lawful : AtEach (λ s _. IsLawful s) run
+    pub authentic : NoForgery first (W.client.count last) run
+    pub distinct : AreDistinct (W.client.seed first) (W.client.count last)

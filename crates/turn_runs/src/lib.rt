@@ -1,0 +1,41 @@
+//! Runs of a TURN client and a server core over a hostile network (RFC 8656, RFC 6062). If each step of
+//! either side keeps its promises, all that the client holds was granted by the server in answer to that
+//! very request.
+//!
+//! `specs/Words.antt` has the words that the layers give a meaning: what bytes show, what a client keeps,
+//! what a desk did. `specs/Steps.antt` has what a step of either side promises in these words, and
+//! `specs/Headline.antt` what then holds of a run.
+#![tactic(auto)]
+
+ghost use Rattle.std.specs.Prelude.{◌≡◌, ℕ, List};
+ghost use Rattle.turn_runs.specs.Words.{Words, WireLaws};
+ghost use Rattle.turn_runs.specs.Runs.{Step, AtEach, IsUnforged};
+ghost use Rattle.turn_runs.specs.Headline.{IsSafe, AnswersOnce};
+
+/// The layers that a run is told of: what is said of bytes, of a client and of a desk. It has no code.
+/// The law holds for every one.
+pub trait Layers {
+    ghost Client: { Type 0 };
+
+    ghost Desk: { Type 0 };
+
+    ghost words: { Words Client Desk };
+
+    ghost laws: { WireLaws words.wire };
+}
+
+/// Whatever the network loses, repeats, reorders or invents, each step of a lawful run is safe, where
+/// nothing is forged under a client's key and no number comes twice (`IsUnforged`).
+///
+/// A response that the client takes up was signed by the desk, and a request that the desk accepts under a
+/// client's number was signed by the client. No response that is taken up is the client's own text. All
+/// that the client holds was granted in answer to that very request, and each payload names a peer so
+/// granted. Nothing is told as created twice in answer to one request.
+pub fn runs_are_safe<L: Layers>()
+    ensures steps { (first : L.Client) (run : List (Step L.Client L.Desk)) (last : L.Client)
+        → IsUnforged L.words first run last
+        → AtEach (IsSafe L.words first last) run }
+    ensures once { (first : L.Client) (run : List (Step L.Client L.Desk)) (last : L.Client)
+        → IsUnforged L.words first run last
+        → AnswersOnce L.words run }
+{}
