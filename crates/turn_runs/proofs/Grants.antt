@@ -1,5 +1,5 @@
 -- What was asked for, granted and brought by the reply is what the grant is of.
-use Rattle.std.proofs.Common.{◌≡◌, ℕ, List, ◌⊎◌, inl, inr, Some, sym, ◌∙◌, subst}
+use Rattle.std.proofs.Common.{◌≡◌, ℕ, List, refl, ◌⊎◌, inl, inr, Some, sym, ◌∙◌, subst}
 use Rattle.turn_runs.specs.Members.{IsIn}
 use Rattle.turn_runs.specs.Messages.{Message, Allocation, Permission, Channel, Connection, Gain, Holds, Knows, HasIp, Asks, Brings, IsResponse, Grant, IsGrantFor, GrantIs}
 use Rattle.turn_runs.specs.Names.{SocketAddr, IpAddr, MessageClass, Request, Indication, Success, Error}
@@ -11,18 +11,18 @@ pub granted_is : (q r : Message) (g : Grant) (gain : Gain) → IsGrantFor q r g 
 granted_is q r g (Holds (Allocation transport address)) for asks brings =
     let e = for.allocates asks.0 in
     (for.method_is ∙ asks.0, e.0 ∙ asks.1, subst (λ (l : List SocketAddr). IsIn address l) e.1 brings.1)
-granted_is q r g (Holds (Permission transport ip)) for asks brings = elim asks.0 [
-  | inl e ↦ (inl (for.method_is ∙ e), same_ip ip q.peers g.peers (for.permits e) asks.1)
-  | inr e ↦ (inr (for.method_is ∙ e), same_ip ip q.peers g.peers (for.binds e).1 asks.1)
+granted_is q r g (Holds (Permission transport ip)) for asks brings = elim asks [
+  | inl e ↦ (inl (for.method_is ∙ e.0), same_ip ip q.peers g.peers (for.permits e.0) e.1)
+  | inr e ↦ (inr (for.method_is ∙ e.0), record { peer = e.1.0; listed = subst (λ (l : List SocketAddr). IsIn e.1.0 l) (sym ((for.binds e.0).1 e.1.0 e.1.1)) (inl refl); ip_is = e.1.2 })
 ]
 granted_is q r g (Holds (Channel number peer)) for asks brings =
     let e = for.binds asks.0 in
-    (for.method_is ∙ asks.0, e.0 ∙ asks.1, e.1 ∙ asks.2)
+    (for.method_is ∙ asks.0, e.0 ∙ asks.1, e.1 peer asks.2)
 granted_is q r g (Holds (Connection local peer number)) for asks brings =
     (for.method_is ∙ asks.0, for.attaches asks.0 ∙ asks.1)
 granted_is q r g (Knows number peer) for asks brings =
     let e = for.connects asks.0 in
-    (for.method_is ∙ asks.0, e.0 ∙ asks.1, sym e.1 ∙ brings.1)
+    (for.method_is ∙ asks.0, e.0 peer asks.1, sym e.1 ∙ brings.1)
 
 -- what brings something is a success, or a failure that shows a connection's number
 pub brings_by : (m : Message) (gain : Gain) → Brings m gain → (m.class ≡ Success) ⊎ ((m.class ≡ Error) × ((n : ℕ) × (m.connection ≡ Some n)))

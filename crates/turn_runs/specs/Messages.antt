@@ -43,15 +43,22 @@ pub record HasIp (ip : IpAddr) (peers : List SocketAddr) : Type 0 where
   pub listed : IsIn peer peers
   pub ip_is : socket_ip peer ≡ ip
 
--- a request that opens the way to a peer
+-- a method that opens the way to a peer
 abbrev pub Permits : ℕ → Type 0
 Permits method = (method ≡ create_permission_method) ⊎ (method ≡ channel_bind_method)
+
+-- a request that opens the way to this IP: a CREATE_PERMISSION that names a peer of it among others, or
+-- a CHANNEL_BIND to one peer, which has it
+abbrev pub Opens : Message → IpAddr → Type 0
+Opens m ip = ((m.method ≡ create_permission_method) × HasIp ip m.peers)
+    ⊎ ((m.method ≡ channel_bind_method)
+    × ((peer : SocketAddr) × (m.peers ≡ peer ∷ []) × (socket_ip peer ≡ ip)))
 
 -- the request asks for this
 abbrev pub Asks : Message → Gain → Type 0
 Asks m (Holds (Allocation transport address)) =
     (m.method ≡ allocate_method) × (m.transport ≡ Some transport)
-Asks m (Holds (Permission transport ip)) = Permits m.method × HasIp ip m.peers
+Asks m (Holds (Permission transport ip)) = Opens m ip
 Asks m (Holds (Channel number peer)) =
     (m.method ≡ channel_bind_method) × (m.channel ≡ Some number) × (m.peers ≡ peer ∷ [])
 Asks m (Holds (Connection local peer number)) =
@@ -84,6 +91,11 @@ pub record Grant : Type 0 where
   pub channel : Option ℕ
   pub connection : Option ℕ
 
+-- the grant is of the peer that the request names, where it names one alone; of several the first
+-- decides (RFC 8489, section 14)
+abbrev pub IsOfOnePeer : Message → Grant → Type 0
+IsOfOnePeer request grant = (peer : SocketAddr) → request.peers ≡ peer ∷ [] → grant.peers ≡ peer ∷ []
+
 -- the grant is of what the request asks for, and the response shows it
 pub record IsGrantFor (request response : Message) (grant : Grant) : Type 0 where
   pub method_answered : response.method ≡ request.method
@@ -96,9 +108,9 @@ pub record IsGrantFor (request response : Message) (grant : Grant) : Type 0 wher
   pub refreshes : request.method ≡ refresh_method → response.lifetime ≡ grant.lifetime
   pub permits : request.method ≡ create_permission_method → grant.peers ≡ request.peers
   pub binds : request.method ≡ channel_bind_method →
-      (grant.channel ≡ request.channel) × (grant.peers ≡ request.peers)
+      (grant.channel ≡ request.channel) × IsOfOnePeer request grant
   pub connects : request.method ≡ connect_method →
-      (grant.peers ≡ request.peers) × (response.connection ≡ grant.connection)
+      IsOfOnePeer request grant × (response.connection ≡ grant.connection)
   pub attaches : request.method ≡ connection_bind_method → grant.connection ≡ request.connection
 
 -- the grant is of this
