@@ -178,11 +178,11 @@ challenge_step old new from bytes reply now stream decision served away =
     }
 
 -- a request that is accepted validates under the key of its user
-record IsValidUnder (bytes key : List ℕ) (algorithm : IntegrityAlgorithm) : Type 0 where
-  text : List ℕ
-  valid : Validates bytes key algorithm text
+pub record IsValidUnder (bytes key : List ℕ) (algorithm : IntegrityAlgorithm) : Type 0 where
+  pub text : List ℕ
+  pub valid : Validates bytes key algorithm text
 
-accepted_valid : (old : Server) (from : SocketAddr) (bytes : List ℕ) (now : ℕ) (stream : Stream) (name password : List ℕ) (algorithm : IntegrityAlgorithm) → Accepts (refreshed old from now stream) from bytes algorithm name
+pub accepted_valid : (old : Server) (from : SocketAddr) (bytes : List ℕ) (now : ℕ) (stream : Stream) (name password : List ℕ) (algorithm : IntegrityAlgorithm) → Accepts (refreshed old from now stream) from bytes algorithm name
     → map.get old.users name ≡ Some password → IsValidUnder bytes (user_key old.realm name password algorithm) algorithm
 accepted_valid old from bytes now stream name password algorithm accepts present =
     let r = refreshed old from now stream in
