@@ -6,6 +6,7 @@ pub mod ClientValidations
 pub mod Features
 pub mod ServerAuthErrors
 pub mod ServerValidations
+pub use Rattle.stun_proto_agent.specs.AgentChanges
 pub use Rattle.stun_proto_agent.specs.AgentRest
 pub use Rattle.stun_proto_agent.specs.Agents
 pub use Rattle.stun_proto_agent.specs.Handling

@@ -14,7 +14,7 @@ use Rattle.stun_types.specs.SocketAddrs.{socket_addr_cmp, socket_addr_cmp_total,
 use Rattle.stun_proto_transaction.specs.Agents.{Transaction, changed, integrity_of, is_due, is_ended, is_over, next_moment, transmitted}
 use Rattle.stun_types.specs.IntegrityAlgorithms.{IntegrityAlgorithm}
 use Rattle.stun_proto_transaction.specs.declared.transaction.Change.{Change}
-use Rattle.stun_proto_agent.specs.Least.{IsLeast, least_of}
+use Rattle.stun_proto_agent.specs.Least.{IsLeast, IsLeastOf}
 use Rattle.stun_proto_schedule.specs.Moments.{moment_after}
 use Rattle.stun_proto_schedule.specs.Schedule.{Waits}
 use Rattle.stun_proto_agent.specs.Sending.{NoneDue, begun, is_due_of, kept_under}
@@ -22,7 +22,7 @@ use Rattle.stun_proto_transaction.specs.declared.transaction.Cancelled.TheVarian
 use Rattle.stun_proto_agent.specs.State.{Agent, IsNext, NoneEnded, is_tcp, longest_wait}
 use Rattle.stun_proto_agent.specs.View.{agent_of}
 use Rattle.stun_proto_agent.specs.declared.agent.StunAgent.TheInside.{Inside}
-use Rattle.stun_proto_agent.proofs.Leasts.{Entry, found_kept, found_least, found_passes, least_below, least_reached, least_within, none_passes}
+use Rattle.stun_proto_agent.proofs.Leasts.{Entry, below_found, found_kept, found_least, found_passes, given_by, none_passes}
 
 itself : {A : Type 0} (found : Option A) → option_map (λ (a : A). a) found ≡ found
 itself None = refl
@@ -124,29 +124,31 @@ ended_is s agent now result view_is ordered kept told = subst (EndedIs agent now
 -- ---- what comes next
 
 pub next_is : (s : Inside) (agent : Agent) (now least : ℕ) → agent_of s ≡ agent → now ≤ moment_after now longest_wait → Kept s.outstanding
-    → least ≡ least_of (moment_after now longest_wait) (map_list (λ e. next_moment (is_tcp agent.transport) e.1) s.outstanding.entries) → IsNext agent now (max now least)
+    → IsLeastOf (moment_after now longest_wait) (map_list (λ e. next_moment (is_tcp agent.transport) e.1) s.outstanding.entries) least → IsNext agent now (max now least)
 next_is s agent now least view_is hour kept told =
     let most = moment_after now longest_wait in
     let next = next_moment (is_tcp agent.transport) in
-    let within = least_within most (map_list (λ e. next e.1) s.outstanding.entries) in
+    let within = told.within in
     record {
       from_now = omega arith;
-      within = (let all : max now least ≤ most = omega (arith, told, within, hour) in all);
+      within = (let all : max now least ≤ most = omega (arith, within, hour) in all);
       no_later = λ number t there.
-          let below = least_below next most s.outstanding.entries number t (sym (get_number s agent number view_is) ∙ there) in
-          (let all : max now least ≤ max now (next t) = omega (arith, told, below) in all);
-      reached = elim (least_reached (λ e. tree.get nat_cmp s.outstanding e.0 ≡ Some e.1) next most s.outstanding.entries kept) [
-        | inl same ↦ inl (let all : max now least ≡ most = omega (arith, told, same, hour) in all)
-        | inr found ↦ inr (found.0.0, found.0.1, get_number s agent found.0.0 view_is ∙ found.1, (let all : max now least ≡ max now (next found.0.1) = ap (max now) (told ∙ found.2) in all))
+          let below = below_found next least s.outstanding.entries number t told.below (sym (get_number s agent number view_is) ∙ there) in
+          (let all : max now least ≤ max now (next t) = omega (arith, below) in all);
+      reached = elim told.reached [
+        | inl same ↦ inl (let all : max now least ≡ most = omega (arith, same, hour) in all)
+        | inr found ↦
+            let given = given_by (λ e. tree.get nat_cmp s.outstanding e.0 ≡ Some e.1) next least s.outstanding.entries kept found in
+            inr (given.0.0, given.0.1, get_number s agent given.0.0 view_is ∙ given.1, ap (max now) given.2)
       ];
     }
 
 -- the same, by what is told of the longest wait and of the transport
 pub next_by : (s : Inside) (agent : Agent) (now least until most : ℕ) (tcp : Bool) → agent_of s ≡ agent → now ≤ most → Kept s.outstanding
-    → most ≡ moment_after now longest_wait → tcp ≡ is_tcp agent.transport → least ≡ least_of most (map_list (λ e. next_moment tcp e.1) s.outstanding.entries) → until ≡ max now least → IsNext agent now until
+    → most ≡ moment_after now longest_wait → tcp ≡ is_tcp agent.transport → IsLeastOf most (map_list (λ e. next_moment tcp e.1) s.outstanding.entries) least → until ≡ max now least → IsNext agent now until
 next_by s agent now least until most tcp view_is later kept hour transport told is =
-    let least_is = told ∙ ap (λ m. least_of m (map_list (λ e. next_moment tcp e.1) s.outstanding.entries)) hour
-    ∙ ap (λ t. least_of (moment_after now longest_wait) (map_list (λ e. next_moment t e.1) s.outstanding.entries)) transport in
+    let by_hour = subst (λ m. IsLeastOf m (map_list (λ e. next_moment tcp e.1) s.outstanding.entries) least) hour told in
+    let least_is = subst (λ t. IsLeastOf (moment_after now longest_wait) (map_list (λ e. next_moment t e.1) s.outstanding.entries) least) transport by_hour in
     subst (IsNext agent now) (sym is) (next_is s agent now least view_is (subst (λ m. now ≤ m) hour later) kept least_is)
 
 -- ---- what is due

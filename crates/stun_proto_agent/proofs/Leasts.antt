@@ -1,17 +1,17 @@
 -- The least number of the entries that pass a test.
-use Rattle.std.proofs.Common.{◌≡◌, ℕ, suc, ◌<◌, ◌≤◌, arith, Bool, true, false, cond, List, [], ◌∷◌, Some, None, refl, sym, ap, ◌∙◌, subst, inl, inr}
+use Rattle.std.proofs.Common.{◌≡◌, ℕ, zero, suc, length, ◌<◌, ◌≤◌, arith, Bool, true, false, cond, List, [], ◌∷◌, Some, None, refl, sym, ap, ◌∙◌, subst, inl, inr}
 use Rattle.std.specs.Prelude.{All, min, nat_le, map as map_list, ◌⊎◌}
 use Rattle.std.proofs.lemmas.Bool.{leb-false, leb-true}
 use Rattle.std.specs.Map.{keys_of, lookup}
 use Rattle.std.specs.FinMap.{nat_cmp-IsAntisymmetric}
-use Rattle.std.specs.List.{AllByRecursion, find}
+use Rattle.std.specs.List.{AllByRecursion, Contains, find}
 use Rattle.std.specs.List.Sorted.{IsStrictlySortedBy}
 use Rattle.std.specs.Cmp.{ranked}
 use Rattle.std.specs.Ordering.{is_eq, nat_cmp}
 use Rattle.std.specs.declared.cmp.Ordering.{Ordering}
 use Rattle.std.specs.declared.cmp.Ordering.TheVariants.{Less, Equal, Greater}
 use Rattle.stun_proto_transaction.specs.Agents.{Transaction}
-use Rattle.stun_proto_agent.specs.Least.{least_of}
+use Rattle.stun_proto_agent.specs.Least.{IsLeastOf}
 
 abbrev pub Entry : Type 0
 Entry = ℕ × Transaction
@@ -98,39 +98,55 @@ none_passes test (x ∷ es) is n v there =
 
 -- ---- the least of some numbers
 
--- it is no greater than the first
-pub least_within : (most : ℕ) (ns : List ℕ) → least_of most ns ≤ most
+-- the least of a number and those of a list, one after another
+abbrev pub least_of : ℕ → List ℕ → ℕ
+least_of most [] = most
+least_of most (n ∷ rest) = least_of (min most n) rest
+
+least_within : (most : ℕ) (ns : List ℕ) → least_of most ns ≤ most
 least_within most [] = omega arith
 least_within most (n ∷ rest) = let later = least_within (min most n) rest in omega (arith, later)
 
--- nor than any of them
-pub least_below : (f : Transaction → ℕ) (most : ℕ) (es : List Entry) (n : ℕ) (v : Transaction) → lookup (is_number n) es ≡ Some v → least_of most (map_list (λ e. f e.1) es) ≤ f v
-least_below f most [] n v there = absurd (Prim.cc there)
-least_below f most (x ∷ es) n v there =
-    elim (is_number n x.0) as (λ b. cond b (Some x.1) (lookup (is_number n) es) ≡ Some v → least_of most (map_list (λ e. f e.1) (x ∷ es)) ≤ f v) [
-      | true ↦ λ own.
-          let same = ap f (inside own) in
-          let less = least_within (min most (f x.1)) (map_list (λ e. f e.1) es) in
-          omega (arith, same, less)
-      | false ↦ λ later. least_below f (min most (f x.1)) es n v later
-    ] there
+least_below : (most : ℕ) (ns : List ℕ) → All (λ n. least_of most ns ≤ n) ns
+least_below most [] k d less = absurd (omega (arith, less))
+least_below most (n ∷ rest) zero d less = let first = least_within (min most n) rest in omega (arith, first)
+least_below most (n ∷ rest) (suc k) d less = least_below (min most n) rest k d (omega (arith, less))
 
--- it is the first, or one of them
-abbrev pub IsReached : (Entry → Type 0) → (Transaction → ℕ) → ℕ → List Entry → Type 0
-IsReached P f most es =
-    (least_of most (map_list (λ e. f e.1) es) ≡ most) ⊎ ((e : Entry) × P e × (least_of most (map_list (λ e. f e.1) es) ≡ f e.1))
+abbrev IsReached : ℕ → List ℕ → ℕ → Type 0
+IsReached most ns least = (least ≡ most) ⊎ Contains ns least
 
-by_lesser : (P : Entry → Type 0) (f : Transaction → ℕ) (most least : ℕ) (x : Entry) → P x → least ≡ min most (f x.1) → (least ≡ most) ⊎ ((e : Entry) × P e × (least ≡ f e.1))
-by_lesser P f most least x own same =
-    elim (nat_le most (f x.1)) as (λ b. nat_le most (f x.1) ≡ b → (least ≡ most) ⊎ ((e : Entry) × P e × (least ≡ f e.1))) [
-      | true ↦ λ less. let below = leb-true most (f x.1) less in inl (let is : least ≡ most = omega (arith, same, below) in is)
-      | false ↦ λ more. let above = leb-false most (f x.1) more in inr (x, own, (let is : least ≡ f x.1 = omega (arith, same, above) in is))
+by_lesser : (most n : ℕ) (rest : List ℕ) (least : ℕ) → least ≡ min most n → IsReached most (n ∷ rest) least
+by_lesser most n rest least same =
+    elim (nat_le most n) as (λ b. nat_le most n ≡ b → IsReached most (n ∷ rest) least) [
+      | true ↦ λ less. let below = leb-true most n less in inl (let is : least ≡ most = omega (arith, same, below) in is)
+      | false ↦ λ more. let above = leb-false most n more in inr (zero, (let some : 0 < length (n ∷ rest) = omega arith in some), (let is : n ≡ least = omega (arith, same, above) in is))
     ] refl
 
-pub least_reached : (P : Entry → Type 0) (f : Transaction → ℕ) (most : ℕ) (es : List Entry) → All P es → IsReached P f most es
-least_reached P f most [] all = inl refl
-least_reached P f most (x ∷ es) all =
-    elim (least_reached P f (min most (f x.1)) es (λ k d less. all (suc k) d (omega arith))) [
-      | inl same ↦ by_lesser P f most (least_of (min most (f x.1)) (map_list (λ e. f e.1) es)) x (all 0 x (omega arith)) same
-      | inr found ↦ inr found
+least_reached : (most : ℕ) (ns : List ℕ) → IsReached most ns (least_of most ns)
+least_reached most [] = inl refl
+least_reached most (n ∷ rest) =
+    elim (least_reached (min most n) rest) [
+      | inl same ↦ by_lesser most n rest (least_of (min most n) rest) same
+      | inr found ↦ inr (suc found.0, (let more : suc found.0 < length (n ∷ rest) = omega (arith, found.1) in more), found.2)
     ]
+
+pub least_is : (most : ℕ) (ns : List ℕ) (least : ℕ) → least ≡ least_of most ns → IsLeastOf most ns least
+least_is most ns least is = subst (IsLeastOf most ns) (sym is) (record { within = least_within most ns; below = least_below most ns; reached = least_reached most ns })
+
+-- no greater than what a function gives of an entry that is found
+pub below_found : (f : Transaction → ℕ) (least : ℕ) (es : List Entry) (n : ℕ) (v : Transaction) → All (λ m. least ≤ m) (map_list (λ e. f e.1) es) → lookup (is_number n) es ≡ Some v → least ≤ f v
+below_found f least [] n v all there = absurd (Prim.cc there)
+below_found f least (x ∷ es) n v all there =
+    elim (is_number n x.0) as (λ b. cond b (Some x.1) (lookup (is_number n) es) ≡ Some v → least ≤ f v) [
+      | true ↦ λ own. let same = ap f (inside own) in let here = all 0 least (omega arith) in omega (arith, same, here)
+      | false ↦ λ later. below_found f least es n v (λ k d less. all (suc k) d (omega (arith, less))) later
+    ] there
+
+-- what a function gives of some entry
+abbrev pub IsGiven : (P : Entry → Type 0) (f : Transaction → ℕ) (least : ℕ) → Type 0
+IsGiven P f least = (e : Entry) × P e × (least ≡ f e.1)
+
+pub given_by : (P : Entry → Type 0) (f : Transaction → ℕ) (least : ℕ) (es : List Entry) → All P es → Contains (map_list (λ e. f e.1) es) least → IsGiven P f least
+given_by P f least [] all found = absurd (omega (arith, found.1))
+given_by P f least (x ∷ es) all (zero, less, is) = (x, all 0 x (omega arith), sym is)
+given_by P f least (x ∷ es) all (suc k, less, is) = given_by P f least es (λ j d small. all (suc j) d (omega (arith, small))) (k, (let fewer : k < length (map_list (λ e. f e.1) es) = omega (arith, less) in fewer), is)

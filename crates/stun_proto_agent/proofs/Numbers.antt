@@ -15,7 +15,7 @@ use Rattle.stun_proto_agent.specs.State.{Agent, IsEnd, IsPolled, is_tcp}
 use Rattle.stun_proto_agent.specs.declared.agent.StunAgentPollRet.{StunAgentPollRet}
 use Rattle.stun_proto_agent.specs.declared.agent.StunAgentPollRet.TheVariants.{TransactionTimedOut, TransactionCancelled, WaitUntil}
 use Rattle.stun_proto_transaction.specs.declared.transaction.Change.{Change}
-use Rattle.stun_proto_transaction.specs.declared.transaction.Change.TheVariants.{Rewaited, Silenced, Ended}
+use Rattle.stun_proto_transaction.specs.declared.transaction.Change.TheVariants.{Cancel, CancelRetransmissions, ConfigureTimeout}
 use Rattle.stun_proto_agent.proofs.Leasts.{same_number}
 
 abbrev Outstanding : Type 0
@@ -146,9 +146,9 @@ transmitted_new old new now (inr counted) =
     (follows_transmitted (is_tcp old.transport) counted.transaction) counted.after
 
 follows_changed : (change : Change) (t : Transaction) → Follows t (changed change t)
-follows_changed (Rewaited waits) t = record { bytes = refl; target = refl; moment = refl; counted = omega arith }
-follows_changed Silenced t = record { bytes = refl; target = refl; moment = refl; counted = omega arith }
-follows_changed Ended t = record { bytes = refl; target = refl; moment = refl; counted = omega arith }
+follows_changed (ConfigureTimeout waits) t = record { bytes = refl; target = refl; moment = refl; counted = omega arith }
+follows_changed CancelRetransmissions t = record { bytes = refl; target = refl; moment = refl; counted = omega arith }
+follows_changed Cancel t = record { bytes = refl; target = refl; moment = refl; counted = omega arith }
 
 changed_by : (old new : Agent) (number : ℕ) (change : Change) (found : Option Transaction) → map.get old.outstanding number ≡ found
     → MatchOption found (new ≡ old) (λ t. new ≡ kept_under old number (changed change t)) → NothingNew old new

@@ -1,3 +1,4 @@
+pub mod AgentChanges
 pub mod AgentRest
 pub use Rattle.stun_proto_transaction.specs.Agents
 pub mod Codes

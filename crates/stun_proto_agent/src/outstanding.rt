@@ -6,7 +6,7 @@ ghost use Rattle.std.specs.List.{find};
 ghost use Rattle.std.specs.Option.{option_map};
 ghost use Rattle.std.specs.Ordering.{nat_cmp};
 ghost use Rattle.stun_proto_transaction.specs.Agents.{changed, is_due, is_ended, is_over, next_moment, transmitted};
-ghost use Rattle.stun_proto_agent.specs.Least.{least_of};
+ghost use Rattle.stun_proto_agent.specs.Least.{IsLeastOf};
 
 use std::collections::BTreeMap;
 use stun_proto_schedule::instant::Instant;
@@ -53,8 +53,8 @@ pub(crate) fn first_due(
 
 /// The least of a moment and of the next moments at which there is something to do.
 pub(crate) fn least_moment(outstanding: &Outstanding, is_tcp: bool, most: Instant) -> Instant
-    ensures least { result
-        ≡ least_of most (map (λ e. next_moment is_tcp e.1) outstanding.now.entries) }
+    ensures least { IsLeastOf most
+        (map (λ e. next_moment is_tcp e.1) outstanding.now.entries) result }
     ensures kept { All (λ e. get nat_cmp outstanding.now e.0 ≡ Some e.1) outstanding.now.entries }
 {
     let mut least = most;

@@ -7,7 +7,7 @@ ghost use Rattle.std.specs.FinMap as finite;
 ghost use Rattle.stun_proto_agent.specs.RequestLending.{LendsAgent};
 ghost use Rattle.stun_proto_agent.specs.Requests.{IsChangedRequest, IsTold};
 ghost use Rattle.stun_proto_agent.specs.contracts.agent.StunAgent.{the_row};
-ghost use Rattle.stun_proto_transaction.specs.declared.transaction.Change.TheVariants.{Ended, Rewaited, Silenced};
+ghost use Rattle.stun_proto_transaction.specs.declared.transaction.Change.TheVariants.{Cancel, CancelRetransmissions, ConfigureTimeout};
 
 use crate::agent::StunAgent;
 use std::net::SocketAddr;
@@ -136,18 +136,19 @@ impl<'a> StunRequestMut<'a> {
     /// is outstanding, and a response to it is taken up. Where it is no longer outstanding, nothing
     /// changes.
     pub fn cancel_retransmissions(&mut self)
-        ensures { IsChangedRequest self.old Silenced self.new }
+        ensures { IsChangedRequest self.old CancelRetransmissions self.new }
     {
-        self.agent.change(self.number, Change::Silenced);
+        self.agent
+            .change(self.number, Change::CancelRetransmissions);
     }
 
     /// Nothing more of the request is sent, and it has ended. It is outstanding until `poll` answers its
     /// number as `TransactionCancelled`, or a response comes before. Where it is no longer outstanding,
     /// nothing changes.
     pub fn cancel(&mut self)
-        ensures { IsChangedRequest self.old Ended self.new }
+        ensures { IsChangedRequest self.old Cancel self.new }
     {
-        self.agent.change(self.number, Change::Ended);
+        self.agent.change(self.number, Change::Cancel);
     }
 
     /// How the request waits from now on (RFC 8489, section 6.2.1). The first wait, `initial_rto`, is behind
@@ -161,7 +162,7 @@ impl<'a> StunRequestMut<'a> {
         retransmits: u32,
         last_retransmit_timeout: Duration,
     )
-        ensures { IsChangedRequest self.old (Rewaited (record {
+        ensures { IsChangedRequest self.old (ConfigureTimeout (record {
           initial = as_nanos initial_rto;
           most = None;
           retransmits = retransmits;
@@ -169,7 +170,8 @@ impl<'a> StunRequestMut<'a> {
         })) self.new }
     {
         let waits = Waits::new(initial_rto, None, retransmits, last_retransmit_timeout);
-        self.agent.change(self.number, Change::Rewaited(waits));
+        self.agent
+            .change(self.number, Change::ConfigureTimeout(waits));
     }
 
     /// How the request waits from now on, as by `configure_timeout`, but no wait between two transmissions
@@ -182,7 +184,7 @@ impl<'a> StunRequestMut<'a> {
         last_retransmit_timeout: Duration,
         max_rto: Duration,
     )
-        ensures { IsChangedRequest self.old (Rewaited (record {
+        ensures { IsChangedRequest self.old (ConfigureTimeout (record {
           initial = as_nanos initial_rto;
           most = Some (as_nanos max_rto);
           retransmits = retransmits;
@@ -195,6 +197,7 @@ impl<'a> StunRequestMut<'a> {
             retransmits,
             last_retransmit_timeout,
         );
-        self.agent.change(self.number, Change::Rewaited(waits));
+        self.agent
+            .change(self.number, Change::ConfigureTimeout(waits));
     }
 }

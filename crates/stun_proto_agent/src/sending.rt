@@ -31,9 +31,9 @@ impl StunAgent {
         Transmit::new(bytes, self.transport(), self.local_addr(), to)
     }
 
-    /// A response or an indication that goes to an address, once (RFC 8489, sections 6.2.1 and
-    /// 6.3.1.2). Nothing is kept of it. Refused with `ParseError` where the bytes are no message, and with `ProtocolViolation` where
-    /// they are a request.
+    /// A response or an indication that goes to an address, once (RFC 8489, sections 6.2.1 and 6.3.1.2).
+    /// Nothing is kept of it. Refused with `ParseError` where the bytes are no message, and with
+    /// `ProtocolViolation` where they are a request.
     pub fn send<T: AsSlice<u8> + Drop>(
         &self,
         msg: T,

@@ -6,7 +6,7 @@ use Rattle.stun_types.specs.IntegrityAlgorithms.{IntegrityAlgorithm}
 use Rattle.stun_types.specs.MessageValidation.{last_algorithm}
 use Rattle.stun_types.specs.ParseErrors.{StunParseError}
 use Rattle.stun_proto_transaction.specs.declared.transaction.Change.{Change}
-use Rattle.stun_proto_transaction.specs.declared.transaction.Change.TheVariants.{Rewaited, Silenced, Ended}
+use Rattle.stun_proto_transaction.specs.declared.transaction.Change.TheVariants.{Cancel, CancelRetransmissions, ConfigureTimeout}
 use Rattle.stun_proto_transaction.specs.declared.transaction.Cancelled.{Cancelled}
 use Rattle.stun_proto_transaction.specs.declared.transaction.Cancelled.TheVariants.{Nothing, Retransmissions, Whole}
 use Rattle.stun_proto_schedule.specs.Schedule.{Waits, end_at, slot_at, transmissions}
@@ -66,9 +66,9 @@ transmitted is_tcp t = if has_left is_tcp t then record t { used = t.used + 1 } 
 
 -- a transaction with what a caller changes of it: other waits, nothing more to send, or its end
 abbrev pub changed : Change → Transaction → Transaction
-changed (Rewaited waits) t = record t { waits = waits }
-changed Silenced t = record t { cancelled = without_retransmissions t.cancelled }
-changed Ended t = record t { cancelled = Whole }
+changed (ConfigureTimeout waits) t = record t { waits = waits }
+changed CancelRetransmissions t = record t { cancelled = without_retransmissions t.cancelled }
+changed Cancel t = record t { cancelled = Whole }
 
 -- what is read of a message, where it is one
 abbrev pub unless_malformed : Option StunParseError → Option IntegrityAlgorithm → Option IntegrityAlgorithm

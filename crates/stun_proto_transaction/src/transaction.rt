@@ -180,6 +180,7 @@ impl Transaction {
     pub fn transmit(&mut self, is_tcp: bool)
         ensures { self.new ≡ transmitted is_tcp self.old }
     {
+        // `has_left`, written out: from its value alone it isn't seen that the sum fits.
         if self.cancelled.goes_on() && self.used < self.waits.transmissions(is_tcp) {
             self.used += 1;
         }
@@ -190,9 +191,9 @@ impl Transaction {
         ensures { self.new ≡ changed change self.old }
     {
         match change {
-            Change::Rewaited(waits) => self.waits = waits,
-            Change::Silenced => self.cancelled = self.cancelled.silenced(),
-            Change::Ended => self.cancelled = Cancelled::Whole,
+            Change::ConfigureTimeout(waits) => self.waits = waits,
+            Change::CancelRetransmissions => self.cancelled = self.cancelled.silenced(),
+            Change::Cancel => self.cancelled = Cancelled::Whole,
         }
     }
 }
@@ -202,9 +203,9 @@ impl Transaction {
 #[derive(Debug, Drop)]
 pub enum Change {
     /// It waits otherwise; the waits count from the first sending.
-    Rewaited(Waits),
+    ConfigureTimeout(Waits),
     /// Nothing more is sent; the end is the same.
-    Silenced,
+    CancelRetransmissions,
     /// Nothing more is sent, and it has ended.
-    Ended,
+    Cancel,
 }

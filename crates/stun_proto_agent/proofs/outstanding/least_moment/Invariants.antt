@@ -1,6 +1,6 @@
 use Rattle.std.proofs.Common.{◌≡◌, map}
 use Rattle.stun_proto_transaction.specs.Agents.{next_moment}
-use Rattle.stun_proto_agent.specs.Least.{least_of}
+use Rattle.stun_proto_agent.proofs.Leasts.{least_of}
 use Rattle.stun_proto_agent.proofs.outstanding.least_moment.Given as goal
 
 -- the least so far and those left have the least of all
