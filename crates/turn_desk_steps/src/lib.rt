@@ -1,0 +1,12 @@
+//! What a desk does, in the words of a run of a client and a desk (RFC 8656).
+#![tactic(auto)]
+
+ghost use Rattle.turn_runs.specs.Steps.{DeskStep};
+ghost use Rattle.turn_runs_stun.specs.StunWire.{stun_wire};
+ghost use Rattle.turn_desk_steps.specs.DeskRun.{DeskCall, IsHandled, desk_words};
+
+/// What the contract of `Desk::handle` says of a call is a step of a run: a success grants what the
+/// request asks for and is signed under the key that validated it.
+pub fn desk_runs()
+    ensures { (d : DeskCall) → IsHandled d → DeskStep stun_wire desk_words d }
+{}
