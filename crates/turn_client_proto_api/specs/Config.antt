@@ -1,0 +1,35 @@
+-- What contracts see of the settings of a TURN client (RFC 8656, sections 7.1, 18.6, 18.8 and
+-- 18.11).
+use Rattle.std.specs.Prelude.{List, [], ◌∷◌}
+use Rattle.stun_types.specs.Credentials.{NameAndPassword}
+use Rattle.stun_types.specs.IntegrityAlgorithms.{IntegrityAlgorithm, Sha1}
+use Rattle.stun_types.specs.declared.family.AddressFamily.{AddressFamily}
+use Rattle.stun_types.specs.declared.family.AddressFamily.TheVariants.{IPV4}
+use Rattle.stun_types.specs.declared.transport.TransportType.{TransportType}
+use Rattle.stun_types.specs.declared.transport.TransportType.TheVariants.{Udp}
+use Rattle.stun_proto.specs.Features.{Feature, Auto}
+use Rattle.stun_proto.specs.Schedule.{Waits}
+use Rattle.stun_proto.specs.State.{default_waits}
+
+-- the settings: name and password; the transport of the allocation that is asked for, and the families of its
+-- addresses, in order; the integrity algorithms, in order; whether the name is hidden; and how long is waited for
+-- the response to a request
+pub record Config : Type 0 where
+  pub credentials : NameAndPassword
+  pub transport : TransportType
+  pub families : List AddressFamily
+  pub algorithms : List IntegrityAlgorithm
+  pub anonymous_username : Feature
+  pub waits : Waits
+
+-- the settings of a new client: an allocation over UDP, of one IPv4 address; Sha1; the name is hidden where the
+-- server can; the waits of a new agent
+abbrev pub default_config : NameAndPassword → Config
+default_config credentials = record {
+  credentials = credentials;
+  transport = Udp;
+  families = IPV4 ∷ [];
+  algorithms = Sha1 ∷ [];
+  anonymous_username = Auto;
+  waits = default_waits;
+}

@@ -1,0 +1,17 @@
+-- Lists of address families.
+use Rattle.std.specs.Prelude.{Bool, true, false, if◌then◌else◌, List, [], ◌∷◌, ◌++◌}
+use Rattle.std.specs.List.{list_any}
+use Rattle.stun_types.specs.declared.family.AddressFamily.{AddressFamily}
+use Rattle.stun_types.specs.declared.family.AddressFamily.TheVariants.{IPV4, IPV6}
+
+-- whether two families are the same
+abbrev pub is_same_family : AddressFamily → AddressFamily → Bool
+is_same_family IPV4 IPV4 = true
+is_same_family IPV6 IPV6 = true
+is_same_family IPV4 IPV6 = false
+is_same_family IPV6 IPV4 = false
+
+-- the list with a family at its end, or the list itself where it has that family
+abbrev pub with_family : List AddressFamily → AddressFamily → List AddressFamily
+with_family families family =
+    if list_any (is_same_family family) families then families else families ++ family ∷ []

@@ -1,0 +1,42 @@
+-- When two settings are the same.
+use Rattle.std.specs.Prelude.{Bool, nat_eq}
+use Rattle.std.specs.Ordering.{on, eq_of_both}
+use Rattle.std.specs.Cmp.{IsEquivalence, on_equiv, and_equiv}
+use Rattle.std.specs.Cmp.Lexicographic.{pointwise, nat_list_eq_equiv}
+use Rattle.stun_types.specs.Credentials.{NameAndPassword}
+use Rattle.stun_types.specs.contracts.transport.TransportTypePartialEq.TheImpl as transport
+use Rattle.stun_types.specs.contracts.transport.TransportTypeEq.TheImpl.Laws as transport_laws
+use Rattle.stun_proto_auth.specs.contracts.feature.FeaturePartialEq.TheImpl as feature
+use Rattle.stun_proto_auth.specs.contracts.feature.FeatureEq.TheImpl.Laws as feature_laws
+use Rattle.stun_proto_auth.specs.contracts.supported.SupportedIntegrityPartialEq.TheImpl as supported
+use Rattle.stun_proto_auth.specs.contracts.supported.SupportedIntegrityEq.TheImpl.Laws as supported_laws
+use Rattle.turn_client_proto_api.specs.contracts.families.RequestedFamiliesPartialEq.TheImpl as families
+use Rattle.turn_client_proto_api.specs.contracts.families.RequestedFamiliesEq.TheImpl.Laws as families_laws
+use Rattle.turn_client_proto_api.specs.Config.{Config}
+use Rattle.turn_client_proto_api.specs.SameWaits.{same_waits, same_waits_equiv}
+
+-- name and password are the same
+abbrev pub same_account : NameAndPassword → NameAndPassword → Bool
+same_account = eq_of_both (on (λ (c : NameAndPassword). c.username) (pointwise nat_eq))
+    (on (λ (c : NameAndPassword). c.password) (pointwise nat_eq))
+
+same_account_equiv : IsEquivalence same_account
+same_account_equiv = and_equiv (on_equiv (λ (c : NameAndPassword). c.username) nat_list_eq_equiv)
+    (on_equiv (λ (c : NameAndPassword). c.password) nat_list_eq_equiv)
+
+-- each part is the same, as the part's own `==` says
+abbrev pub same_config : Config → Config → Bool
+same_config = eq_of_both (on (λ (c : Config). c.credentials) same_account)
+    (eq_of_both (on (λ (c : Config). c.transport) (transport.eq-value).it)
+    (eq_of_both (on (λ (c : Config). c.families) (families.eq-value).it)
+    (eq_of_both (on (λ (c : Config). c.algorithms) (supported.eq-value).it)
+    (eq_of_both (on (λ (c : Config). c.anonymous_username) (feature.eq-value).it)
+    (on (λ (c : Config). c.waits) same_waits)))))
+
+pub same_config_equiv : IsEquivalence same_config
+same_config_equiv = and_equiv (on_equiv (λ (c : Config). c.credentials) same_account_equiv)
+    (and_equiv (on_equiv (λ (c : Config). c.transport) transport_laws.laws-law)
+    (and_equiv (on_equiv (λ (c : Config). c.families) families_laws.laws-law)
+    (and_equiv (on_equiv (λ (c : Config). c.algorithms) supported_laws.laws-law)
+    (and_equiv (on_equiv (λ (c : Config). c.anonymous_username) feature_laws.laws-law)
+    (on_equiv (λ (c : Config). c.waits) same_waits_equiv)))))

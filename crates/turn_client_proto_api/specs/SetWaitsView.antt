@@ -1,0 +1,16 @@
+-- What contracts see of the waits that a caller sets.
+use Rattle.std.specs.Prelude.{Option, Some, None}
+use Rattle.std.specs.Duration.{as_nanos}
+use Rattle.stun_proto.specs.Schedule.{Waits}
+use Rattle.stun_proto.specs.State.{default_waits}
+use Rattle.turn_client_proto_api.specs.declared.waits.SetWaits.{SetWaits}
+
+-- the waits that are set, or those of a new agent
+abbrev pub waits_of : Option SetWaits → Waits
+waits_of (Some w) = record {
+  initial = as_nanos w.initial;
+  most = Some (as_nanos w.max);
+  retransmits = w.retransmits;
+  final = as_nanos w.last;
+}
+waits_of None = default_waits

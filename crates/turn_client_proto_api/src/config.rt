@@ -1,0 +1,280 @@
+//! The settings of a TURN client.
+
+ghost use Rattle.std.specs.Prelude.{◌≡◌, ◌≢◌, [], ◌∷◌, Some, None, IfOk};
+ghost use Rattle.std.specs.FinMap as finite;
+ghost use Rattle.std.specs.Duration.{as_nanos};
+ghost use Rattle.std.specs.List.{IsDistinct};
+ghost use Rattle.stun_proto.specs.SupportedAlgorithms.{is_same_algorithm, with_algorithm};
+ghost use Rattle.turn_client_proto_api.specs.Config.{default_config};
+ghost use Rattle.turn_client_proto_api.specs.Families.{is_same_family, with_family};
+ghost use Rattle.turn_client_proto_api.specs.SameConfigs.{same_account};
+
+use crate::families::RequestedFamilies;
+use crate::waits::{SetWaits, is_same};
+use std::alloc::Global;
+use std::marker::Model;
+use std::net::SocketAddr;
+use std::time::Duration;
+use stun_proto::agent::{StunAgent, StunAgentBuilder};
+use stun_proto::auth::{Feature, SupportedIntegrity};
+use stun_types::message::IntegrityAlgorithm;
+use stun_types::{AddressFamily, NoMemory, TransportType};
+use turn_types::TurnCredentials;
+
+/// The settings of a TURN client: the credentials of its user, the allocation that it asks for (RFC
+/// 8656, section 7.1), what it supports and asks for when it signs (RFC 8489, section 9.2), and how
+/// long it waits for responses. The lists of families and of algorithms are never empty and name
+/// nothing twice. Contracts see the record `Config` of `specs/Config.antt`.
+#[derive(Debug, Drop)]
+pub struct TurnConfig {
+    credentials: TurnCredentials,
+    allocation_transport: TransportType,
+    families: RequestedFamilies,
+    supported: SupportedIntegrity,
+    anonymous_username: Feature,
+    waits: Option<SetWaits>,
+}
+
+impl Model for TurnConfig {
+    ghost use Rattle.turn_client_proto_api.specs.Config.{Config};
+    ghost use Rattle.turn_client_proto_api.specs.SetWaitsView.{waits_of};
+
+    ghost Value = { Config };
+
+    ghost view = { λ c. record {
+      credentials = c.credentials;
+      transport = c.allocation_transport;
+      families = c.families;
+      algorithms = c.supported;
+      anonymous_username = c.anonymous_username;
+      waits = waits_of c.waits;
+    } };
+}
+
+impl TurnConfig {
+    /// The settings of a client with these credentials, which it takes: an allocation over UDP of one
+    /// IPv4 address; Sha1 alone; the name is hidden where the server can; the waits of a new agent.
+    pub fn new(credentials: TurnCredentials) -> TurnConfig
+        ensures { result ≡ default_config credentials }
+    {
+        TurnConfig {
+            credentials,
+            allocation_transport: TransportType::Udp,
+            families: RequestedFamilies::only(AddressFamily::IPV4),
+            supported: SupportedIntegrity::only(IntegrityAlgorithm::Sha1),
+            anonymous_username: Feature::Auto,
+            waits: None,
+        }
+    }
+
+    /// The same settings once more. Where memory is refused, `NoMemory`; these stay as they are.
+    pub fn clone(&self, alloc: Global) -> Result<TurnConfig, NoMemory>
+        ensures { IfOk result (λ copy. copy ≡ self.now) }
+    {
+        let credentials = TurnCredentials::new(
+            alloc,
+            self.credentials.username(),
+            self.credentials.password(),
+        )?;
+        Ok(TurnConfig {
+            credentials,
+            allocation_transport: self.allocation_transport,
+            families: self.families,
+            supported: self.supported,
+            anonymous_username: self.anonymous_username,
+            waits: self.waits,
+        })
+    }
+
+    /// The transport between the server and the peers, which REQUESTED-TRANSPORT names (RFC 8656,
+    /// section 18.8; RFC 6062, section 4.1).
+    pub fn allocation_transport(&self) -> TransportType
+        ensures { result ≡ self.now.transport }
+    {
+        self.allocation_transport
+    }
+
+    /// Sets the transport between the server and the peers.
+    pub fn set_allocation_transport(&mut self, transport: TransportType)
+        ensures { self.new ≡ record self.old { transport = transport } }
+    {
+        self.allocation_transport = transport;
+    }
+
+    /// The families of the addresses that are asked for, in the order in which they were added: at
+    /// least one, and none twice.
+    pub fn address_families(&self) -> &[AddressFamily]
+        ensures value { result.now ≡ self.now.families }
+        ensures never_empty { result.now ≢ [] }
+        ensures distinct { IsDistinct is_same_family result.now }
+    {
+        self.families.as_slice()
+    }
+
+    /// Asks for an address of another family too, which goes last; one that is there already changes
+    /// nothing (RFC 8656, sections 18.6 and 18.11).
+    pub fn add_address_family(&mut self, family: AddressFamily)
+        ensures { self.new ≡ record self.old { families = with_family self.old.families family } }
+    {
+        self.families = self.families.with(family);
+    }
+
+    /// Asks for an address of this family alone.
+    pub fn set_address_family(&mut self, family: AddressFamily)
+        ensures { self.new ≡ record self.old { families = family ∷ [] } }
+    {
+        self.families = RequestedFamilies::only(family);
+    }
+
+    /// The families that are asked for, as a value of their own.
+    pub fn requested_families(&self) -> RequestedFamilies
+        ensures { result ≡ self.now.families }
+    {
+        self.families
+    }
+
+    /// Gives the credentials away.
+    pub fn into_credentials(self) -> TurnCredentials
+        ensures { result ≡ self.credentials }
+    {
+        self.credentials
+    }
+
+    /// The name and the password of the user.
+    pub fn credentials(&self) -> &TurnCredentials
+        ensures { result.now ≡ self.now.credentials }
+    {
+        &self.credentials
+    }
+
+    /// The integrity algorithms that are supported, in the order in which they were added: at least
+    /// one, and none twice.
+    pub fn supported_integrity(&self) -> &[IntegrityAlgorithm]
+        ensures value { result.now ≡ self.now.algorithms }
+        ensures never_empty { result.now ≢ [] }
+        ensures distinct { IsDistinct is_same_algorithm result.now }
+    {
+        self.supported.as_slice()
+    }
+
+    /// Supports another algorithm, which goes last; one that is there already changes nothing.
+    pub fn add_supported_integrity(&mut self, algorithm: IntegrityAlgorithm)
+        ensures { self.new ≡ record self.old {
+          algorithms = with_algorithm self.old.algorithms algorithm;
+        } }
+    {
+        self.supported = self.supported.with(algorithm);
+    }
+
+    /// Supports this algorithm alone.
+    pub fn set_supported_integrity(&mut self, algorithm: IntegrityAlgorithm)
+        ensures { self.new ≡ record self.old { algorithms = algorithm ∷ [] } }
+    {
+        self.supported = SupportedIntegrity::only(algorithm);
+    }
+
+    /// Whether the name is hidden behind a hash (RFC 8489, section 9.2.5).
+    pub fn anonymous_username(&self) -> Feature
+        ensures { result ≡ self.now.anonymous_username }
+    {
+        self.anonymous_username
+    }
+
+    /// Sets whether the name is hidden behind a hash: where the server can, or always, so that the
+    /// challenge of a server that can't is refused, or never.
+    pub fn set_anonymous_username(&mut self, anonymous_username: Feature)
+        ensures { self.new ≡ record self.old { anonymous_username = anonymous_username } }
+    {
+        self.anonymous_username = anonymous_username;
+    }
+
+    /// Sets how long each request waits for its response (RFC 8489, section 6.2.1). The first wait,
+    /// `initial`, is behind the first transmission; each next one is twice as long, and none is
+    /// longer than `max`. A request is sent `retransmits` times in all, where 0 counts as once.
+    /// `final_retransmit_timeout` is waited behind the last, and may be longer than `max`. Over TCP a
+    /// request is sent once, and the end is the same.
+    pub fn set_request_retransmits(
+        &mut self,
+        initial: Duration,
+        max: Duration,
+        retransmits: u32,
+        final_retransmit_timeout: Duration,
+    )
+        ensures { self.new ≡ record self.old {
+          waits = record {
+            initial = as_nanos initial;
+            most = Some (as_nanos max);
+            retransmits = retransmits;
+            final = as_nanos final_retransmit_timeout;
+          };
+        } }
+    {
+        self.waits = Some(SetWaits {
+            initial,
+            max,
+            retransmits,
+            last: final_retransmit_timeout,
+        });
+    }
+
+    /// An agent of this transport and address, to be completed, whose requests wait as the settings say.
+    /// It keeps the allocator, and holds no memory yet.
+    pub fn stun_agent_builder(
+        &self,
+        alloc: Global,
+        transport: TransportType,
+        local: SocketAddr,
+    ) -> StunAgentBuilder
+        ensures { result ≡ record {
+          transport = transport;
+          here = local;
+          remote = None;
+          waits = self.now.waits;
+          outstanding = finite.empty;
+          validated = finite.empty;
+        } }
+    {
+        let builder = StunAgent::builder(alloc, transport, local);
+        match self.waits {
+            Some(waits) => builder.request_retransmits(
+                waits.initial,
+                waits.max,
+                waits.retransmits,
+                waits.last,
+            ),
+            None => builder,
+        }
+    }
+}
+
+/// Whether name and password are the same.
+fn is_same_account(one: &TurnCredentials, other: &TurnCredentials) -> bool
+    ensures { result ≡ same_account one.now other.now }
+{
+    one.username() == other.username() && one.password() == other.password()
+}
+
+/// Settings are equal where each of them is.
+impl PartialEq for TurnConfig {
+    ghost use Rattle.std.specs.Cmp.{partial_equiv_from_equiv};
+    ghost use Rattle.turn_client_proto_api.specs.SameConfigs.{same_config, same_config_equiv};
+
+    ghost eq = { same_config };
+
+    ghost laws = { partial_equiv_from_equiv same_config_equiv };
+
+    fn eq(&self, other: &Self) -> bool {
+        is_same_account(&self.credentials, &other.credentials)
+            && self.allocation_transport == other.allocation_transport
+            && self.families == other.families
+            && self.supported == other.supported
+            && self.anonymous_username == other.anonymous_username
+            && is_same(self.waits, other.waits)
+    }
+}
+
+impl Eq for TurnConfig {
+    ghost use Rattle.turn_client_proto_api.specs.SameConfigs.{same_config_equiv};
+
+    ghost laws = { same_config_equiv };
+}
