@@ -1,0 +1,10 @@
+pub mod Beside
+pub mod Families
+pub mod Growing
+pub mod Peers
+pub mod Reading
+pub mod Short
+pub mod Signing
+pub mod Small
+pub mod Told
+pub mod Writing

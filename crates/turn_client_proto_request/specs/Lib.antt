@@ -1,0 +1,4 @@
+pub mod Composing
+pub mod Requests
+pub mod ShortTexts
+pub mod ToldRequests
