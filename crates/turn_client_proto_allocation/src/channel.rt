@@ -1,0 +1,65 @@
+//! Channels (RFC 8656, section 12).
+
+ghost use Rattle.std.specs.Prelude.{◌≡◌};
+ghost use Rattle.std.specs.List.{list_any};
+ghost use Rattle.turn_client_proto_allocation.specs.Awaited.{asks_for_channel, has_number, renews_channel};
+
+use crate::numbers::has_number;
+use std::net::SocketAddr;
+use stun_proto::Instant;
+use stun_types::ListOf;
+use stun_types::message::TransactionId;
+
+/// A channel that stands.
+#[derive(Debug, Drop)]
+pub struct Channel {
+    /// The number of the channel, 0x4000 to 0x7FFF.
+    pub number: u16,
+    /// The peer's address.
+    pub peer: SocketAddr,
+    /// The moment at which it lapses.
+    pub expiry: Instant,
+    /// The numbers of the requests that are to renew it.
+    pub renewals: ListOf<TransactionId>,
+}
+
+/// A channel that was asked for.
+#[derive(Debug, Drop)]
+pub struct PendingChannel {
+    /// The number of the channel, 0x4000 to 0x7FFF.
+    pub channel: u16,
+    /// The peer's address.
+    pub peer: SocketAddr,
+    /// The numbers of the requests that ask for it.
+    pub numbers: ListOf<TransactionId>,
+}
+
+/// A channel that has lapsed. For a while neither its number nor its peer is taken for another channel
+/// (RFC 8656, section 12).
+#[derive(Clone, Copy, Debug)]
+pub struct LapsedChannel {
+    /// The number of the channel.
+    pub number: u16,
+    /// The peer's address.
+    pub peer: SocketAddr,
+    /// The moment at which it lapsed.
+    pub expiry: Instant,
+}
+
+/// Whether a request of this number is to renew one of the channels.
+pub(crate) fn renews_any(channels: &[Channel], number: TransactionId) -> bool
+    ensures { result ≡ list_any (renews_channel number) channels.now }
+{
+    channels
+        .iter()
+        .any(|c| has_number(c.renewals.as_slice(), number))
+}
+
+/// Whether a request of this number asks for one of the channels.
+pub(crate) fn asks_for_any(channels: &[PendingChannel], number: TransactionId) -> bool
+    ensures { result ≡ list_any (asks_for_channel number) channels.now }
+{
+    channels
+        .iter()
+        .any(|c| has_number(c.numbers.as_slice(), number))
+}

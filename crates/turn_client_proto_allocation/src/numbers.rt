@@ -1,0 +1,13 @@
+//! Lists of the numbers of requests.
+
+ghost use Rattle.std.specs.Prelude.{◌≡◌};
+ghost use Rattle.turn_client_proto_allocation.specs.Awaited.{has_number};
+
+use stun_types::message::TransactionId;
+
+/// Whether a number is among these.
+pub fn has_number(numbers: &[TransactionId], number: TransactionId) -> bool
+    ensures { result ≡ has_number number numbers.now }
+{
+    numbers.iter().any(|n| *n == number)
+}

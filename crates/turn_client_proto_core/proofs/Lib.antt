@@ -1,0 +1,7 @@
+pub mod Algorithms
+pub mod Deleting
+pub mod Draws
+pub mod Numbers
+pub mod Polls
+pub mod Prefixes
+pub mod UnderWay

@@ -1,0 +1,127 @@
+-- What a client that has not allocated makes of a message (RFC 8656, sections 7.3 and 7.4; RFC 8489, section 9.2.5).
+use Rattle.std.specs.Prelude.{ℕ, ◌==◌, Bool, false, List, [], ◌∷◌, ◌++◌, Option, Some, None, Result, Ok, Err, find, if◌then◌else◌}
+use Rattle.std.specs.Bool.{MatchBool}
+use Rattle.stun_proto.specs.Claims.{code_told}
+use Rattle.stun_proto.specs.ClientAuthErrors.{LongTermClientAuthError, IntegrityFailed, NoMemory}
+use Rattle.stun_proto.specs.ClientValidations.{LongTermClientValidation, ResendRequest, Validated}
+use Rattle.stun_proto.specs.Handling.{is_awaited}
+use Rattle.stun_types.specs.Attributes.{kind_at}
+use Rattle.stun_types.specs.Grammar.{shown}
+use Rattle.stun_types.specs.MessageClasses.{MessageClass, Success, Error}
+use Rattle.stun_types.specs.Registry.{error_code_kind, family_not_supported_code}
+use Rattle.stun_types.specs.Types.{class_of}
+use Rattle.stun_types.specs.declared.family.AddressFamily.{AddressFamily}
+use Rattle.stun_types.specs.declared.family.AddressFamily.TheVariants.{IPV4, IPV6}
+use Rattle.turn_client_proto_api.specs.declared.event.TurnEvent.TheVariants.{AllocationCreateFailed}
+use Rattle.turn_client_proto_request.specs.declared.request.TurnRequest.TheVariants.{Allocate}
+use Rattle.turn_client_proto_core.specs.Allocating.{IsAllocated}
+use Rattle.turn_client_proto_core.specs.Asking.{asked}
+use Rattle.turn_client_proto_core.specs.Ending.{ended}
+use Rattle.turn_client_proto_core.specs.Numbering.{IsNextNumber, after_number}
+use Rattle.turn_client_proto_core.specs.Outcomes.{IsHandled, IsIgnored}
+use Rattle.turn_client_proto_core.specs.Responding.{accepted, answered, challenged, is_tired}
+use Rattle.turn_client_proto_core.specs.declared.protocol.Phase.{Phase}
+use Rattle.turn_client_proto_core.specs.declared.protocol.Phase.TheVariants.{InitialSent, Authenticating}
+use Rattle.turn_client_proto_core.specs.declared.protocol.Protocol.{Protocol}
+
+-- ---- ALLOCATE, signed
+
+-- the numbers of the ALLOCATEs that were sent
+abbrev pub numbers_sent : Phase → List ℕ
+numbers_sent (InitialSent numbers) = numbers
+numbers_sent (Authenticating numbers) = numbers
+numbers_sent _ = []
+
+-- a client that asked for an allocation under its credentials, by a request of this number more
+unfoldable pub allocates_again : ℕ → ℕ → Protocol → Protocol
+allocates_again number now p =
+    let asking = asked (after_number p) (Allocate p.allocates p.families) number now in
+    record asking { phase = Authenticating (numbers_sent p.phase ++ number ∷ []) }
+
+-- ---- a challenge
+
+-- a challenge is answered by the request signed anew, where its number is outstanding; but after too many of them the
+-- client ends
+pub record IsAllocatingAgain (p : Protocol) (bytes : List ℕ) (now : ℕ) (handled : Bool) (new : Protocol) : Type 0 where
+  pub number : ℕ
+  pub is_next : IsNextNumber p number
+  pub outcome : IsHandled (challenged bytes (allocates_again number now p)) handled new
+
+abbrev pub IsChallenged : Protocol → List ℕ → ℕ → Bool → Protocol → Type 0
+IsChallenged p bytes now handled new = MatchBool (is_awaited p.agent bytes)
+    (MatchBool (is_tired p) (IsHandled (ended p) handled new) (IsAllocatingAgain p bytes now handled new))
+    (IsIgnored p handled new)
+
+-- ---- the first ALLOCATE, unsigned
+
+-- a response that is no challenge, or one that can't be answered, ends the client, where its number is outstanding
+abbrev pub IsTurnedAway : Protocol → List ℕ → Bool → Protocol → Type 0
+IsTurnedAway p bytes handled new = MatchBool (is_awaited p.agent bytes)
+    (IsHandled (ended (answered bytes p)) handled new)
+    (IsIgnored p handled new)
+
+-- by the verdict on a response, where no ALLOCATE was signed
+abbrev pub IsFirstJudged : Result LongTermClientValidation LongTermClientAuthError → Protocol → List ℕ → ℕ → Bool → Protocol → Type 0
+IsFirstJudged (Ok (ResendRequest choice)) p bytes now handled new = IsChallenged p bytes now handled new
+IsFirstJudged (Ok (Validated algorithm)) p bytes now handled new = IsIgnored (ended p) handled new
+IsFirstJudged (Err NoMemory) p bytes now handled new = ⊥
+IsFirstJudged (Err error) p bytes now handled new = IsTurnedAway p bytes handled new
+
+-- ---- a signed ALLOCATE
+
+-- the code of the first ERROR-CODE, where it is there and well formed
+abbrev pub first_code : List ℕ → Option ℕ
+first_code bytes = code_told (find (λ a. a.kind == error_code_kind) (shown bytes))
+
+-- the family that is left where the server has no addresses of IPv4, and both were asked for
+abbrev pub other_family : List AddressFamily → Option AddressFamily
+other_family (IPV4 ∷ IPV6 ∷ rest) = Some IPV6
+other_family (IPV6 ∷ IPV4 ∷ rest) = Some IPV6
+other_family _ = None
+
+-- whether an error says that the server has no address of a family that was asked for (RFC 8656, section 7.4)
+abbrev pub is_unsupported_family : Option ℕ → Bool
+is_unsupported_family None = false
+is_unsupported_family (Some code) = code == family_not_supported_code
+
+-- the family for which the client asks again after an error response
+abbrev pub family_left : Protocol → List ℕ → Option AddressFamily
+family_left p bytes = if is_unsupported_family (first_code bytes) then other_family p.families else None
+
+-- a client that gives up IPv4, and asks for an address of the family that is left
+unfoldable pub allocates_other : AddressFamily → ℕ → ℕ → Protocol → Protocol
+allocates_other family number now p =
+    let narrowed = record (after_number p) {
+      families = family ∷ [];
+      events = p.events ++ AllocationCreateFailed IPV4 ∷ [];
+    } in
+    record (asked narrowed (Allocate p.allocates (family ∷ [])) number now) { phase = Authenticating (number ∷ []) }
+
+pub record IsAskingForOther (p : Protocol) (family : AddressFamily) (now : ℕ) (handled : Bool) (new : Protocol) : Type 0 where
+  pub number : ℕ
+  pub is_next : IsNextNumber p number
+  pub outcome : IsHandled (allocates_other family number now p) handled new
+
+abbrev pub IsErrorAnswered : Option AddressFamily → Protocol → ℕ → Bool → Protocol → Type 0
+IsErrorAnswered (Some family) p now handled new = IsAskingForOther p family now handled new
+IsErrorAnswered None p now handled new = IsHandled (ended p) handled new
+
+-- by the class of a response that was accepted
+abbrev pub IsAllocateAnswered : MessageClass → Protocol → List ℕ → ℕ → Bool → Protocol → Type 0
+IsAllocateAnswered Error p bytes now handled new = IsErrorAnswered (family_left p bytes) p now handled new
+IsAllocateAnswered Success p bytes now handled new = IsAllocated p bytes now handled new
+IsAllocateAnswered _ p bytes now handled new = IsHandled p handled new
+
+-- a response that validates counts where its number is outstanding
+abbrev pub IsAccepted : Protocol → List ℕ → ℕ → Bool → Protocol → Type 0
+IsAccepted p bytes now handled new = MatchBool (is_awaited p.agent bytes)
+    (IsAllocateAnswered (class_of (kind_at bytes)) (accepted bytes p) bytes now handled new)
+    (IsHandled p handled new)
+
+-- by the verdict on a response to one of the ALLOCATEs
+abbrev pub IsSignedJudged : Result LongTermClientValidation LongTermClientAuthError → Protocol → List ℕ → ℕ → Bool → Protocol → Type 0
+IsSignedJudged (Ok (ResendRequest choice)) p bytes now handled new = IsChallenged p bytes now handled new
+IsSignedJudged (Ok (Validated algorithm)) p bytes now handled new = IsAccepted p bytes now handled new
+IsSignedJudged (Err (IntegrityFailed algorithm)) p bytes now handled new = IsHandled (ended p) handled new
+IsSignedJudged (Err NoMemory) p bytes now handled new = ⊥
+IsSignedJudged (Err error) p bytes now handled new = IsIgnored p handled new

@@ -1,0 +1,15 @@
+pub mod Allocating
+pub mod Asking
+pub mod Authenticating
+pub mod Beginning
+pub mod Deleting
+pub mod Drawing
+pub mod Ending
+pub mod Judging
+pub mod Numbering
+pub mod Outcomes
+pub mod Polling
+pub mod Receiving
+pub mod Responding
+pub mod Standing
+pub mod Waiting

@@ -1,0 +1,287 @@
+//! What a client that has not allocated makes of a message (RFC 8656, sections 7.3 and 7.4).
+
+ghost use Rattle.std.specs.Prelude.{◌≡◌, ◌++◌, ◌∷◌, [], ℕ, IfOk, OnOk, OnErr, Some, None, false};
+ghost use Rattle.stun_proto.specs.Handling.{is_awaited, is_response};
+ghost use Rattle.stun_types.specs.Attributes.{kind_at};
+ghost use Rattle.stun_types.specs.Grammar.{number_at};
+ghost use Rattle.stun_types.specs.Types.{class_of};
+ghost use Rattle.turn_client_proto_request.specs.declared.request.TurnRequest.TheVariants.{Allocate};
+ghost use Rattle.turn_client_proto_core.specs.Asking.{asked};
+ghost use Rattle.turn_client_proto_core.specs.Authenticating.{IsAccepted, IsAllocateAnswered, IsChallenged, IsErrorAnswered, IsFirstJudged, IsSignedJudged, IsTurnedAway, allocates_again, allocates_other, family_left, first_code, is_unsupported_family, numbers_sent, other_family};
+ghost use Rattle.turn_client_proto_core.specs.Ending.{IsUnderWay};
+ghost use Rattle.turn_client_proto_core.specs.Numbering.{IsNextNumber, after_number};
+ghost use Rattle.turn_client_proto_core.specs.Receiving.{IsFollowed};
+ghost use Rattle.turn_client_proto_core.specs.Responding.{accepted, answered, challenged, is_tired};
+
+use crate::protocol::{Phase, Protocol};
+use std::alloc::Global;
+use std::mem;
+use stun_proto::Instant;
+use stun_proto::auth::{LongTermClientAuthError, LongTermClientValidation};
+use stun_types::attribute::{AttributeStaticType, ErrorCode};
+use stun_types::message::{Message, MessageClass, TransactionId};
+use stun_types::registry::ADDRESS_FAMILY_NOT_SUPPORTED;
+use stun_types::{AddressFamily, ListOf, NoMemory};
+use turn_client_proto_api::event::TurnEvent;
+use turn_client_proto_api::families::RequestedFamilies;
+use turn_client_proto_request::request::TurnRequest;
+
+/// After so many challenges that were answered without an accepted response between, the next one ends
+/// the client.
+const MOST_RESENDS: u32 = 8;
+
+/// The code of the first ERROR-CODE, where it is there and well formed.
+#[tactic(auto, unfolding(stun_proto_claim::specs::Claims::code_told))]
+pub(crate) fn first_code(message: &Message<'_>) -> Option<u16>
+    ensures { result ≡ first_code message.now }
+{
+    let raw = message.raw_attribute(ErrorCode::TYPE)?;
+    match ErrorCode::code_of(&raw) {
+        Ok(code) => Some(code),
+        Err(_) => None,
+    }
+}
+
+/// The family that is left where the server has no addresses of IPv4, and both were asked for.
+fn other_family(families: RequestedFamilies) -> Option<AddressFamily>
+    ensures { result ≡ other_family families }
+{
+    if families.contains(AddressFamily::IPV4) && families.contains(AddressFamily::IPV6) {
+        Some(AddressFamily::IPV6)
+    } else {
+        None
+    }
+}
+
+impl Protocol {
+    /// Whether a request of a message's number is outstanding.
+    pub(crate) fn is_awaited(&self, message: &Message<'_>) -> bool
+        ensures { result ≡ is_awaited self.now.agent message.now }
+    {
+        self.agent
+            .request_transaction(message.transaction_id())
+            .is_some()
+    }
+
+    /// Whether too many challenges were answered without an accepted response between.
+    pub(crate) fn is_tired(&self) -> bool
+        ensures { result ≡ is_tired self.now }
+    {
+        self.resends > MOST_RESENDS
+    }
+
+    /// A response ends its transaction. Where memory is refused, nothing changes.
+    #[tactic(auto, unfolding(crate::specs::Responding::answered))]
+    pub(crate) fn answer(&mut self, message: &Message<'_>) -> Result<(), NoMemory>
+        ensures ok { OnOk result (self.new ≡ answered message.now self.old) }
+        ensures err { OnErr result (self.new ≡ self.old) }
+    {
+        let _ = self.agent.handle_stun_message(message, self.server)?;
+        Ok(())
+    }
+
+    /// A response is accepted: its transaction ends, and the challenges before it count no more. Where memory
+    /// is refused, nothing changes.
+    #[tactic(auto, unfolding(crate::specs::Responding::accepted, crate::specs::Responding::answered))]
+    pub(crate) fn accept(&mut self, message: &Message<'_>) -> Result<(), NoMemory>
+        ensures ok { OnOk result (self.new ≡ accepted message.now self.old) }
+        ensures err { OnErr result (self.new ≡ self.old) }
+    {
+        self.answer(message)?;
+        self.resends = 0;
+        Ok(())
+    }
+
+    /// A challenge was answered: its transaction ends, and it is counted. Where memory is refused, nothing
+    /// changes.
+    #[tactic(auto, unfolding(crate::specs::Responding::challenged, crate::specs::Responding::answered))]
+    pub(crate) fn count_challenge(&mut self, message: &Message<'_>) -> Result<(), NoMemory>
+        requires { is_tired self.old ≡ false }
+        ensures ok { OnOk result (self.new ≡ challenged message.now self.old) }
+        ensures err { OnErr result (self.new ≡ self.old) }
+    {
+        self.answer(message)?;
+        self.resends += 1;
+        Ok(())
+    }
+}
+
+/// The numbers of the ALLOCATEs that were sent. It allocates nothing.
+fn numbers_sent(alloc: Global, phase: Phase) -> ListOf<TransactionId>
+    ensures { result ≡ numbers_sent phase }
+{
+    match phase {
+        Phase::InitialSent(numbers) | Phase::Authenticating(numbers) => numbers,
+        Phase::Initial | Phase::Authenticated | Phase::Ended => ListOf::new(alloc),
+    }
+}
+
+impl Protocol {
+    /// Asks for an allocation under the credentials, once more.
+    #[tactic(auto, using(crate::proofs::Prefixes::front_kept, crate::proofs::Prefixes::whole_kept), unfolding(crate::specs::Authenticating::allocates_again, crate::specs::Asking::asked))]
+    fn allocate_again(&mut self, now: Instant) -> Result<(), NoMemory>
+        ensures ok { OnOk result ((number : ℕ) × IsNextNumber self.old number
+            × (self.new ≡ allocates_again number now self.old)) }
+        ensures err { OnErr result (IsUnderWay self.old self.new) }
+    {
+        let number = self.draw_number();
+        let request = TurnRequest::Allocate(self.allocates, self.families);
+        self.ask(number, request, now)?;
+        let phase = mem::replace(&mut self.phase, Phase::Ended);
+        let mut numbers = numbers_sent(self.alloc, phase);
+        numbers.push(number)?;
+        self.phase = Phase::Authenticating(numbers);
+        Ok(())
+    }
+
+    /// A challenge that can be answered came (RFC 8489, section 9.2.5).
+    #[tactic(auto, using(crate::proofs::Prefixes::front_kept, crate::proofs::Prefixes::whole_kept), unfolding(crate::specs::Authenticating::allocates_again, crate::specs::Asking::asked, crate::specs::Ending::ended))]
+    fn answer_challenge(&mut self, message: &Message<'_>, now: Instant) -> Result<bool, NoMemory>
+        ensures ok { IfOk result (λ handled.
+            IsChallenged self.old message.now now handled self.new) }
+        ensures err { OnErr result (IsUnderWay self.old self.new) }
+    {
+        if !self.is_awaited(message) {
+            return Ok(false);
+        }
+        if self.is_tired() {
+            self.end()?;
+            return Ok(true);
+        }
+        self.allocate_again(now)?;
+        self.count_challenge(message)?;
+        Ok(true)
+    }
+
+    /// A response to the first ALLOCATE came that is no challenge, or one that can't be answered.
+    #[tactic(auto, using(crate::proofs::Prefixes::front_kept, crate::proofs::Prefixes::whole_kept), unfolding(crate::specs::Responding::answered))]
+    fn turn_away(&mut self, message: &Message<'_>) -> Result<bool, NoMemory>
+        ensures ok { IfOk result (λ handled. IsTurnedAway self.old message.now handled self.new) }
+        ensures err { OnErr result (IsUnderWay self.old self.new) }
+    {
+        if !self.is_awaited(message) {
+            return Ok(false);
+        }
+        self.answer(message)?;
+        self.end()?;
+        Ok(true)
+    }
+
+    /// A response came where no ALLOCATE was signed.
+    #[tactic(auto, using(crate::proofs::Prefixes::front_kept, crate::proofs::Prefixes::whole_kept))]
+    pub(crate) fn hear_first(
+        &mut self,
+        message: &Message<'_>,
+        now: Instant,
+    ) -> Result<bool, NoMemory>
+        ensures ok { IfOk result (λ handled.
+            IsFollowed IsFirstJudged self.old message.now now handled self.new) }
+        ensures err { OnErr result (IsUnderWay self.old self.new) }
+    {
+        match self.auth.validate_incoming_message(message) {
+            Ok(LongTermClientValidation::ResendRequest(_)) => self.answer_challenge(message, now),
+            Ok(LongTermClientValidation::Validated(_)) => {
+                self.end()?;
+                Ok(false)
+            }
+            Err(LongTermClientAuthError::NoMemory) => Err(NoMemory),
+            Err(_) => self.turn_away(message),
+        }
+    }
+
+    /// A response to one of the signed ALLOCATEs came.
+    #[tactic(auto, using(crate::proofs::Prefixes::front_kept, crate::proofs::Prefixes::whole_kept))]
+    pub(crate) fn hear_signed(
+        &mut self,
+        message: &Message<'_>,
+        now: Instant,
+    ) -> Result<bool, NoMemory>
+        ensures ok { IfOk result (λ handled.
+            IsFollowed IsSignedJudged self.old message.now now handled self.new) }
+        ensures err { OnErr result (IsUnderWay self.old self.new) }
+    {
+        match self.auth.validate_incoming_message(message) {
+            Ok(LongTermClientValidation::ResendRequest(_)) => self.answer_challenge(message, now),
+            Ok(LongTermClientValidation::Validated(_)) => self.take_response(message, now),
+            Err(LongTermClientAuthError::IntegrityFailed(_)) => {
+                self.end()?;
+                Ok(true)
+            }
+            Err(LongTermClientAuthError::NoMemory) => Err(NoMemory),
+            Err(_) => Ok(false),
+        }
+    }
+
+    /// A response to a signed ALLOCATE came that validates.
+    #[tactic(auto, using(crate::proofs::Prefixes::front_kept, crate::proofs::Prefixes::whole_kept), unfolding(crate::specs::Responding::accepted))]
+    fn take_response(&mut self, message: &Message<'_>, now: Instant) -> Result<bool, NoMemory>
+        ensures ok { IfOk result (λ handled.
+            IsAccepted self.old message.now now handled self.new) }
+        ensures err { OnErr result (IsUnderWay self.old self.new) }
+    {
+        let is_fresh = self.is_awaited(message);
+        if !is_fresh {
+            return Ok(true);
+        }
+        self.accept(message)?;
+        self.take_answer(message, now)
+    }
+
+    /// A response to a signed ALLOCATE was accepted.
+    #[tactic(auto, using(crate::proofs::Prefixes::front_kept, crate::proofs::Prefixes::whole_kept))]
+    fn take_answer(&mut self, message: &Message<'_>, now: Instant) -> Result<bool, NoMemory>
+        ensures ok { IfOk result (λ handled. IsAllocateAnswered
+            (class_of (kind_at message.now)) self.old message.now now handled self.new) }
+        ensures err { OnErr result (IsUnderWay self.old self.new) }
+    {
+        match message.class() {
+            MessageClass::Success => self.take_success(message, now),
+            MessageClass::Error => self.take_error(message, now),
+            MessageClass::Request | MessageClass::Indication => Ok(true),
+        }
+    }
+
+    /// The family for which the client asks again after an error response.
+    fn family_left(&self, message: &Message<'_>) -> Option<AddressFamily>
+        ensures { result ≡ family_left self.now message.now }
+    {
+        match first_code(message) {
+            Some(ADDRESS_FAMILY_NOT_SUPPORTED) => other_family(self.families),
+            _ => None,
+        }
+    }
+
+    /// An error response to a signed ALLOCATE was accepted (RFC 8656, section 7.4).
+    #[tactic(auto, using(crate::proofs::Prefixes::front_kept, crate::proofs::Prefixes::whole_kept))]
+    fn take_error(&mut self, message: &Message<'_>, now: Instant) -> Result<bool, NoMemory>
+        ensures ok { IfOk result (λ handled. IsErrorAnswered
+            (family_left self.old message.now) self.old now handled self.new) }
+        ensures err { OnErr result (IsUnderWay self.old self.new) }
+    {
+        let Some(family) = self.family_left(message) else {
+            self.end()?;
+            return Ok(true);
+        };
+        self.allocate_other(family, now)?;
+        Ok(true)
+    }
+
+    /// Gives up IPv4, and asks for an address of the family that is left.
+    #[tactic(auto, using(crate::proofs::Prefixes::front_kept, crate::proofs::Prefixes::whole_kept), unfolding(crate::specs::Authenticating::allocates_other, crate::specs::Asking::asked))]
+    fn allocate_other(&mut self, family: AddressFamily, now: Instant) -> Result<(), NoMemory>
+        ensures ok { OnOk result ((number : ℕ) × IsNextNumber self.old number
+            × (self.new ≡ allocates_other family number now self.old)) }
+        ensures err { OnErr result (IsUnderWay self.old self.new) }
+    {
+        let number = self.draw_number();
+        self.families = RequestedFamilies::only(family);
+        let failure = TurnEvent::AllocationCreateFailed(AddressFamily::IPV4);
+        self.events.push_back(failure)?;
+        let request = TurnRequest::Allocate(self.allocates, self.families);
+        self.ask(number, request, now)?;
+        let mut numbers = ListOf::new(self.alloc);
+        numbers.push(number)?;
+        self.phase = Phase::Authenticating(numbers);
+        Ok(())
+    }
+}

@@ -1,0 +1,60 @@
+//! What a client makes of a message that came from the server.
+
+ghost use Rattle.std.specs.Prelude.{◌≡◌, IfOk, OnErr};
+ghost use Rattle.turn_client_proto_core.specs.Ending.{HasFailed, IsUnderWay};
+ghost use Rattle.turn_client_proto_core.specs.Receiving.{IsHeard};
+
+use crate::protocol::{Phase, Protocol};
+use stun_proto::Instant;
+use stun_types::NoMemory;
+use stun_types::message::{Message, MessageClass};
+use turn_client_proto_allocation::numbers::has_number;
+
+impl Protocol {
+    /// A message came from the server at a moment. Answers whether it was for the client. Where memory is
+    /// refused, `NoMemory`: then the client has ended, holds and awaits nothing, and sends nothing more;
+    /// the events that waited still do.
+    pub fn handle_message(&mut self, message: &Message<'_>, now: Instant) -> Result<bool, NoMemory>
+        ensures ok { IfOk result (λ handled. IsHeard self.old message.now now handled self.new) }
+        ensures err { OnErr result (HasFailed self.old self.new) }
+    {
+        let events = self.events.len();
+        match self.hear(message, now) {
+            Ok(is_handled) => Ok(is_handled),
+            Err(e) => {
+                self.fail(events);
+                Err(e)
+            }
+        }
+    }
+
+    /// The same; but where memory is refused, the client is under way still.
+    #[tactic(auto, using(crate::proofs::Prefixes::front_kept, crate::proofs::Prefixes::whole_kept))]
+    fn hear(&mut self, message: &Message<'_>, now: Instant) -> Result<bool, NoMemory>
+        ensures ok { IfOk result (λ handled. IsHeard self.old message.now now handled self.new) }
+        ensures err { OnErr result (IsUnderWay self.old self.new) }
+    {
+        match &self.phase {
+            Phase::Initial | Phase::Ended => Ok(false),
+            Phase::InitialSent(_) => {
+                if !message.is_response() {
+                    return Ok(false);
+                }
+                self.hear_first(message, now)
+            }
+            Phase::Authenticating(numbers) => {
+                let number = message.transaction_id();
+                if !(message.is_response() && has_number(numbers.as_slice(), number)) {
+                    return Ok(false);
+                }
+                self.hear_signed(message, now)
+            }
+            Phase::Authenticated => {
+                if message.class() == MessageClass::Indication {
+                    return Ok(false);
+                }
+                self.hear_standing(message, now)
+            }
+        }
+    }
+}

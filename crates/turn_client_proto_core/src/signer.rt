@@ -1,0 +1,102 @@
+//! The client's side of authentication, whose texts are short enough to be written.
+
+ghost use Rattle.std.specs.Prelude.{◌≡◌, ◌≢◌, ◌≤◌, [], ◌∷◌, IfOk, length};
+ghost use Rattle.std.specs.List.{IsDistinct};
+ghost use Rattle.stun_proto.specs.SupportedAlgorithms.{is_same_algorithm};
+ghost use Rattle.stun_types.specs.Registry.{longest_username};
+ghost use Rattle.turn_client_proto_request.specs.Requests.{request_text};
+ghost use Rattle.turn_client_proto_core.specs.Judging.{IsJudged, signer_of};
+
+use std::alloc::Global;
+use std::marker::Model;
+use stun_proto::auth::{LongTermClientAuth, LongTermClientAuthError, LongTermClientValidation};
+use stun_types::NoMemory;
+use stun_types::message::{IntegrityAlgorithm, LongTermCredentials, Message, TransactionId};
+use turn_client_proto_api::config::TurnConfig;
+use turn_client_proto_request::laws::texts_stay_short;
+use turn_client_proto_request::request::{TurnRequest, write_request};
+
+/// The client's side of long-term authentication. Its name, and the realm and the nonce of the challenge
+/// that it keeps, are no longer than their attributes may be, so that each request can be signed. Contracts
+/// see the record `Client` of `stun_proto`.
+#[derive(Debug, Drop)]
+pub struct Signer {
+    auth: LongTermClientAuth,
+}
+
+impl Model for Signer {
+    ghost use Rattle.stun_proto.specs.Client.{Client};
+    ghost use Rattle.turn_client_proto_request.specs.ShortTexts.{HasShortTexts};
+
+    ghost Value = { Client };
+
+    ghost view = { λ s. s.auth };
+
+    ghost invariant = { λ s. HasShortTexts s.auth };
+}
+
+/// Supports the first of these algorithms, too, where there is one.
+fn add_algorithm(
+    auth: &mut LongTermClientAuth,
+    first: IntegrityAlgorithm,
+    others: &[IntegrityAlgorithm],
+)
+    requires only { auth.old.algorithms ≡ first ∷ [] }
+    requires distinct { IsDistinct is_same_algorithm (first ∷ others.now) }
+    ensures { auth.new ≡ record auth.old { algorithms = first ∷ others.now } }
+{
+    if let Some((second, _)) = others.split_first() {
+        auth.add_supported_integrity(*second);
+    }
+}
+
+/// Supports these algorithms alone, in this order.
+fn set_algorithms(auth: &mut LongTermClientAuth, algorithms: &[IntegrityAlgorithm])
+    requires never_empty { algorithms.now ≢ [] }
+    requires distinct { IsDistinct is_same_algorithm algorithms.now }
+    ensures { auth.new ≡ record auth.old { algorithms = algorithms.now } }
+{
+    if let Some((first, others)) = algorithms.split_first() {
+        auth.set_supported_integrity(*first);
+        add_algorithm(auth, *first, others);
+    }
+}
+
+impl Signer {
+    /// The authenticator of a new client with these settings: it has the credentials and the algorithms of
+    /// the settings, hides its name as they say, and keeps no challenge.
+    pub fn new(alloc: Global, config: TurnConfig) -> Signer
+        requires { length config.credentials.username ≤ longest_username }
+        ensures { result ≡ signer_of config }
+    {
+        texts_stay_short();
+        let mut auth = LongTermClientAuth::new(alloc);
+        set_algorithms(&mut auth, config.supported_integrity());
+        auth.set_anonymous_username(config.anonymous_username());
+        auth.set_credentials(LongTermCredentials::from(config.into_credentials()));
+        Signer { auth }
+    }
+
+    /// Validates a message that came, as `LongTermClientAuth::validate_incoming_message` does.
+    pub fn validate_incoming_message(
+        &mut self,
+        message: &Message<'_>,
+    ) -> Result<LongTermClientValidation, LongTermClientAuthError>
+        ensures { IsJudged self.old message.now result self.new }
+    {
+        texts_stay_short();
+        self.auth.validate_incoming_message(message)
+    }
+
+    /// The bytes of a request of this number. Where memory is refused, `NoMemory`.
+    pub fn write_request(
+        &self,
+        alloc: Global,
+        number: TransactionId,
+        request: TurnRequest,
+    ) -> Result<Vec<u8>, NoMemory>
+        ensures { IfOk result (λ bytes. bytes.items ≡ request_text self.now request number) }
+    {
+        write_request(alloc, &self.auth, number, request)
+    }
+}
