@@ -1,0 +1,60 @@
+//! What a client's getters give, one after another.
+
+ghost use Rattle.std.specs.Prelude.{◌≡◌};
+ghost use Rattle.turn_client_proto_allocation.specs.Listed.{relayed_shown};
+
+use std::marker::Model;
+use std::net::SocketAddr;
+use stun_types::TransportType;
+use turn_client_proto_allocation::allocation::Allocation;
+
+/// The relayed addresses of a client with their transports, in the order in which they were granted.
+/// Those of allocations that are marked as expired are passed over. Contracts see the list of what is
+/// left.
+#[derive(Debug, Drop)]
+pub struct RelayedAddressesIter<'a> {
+    left: &'a [Allocation],
+}
+
+impl<'a> Model for RelayedAddressesIter<'a> {
+    ghost use Rattle.std.specs.Prelude.{List};
+    ghost use Rattle.std.specs.declared.net.socket_addr.SocketAddr.{SocketAddr};
+    ghost use Rattle.stun_types.specs.declared.transport.TransportType.{TransportType};
+    ghost use Rattle.turn_client_proto_allocation.specs.Listed.{relayed_shown};
+
+    ghost Value = { List (TransportType × SocketAddr) };
+
+    ghost view = { λ it. relayed_shown it.left.now };
+}
+
+impl<'a> RelayedAddressesIter<'a> {
+    /// The relayed addresses of these allocations.
+    pub fn new(allocations: &'a [Allocation]) -> RelayedAddressesIter<'a>
+        ensures { result ≡ relayed_shown allocations.now }
+    {
+        RelayedAddressesIter { left: allocations }
+    }
+}
+
+impl<'a> Iterator for RelayedAddressesIter<'a> {
+    ghost use Rattle.std.specs.Iterator.{YieldsFirst, item_count};
+
+    type Item = (TransportType, SocketAddr);
+
+    ghost next_gives = { YieldsFirst (λ left. left) };
+
+    ghost remaining = { item_count (λ left. left) };
+
+    fn next(&mut self) -> Option<(TransportType, SocketAddr)> {
+        let mut left = self.left;
+        while let Some((first, others)) = left.split_first() {
+            left = others;
+            if !first.is_expired {
+                self.left = others;
+                return Some((first.transport, first.address));
+            }
+        }
+        self.left = left;
+        None
+    }
+}

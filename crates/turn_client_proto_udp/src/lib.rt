@@ -1,0 +1,4 @@
+//! A TURN client over UDP (RFC 8656).
+#![tactic(auto)]
+
+pub mod udp;

@@ -1,0 +1,146 @@
+//! A TURN client over UDP.
+
+ghost use Rattle.std.specs.Prelude.{◌≡◌, ◌≤◌, IfOk, IsOkAnd, None, OnErr, length};
+ghost use Rattle.std.specs.Bool.{MatchBool};
+ghost use Rattle.stun_types.specs.Grammar.{refusal};
+ghost use Rattle.stun_types.specs.Registry.{longest_username};
+ghost use Rattle.stun_types.specs.declared.transport.TransportType.TheVariants.{Udp};
+ghost use Rattle.turn_client_proto_core.specs.Beginning.{IsNew};
+ghost use Rattle.turn_client_proto_core.specs.Ending.{HasFailed};
+ghost use Rattle.turn_client_proto_udp.specs.HandingIn.{IsHandedIn};
+ghost use Rattle.turn_client_proto_calls.specs.Receipts.{IsOfServer, IsReceived};
+
+use std::alloc::Global;
+use std::convert::AsSlice;
+use std::fmt::Debug;
+use std::marker::Model;
+use std::net::SocketAddr;
+use stun_proto::Instant;
+use stun_types::data::Data;
+use stun_types::message::Message;
+use stun_types::{NoMemory, Transmit, TransportType};
+use turn_client_proto_api::answer::{TurnPollRet, TurnRecvRet};
+use turn_client_proto_api::config::TurnConfig;
+use turn_client_proto_api::error::DeleteError;
+use turn_client_proto_api::event::TurnEvent;
+use turn_client_proto_calls::api::TurnClientApi;
+use turn_client_proto_calls::getters::RelayedAddressesIter;
+use turn_client_proto_core::protocol::Protocol;
+
+/// A TURN client over UDP: datagrams to and from the server, and an allocation over UDP. Contracts see
+/// what the protocol core keeps.
+#[derive(Debug, Drop)]
+pub struct TurnClientUdp {
+    protocol: Protocol,
+}
+
+impl Model for TurnClientUdp {
+    ghost use Rattle.turn_client_proto_core.specs.declared.protocol.Protocol.{Protocol};
+    ghost use Rattle.turn_client_proto_udp.specs.Codes.{protocol_code};
+
+    ghost Value = { Protocol };
+
+    ghost coded = { protocol_code };
+
+    ghost view = { λ c. c.protocol };
+}
+
+impl TurnClientUdp {
+    /// A client that asks the server at `remote`, from `local`, for an allocation over UDP as the settings
+    /// say. Nothing is sent yet: `poll_transmit` answers the first ALLOCATE. The numbers of its messages are
+    /// drawn from the ChaCha20 generator of the seed, three words each, the first of them highest. The name
+    /// of the user has 513 bytes at most. It takes no memory now, and never answers `NoMemory`.
+    pub fn allocate(
+        alloc: Global,
+        local: SocketAddr,
+        remote: SocketAddr,
+        config: TurnConfig,
+        seed: [u8; 32],
+    ) -> Result<TurnClientUdp, NoMemory>
+        requires transport { config.transport ≡ Udp }
+        requires name { length config.credentials.username ≤ longest_username }
+        ensures { IsOkAnd result (λ client. IsNew Udp local remote config seed client) }
+    {
+        let protocol = Protocol::new(alloc, TransportType::Udp, local, remote, config, seed);
+        Ok(TurnClientUdp { protocol })
+    }
+
+    /// Whether a datagram came from the server to the client's own address, by its transport.
+    fn is_of_server<T>(&self, transmit: &Transmit<T>) -> bool
+        ensures { MatchBool result (IsOfServer self.now transmit.now)
+            (IsOfServer self.now transmit.now → ⊥) }
+    {
+        transmit.transport == self.protocol.agent.transport()
+            && transmit.from == self.protocol.server
+            && transmit.to == self.protocol.agent.local_addr()
+    }
+}
+
+/// Hands in bytes that came from the server at a moment. Answers whether they are a message for the
+/// client.
+fn hand_in(protocol: &mut Protocol, bytes: &[u8], now: Instant) -> Result<bool, NoMemory>
+    ensures ok { IfOk result (λ handled. IsHandedIn (refusal bytes.now) protocol.old bytes.now now
+        handled protocol.new) }
+    ensures err { OnErr result ((refusal bytes.now ≡ None)
+        × HasFailed protocol.old protocol.new) }
+{
+    match Message::from_bytes(bytes) {
+        Ok(message) => protocol.handle_message(&message, now),
+        Err(_) => Ok(false),
+    }
+}
+
+impl TurnClientApi for TurnClientUdp {
+    ghost protocol = { λ client. client };
+
+    fn transport(&self) -> TransportType {
+        self.protocol.agent.transport()
+    }
+
+    fn local_addr(&self) -> SocketAddr {
+        self.protocol.agent.local_addr()
+    }
+
+    fn remote_addr(&self) -> SocketAddr {
+        self.protocol.server
+    }
+
+    fn relayed_addresses(&self) -> RelayedAddressesIter<'_> {
+        RelayedAddressesIter::new(self.protocol.allocations.as_slice())
+    }
+
+    fn delete(&mut self, now: Instant) -> Result<(), DeleteError> {
+        self.protocol.delete(now)
+    }
+
+    fn recv<T: AsSlice<u8> + Debug + Drop>(
+        &mut self,
+        transmit: Transmit<T>,
+        now: Instant,
+    ) -> TurnRecvRet<T> {
+        if !self.is_of_server(&transmit) {
+            return TurnRecvRet::Ignored(transmit);
+        }
+        match hand_in(&mut self.protocol, transmit.bytes.as_slice(), now) {
+            Ok(true) => TurnRecvRet::Handled,
+            Ok(false) => TurnRecvRet::Ignored(transmit),
+            Err(NoMemory) => TurnRecvRet::NoMemory(transmit),
+        }
+    }
+
+    fn poll(&mut self, now: Instant) -> TurnPollRet {
+        self.protocol.poll(now)
+    }
+
+    fn poll_transmit(&mut self, now: Instant) -> Result<Option<Transmit<Data<'static>>>, NoMemory> {
+        self.protocol.poll_transmit(now)
+    }
+
+    fn poll_event(&mut self) -> Option<TurnEvent> {
+        self.protocol.poll_event()
+    }
+
+    fn protocol_error(&mut self) -> Result<(), NoMemory> {
+        self.protocol.end()
+    }
+}
