@@ -1,6 +1,6 @@
 -- What becomes of allocations as time goes on (RFC 8656, section 8).
-use Rattle.std.specs.Prelude.{ℕ, nat_lt, min, max, Bool, true, false, not, ◌||◌, ◌&&◌, List, [], ◌∷◌, filter, fold, Option, Some, None, if◌then◌else◌}
-use Rattle.std.specs.List.{list_any}
+use Rattle.std.specs.Prelude.{ℕ, nat_lt, min, max, Bool, true, false, not, ◌||◌, ◌&&◌, List, [], ◌∷◌, filter, Option, Some, None, if◌then◌else◌}
+use Rattle.std.specs.List.{filter_map, list_any}
 use Rattle.turn_client_proto_allocation.specs.Awaited.{is_refresh}
 use Rattle.turn_client_proto_allocation.specs.Refreshing.{renewal}
 use Rattle.turn_client_proto_allocation.specs.declared.allocation.Allocation.{Allocation}
@@ -43,6 +43,6 @@ earlier wait (Some moment) = min wait moment
 abbrev pub kept : Option ℕ → ℕ → List Allocation → List Allocation
 kept ended now allocations = filter (stays ended now) allocations
 
--- the earliest of a wait and of the moments at which one of the allocations has something to do
-abbrev pub earliest : Option ℕ → ℕ → ℕ → ℕ → List Allocation → ℕ
-earliest ended ready now wait allocations = fold (λ w a. earlier w (next_of ended ready now a)) wait allocations
+-- the moments at which one of the allocations has something to do
+abbrev pub nexts : Option ℕ → ℕ → ℕ → List Allocation → List ℕ
+nexts ended ready now allocations = filter_map (next_of ended ready now) allocations

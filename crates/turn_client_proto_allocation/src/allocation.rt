@@ -68,8 +68,8 @@ pub struct Allocation {
 }
 
 impl Allocation {
-    /// An allocation that is granted at a moment, for a lifetime in seconds. Nothing stands on it. It holds
-    /// no memory yet.
+    /// An allocation that is granted at a moment, for a lifetime in seconds. Nothing stands on it. It
+    /// holds no memory yet.
     pub fn granted(
         alloc: Global,
         transport: TransportType,
@@ -112,8 +112,8 @@ impl Allocation {
             || is_any_binding(self.connections.as_slice(), number)
     }
 
-    /// The moment from which on it is to be renewed: a minute before its end, or half of its first lifetime
-    /// before, where that was two minutes or less (RFC 8656, section 8.1).
+    /// The moment from which on it is to be renewed: a minute before its end, or half of its first
+    /// lifetime before, where that was two minutes or less (RFC 8656, section 8.1).
     #[tactic(auto, unfolding(crate::specs::Refreshing::renewal))]
     pub fn renewal(&self) -> Instant
         ensures { result ≡ renewal self.now }
@@ -122,7 +122,8 @@ impl Allocation {
         Instant::from_nanos(self.expiry.as_nanos().saturating_sub(ahead))
     }
 
-    /// Whether it is to be renewed at a moment: it stands, no REFRESH is awaited, and its time has come.
+    /// Whether it is to be renewed at a moment: it stands, no REFRESH is awaited, and its time has
+    /// come.
     #[tactic(auto, unfolding(crate::specs::Refreshing::wants_refresh))]
     pub fn wants_refresh(&self, now: Instant) -> bool
         ensures { result ≡ wants_refresh now self.now }
@@ -152,10 +153,10 @@ impl Allocation {
         lifetime_asked(self.pending_refreshes.as_slice(), number)
     }
 
-    /// A success response to the REFRESH of this number came, and tells this lifetime, in seconds. Where
-    /// such a request is awaited, and it asked for more than 0, the allocation stands that long from now on
-    /// and no REFRESH is awaited; but where the lifetime is missing or under 600, nothing changes (RFC 8656,
-    /// section 8.3).
+    /// A success response to the REFRESH of this number came, and tells this lifetime, in seconds.
+    /// Where such a request is awaited, and it asked for more than 0, the allocation stands that long
+    /// from now on and no REFRESH is awaited; but where the lifetime is missing or under 600, nothing
+    /// changes (RFC 8656, section 8.3).
     #[tactic(auto, unfolding(crate::specs::Refreshing::renewed))]
     pub(crate) fn renew(&mut self, number: TransactionId, lifetime: Option<u32>, now: Instant)
         ensures { self.new ≡ renewed number now lifetime self.old }
@@ -179,8 +180,8 @@ impl Allocation {
         }
     }
 
-    /// Keeps that a REFRESH of this number was sent, which asks for a lifetime in seconds. Where memory is
-    /// refused, nothing changes.
+    /// Keeps that a REFRESH of this number was sent, which asks for a lifetime in seconds. Where memory
+    /// is refused, nothing changes.
     pub fn await_refresh(&mut self, number: TransactionId, lifetime: u32) -> Result<(), NoMemory>
         ensures ok { OnOk result (self.new
             ≡ refreshing (record { number = number; lifetime = lifetime }) self.old) }
@@ -215,8 +216,8 @@ impl Allocation {
         is_any_refresh(self.pending_refreshes.as_slice(), number)
     }
 
-    /// Whether it is kept at a moment, where the transaction of this number has ended: its time isn't over;
-    /// or its end was found before, and a REFRESH may still be answered.
+    /// Whether it is kept at a moment, where the transaction of this number has ended: its time isn't
+    /// over; or its end was found before, and a REFRESH may still be answered.
     #[tactic(auto, unfolding(crate::specs::Polling::stays))]
     pub(crate) fn stays(&self, ended: &Option<TransactionId>, now: Instant) -> bool
         ensures { result ≡ stays ended.now now self.now }
@@ -235,7 +236,8 @@ impl Allocation {
         }
     }
 
-    /// Where the transaction that ended is that of a REFRESH which is awaited, none is awaited any more.
+    /// Where the transaction that ended is that of a REFRESH which is awaited, none is awaited any
+    /// more.
     #[tactic(auto, unfolding(crate::specs::Polling::polled))]
     pub(crate) fn poll(&mut self, ended: &Option<TransactionId>)
         ensures { self.new ≡ polled ended.now self.old }

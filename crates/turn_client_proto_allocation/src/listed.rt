@@ -2,10 +2,11 @@
 
 ghost use Rattle.std.specs.Prelude.{◌≡◌, ◌<◌, ◌++◌, ◌∷◌, [], List, OnOk, OnErr, IfSome, MatchOption, None, Some, length, map, position, slice_get, slice_set, is_some};
 ghost use Rattle.std.specs.List.{list_any};
+ghost use Rattle.stun_proto.specs.Least.{IsLeastOf};
 ghost use Rattle.turn_client_proto_allocation.specs.Awaited.{is_refresh};
 ghost use Rattle.turn_client_proto_allocation.specs.Changes.{change_first};
 ghost use Rattle.turn_client_proto_allocation.specs.Listed.{awaits_refresh, is_any_awaited, refresh_asked, refreshed_again, refreshed_first};
-ghost use Rattle.turn_client_proto_allocation.specs.Polling.{earlier, earliest, kept, polled};
+ghost use Rattle.turn_client_proto_allocation.specs.Polling.{earlier, kept, nexts, polled};
 ghost use Rattle.turn_client_proto_allocation.specs.declared.allocation.Allocation.{Allocation};
 ghost use Rattle.turn_client_proto_allocation.specs.declared.refresh.PendingRefresh.{PendingRefresh};
 ghost use Rattle.turn_client_proto_allocation.specs.Refreshing.{ended, ends_by, refreshing, renewed, wants_refresh};
@@ -101,8 +102,8 @@ impl Allocations {
         wants_refresh(self.items.as_slice(), now)
     }
 
-    /// The first one that is to be renewed at a moment awaits a REFRESH. Where memory is refused, nothing
-    /// changes.
+    /// The first one that is to be renewed at a moment awaits a REFRESH. Where memory is refused,
+    /// nothing changes.
     pub fn refresh_first(&mut self, now: Instant, refresh: &PendingRefresh) -> Result<(), NoMemory>
         ensures ok { OnOk result (self.new ≡ refreshed_first now refresh.now self.old) }
         ensures err { OnErr result (self.new ≡ self.old) }
@@ -148,9 +149,9 @@ impl Allocations {
         renew_each(self.items.as_mut_slice(), number, lifetime, now);
     }
 
-    /// Time has come to a moment, and the transaction of this number has ended: those whose time is over
-    /// go, and of the others a REFRESH that ended is forgotten. The answer is the earlier of a wait and of
-    /// the moments at which one of them has something to do.
+    /// Time has come to a moment, and the transaction of this number has ended: those whose time is
+    /// over go, and of the others a REFRESH that ended is forgotten. The answer is the earliest of a
+    /// wait and of the moments at which one of them has something to do.
     pub fn poll(
         &mut self,
         ended: &Option<TransactionId>,
@@ -159,8 +160,8 @@ impl Allocations {
         wait: Instant,
     ) -> Instant
         ensures left { self.new ≡ map (polled ended.now) (kept ended.now now self.old) }
-        ensures wait { result ≡ earliest ended.now ready now wait
-            (kept ended.now now self.old) }
+        ensures wait { IsLeastOf wait
+            (nexts ended.now ready now (kept ended.now now self.old)) result }
     {
         drop_ended(&mut self.items, ended, now);
         let next = earliest(self.items.as_slice(), ended, ready, now, wait);
@@ -328,7 +329,7 @@ fn drop_ended(allocations: &mut Vec<Allocation>, ended: &Option<TransactionId>, 
     allocations.retain(|a| a.stays(ended, now));
 }
 
-/// The earlier of a wait and of the moments at which one of the allocations has something to do.
+/// The earliest of a wait and of the moments at which one of the allocations has something to do.
 fn earliest(
     allocations: &[Allocation],
     ended: &Option<TransactionId>,
@@ -336,7 +337,7 @@ fn earliest(
     now: Instant,
     wait: Instant,
 ) -> Instant
-    ensures { result ≡ earliest ended.now ready now wait allocations.now }
+    ensures { IsLeastOf wait (nexts ended.now ready now allocations.now) result }
 {
     let mut next = wait;
     for allocation in allocations {

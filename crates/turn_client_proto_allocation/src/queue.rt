@@ -8,8 +8,8 @@ use std::collections::VecDeque;
 use std::marker::Model;
 use stun_types::NoMemory;
 
-/// A queue. Contracts see the list of its elements, the first one first. Each call but `remove` costs
-/// the same, however many elements there are.
+/// A queue. Contracts see the list of its elements, the first one first. Each call costs the
+/// same, however many elements there are; but one that drops several costs by their number.
 #[derive(Debug, Drop)]
 pub struct QueueOf<T> {
     items: VecDeque<T>,

@@ -24,8 +24,8 @@ IsHandledAs came false answer = answer ≡ Ignored came
 
 -- a message came, and the client is this afterwards; or memory was refused, and it has failed
 pub data IsMessageTaken {T : Type 0} (old : Protocol) (bytes : List ℕ) (came : Transmit T) (now : ℕ) (answer : TurnRecvRet T) (new : Protocol) : Type 0 where
-  IsTaken : (handled : Bool) → IsHeard old bytes now handled new → IsHandledAs came handled answer → IsMessageTaken old bytes came now answer new
-  IsLost : answer ≡ NoMemory came → HasFailed old new → IsMessageTaken old bytes came now answer new
+  Heard : (handled : Bool) → IsHeard old bytes now handled new → IsHandledAs came handled answer → IsMessageTaken old bytes came now answer new
+  Lost : answer ≡ NoMemory came → HasFailed old new → IsMessageTaken old bytes came now answer new
 
 -- nothing is made of it
 abbrev pub IsGivenBack : {T : Type 0} → Protocol → Transmit T → TurnRecvRet T → Protocol → Type 0

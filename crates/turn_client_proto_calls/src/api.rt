@@ -40,23 +40,23 @@ pub trait TurnClientApi: Debug + Send {
     fn remote_addr(&self) -> SocketAddr
         ensures { result ≡ (protocol self.now).server };
 
-    /// The relayed addresses that the server has allocated, with the transports between the server and the
-    /// peers, in the order in which they were granted. Allocations that are marked as expired are passed
-    /// over. It takes no memory.
+    /// The relayed addresses that the server has allocated, with the transports between the server and
+    /// the peers, in the order in which they were granted. Allocations that are marked as expired are
+    /// passed over. It takes no memory.
     fn relayed_addresses(&self) -> RelayedAddressesIter<'_>
         ensures { result ≡ relayed_of (protocol self.now) };
 
-    /// Asks for the end of the allocations (RFC 8656, section 8.1). Each is marked as expired at once, and
-    /// has no permission and no channel any more. Refused with `NoAllocation` where the server has allocated
-    /// nothing, or the client has ended. Where memory is refused, `NoMemory`, and nothing changes but the
-    /// words that were drawn.
+    /// Asks for the end of the allocations (RFC 8656, section 8.1). Each is marked as expired at once,
+    /// and has no permission and no channel any more. Refused with `NoAllocation` where the server has
+    /// allocated nothing, or the client has ended. Where memory is refused, `NoMemory`, and nothing
+    /// changes but the words that were drawn.
     fn delete(&mut self, now: Instant) -> Result<(), DeleteError>
         ensures { IsDeleteAnswered (protocol self.old) now result (protocol self.new) };
 
     /// Hands in a datagram that came at a moment. What didn't come from the server to the client's own
-    /// address, by the client's transport, is given back as `Ignored`, and so is what is no message, or no
-    /// message for the client. Where memory is refused, `NoMemory`, with the datagram: the client has
-    /// failed.
+    /// address, by the client's transport, is given back as `Ignored`, and so is what is no message, or
+    /// no message for the client. Where memory is refused, `NoMemory`, with the datagram: the client
+    /// has failed.
     fn recv<T: AsSlice<u8> + Debug + Drop>(
         &mut self,
         transmit: Transmit<T>,
@@ -82,8 +82,9 @@ pub trait TurnClientApi: Debug + Send {
         ensures others { protocol self.new
             ≡ record (protocol self.old) { events = (protocol self.new).events } };
 
-    /// A layer above has met an error, and the client is no longer of use: it ends, and of each family it
-    /// is told that no address is allocated. Where memory is refused, `NoMemory`, and nothing changes.
+    /// A layer above has met an error, and the client is no longer of use: it ends, and of each family
+    /// it is told that no address is allocated. Where memory is refused, `NoMemory`, and nothing
+    /// changes.
     fn protocol_error(&mut self) -> Result<(), NoMemory>
         ensures ok { OnOk result (protocol self.new ≡ ended (protocol self.old)) }
         ensures err { OnErr result (protocol self.new ≡ protocol self.old) };

@@ -1,7 +1,5 @@
-pub mod Algorithms
 pub mod Deleting
 pub mod Draws
 pub mod Numbers
 pub mod Polls
-pub mod Prefixes
 pub mod UnderWay

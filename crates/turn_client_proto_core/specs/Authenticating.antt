@@ -1,19 +1,18 @@
 -- What a client that has not allocated makes of a message (RFC 8656, sections 7.3 and 7.4; RFC 8489, section 9.2.5).
-use Rattle.std.specs.Prelude.{ℕ, ◌==◌, Bool, false, List, [], ◌∷◌, ◌++◌, Option, Some, None, Result, Ok, Err, find, if◌then◌else◌}
+use Rattle.std.specs.Prelude.{ℕ, Bool, List, [], ◌∷◌, ◌++◌, Option, Some, None, Result, Ok, Err, if◌then◌else◌}
 use Rattle.std.specs.Bool.{MatchBool}
-use Rattle.stun_proto.specs.Claims.{code_told}
 use Rattle.stun_proto.specs.ClientAuthErrors.{LongTermClientAuthError, IntegrityFailed, NoMemory}
 use Rattle.stun_proto.specs.ClientValidations.{LongTermClientValidation, ResendRequest, Validated}
 use Rattle.stun_proto.specs.Handling.{is_awaited}
 use Rattle.stun_types.specs.Attributes.{kind_at}
-use Rattle.stun_types.specs.Grammar.{shown}
 use Rattle.stun_types.specs.MessageClasses.{MessageClass, Success, Error}
-use Rattle.stun_types.specs.Registry.{error_code_kind, family_not_supported_code}
+use Rattle.stun_types.specs.Registry.{family_not_supported_code}
 use Rattle.stun_types.specs.Types.{class_of}
 use Rattle.stun_types.specs.declared.family.AddressFamily.{AddressFamily}
 use Rattle.stun_types.specs.declared.family.AddressFamily.TheVariants.{IPV4, IPV6}
 use Rattle.turn_client_proto_api.specs.declared.event.TurnEvent.TheVariants.{AllocationCreateFailed}
 use Rattle.turn_client_proto_request.specs.declared.request.TurnRequest.TheVariants.{Allocate}
+use Rattle.turn_client_proto_response.specs.Told.{first_code, is_code}
 use Rattle.turn_client_proto_core.specs.Allocating.{IsAllocated}
 use Rattle.turn_client_proto_core.specs.Asking.{asked}
 use Rattle.turn_client_proto_core.specs.Ending.{ended}
@@ -69,24 +68,16 @@ IsFirstJudged (Err error) p bytes now handled new = IsTurnedAway p bytes handled
 
 -- ---- a signed ALLOCATE
 
--- the code of the first ERROR-CODE, where it is there and well formed
-abbrev pub first_code : List ℕ → Option ℕ
-first_code bytes = code_told (find (λ a. a.kind == error_code_kind) (shown bytes))
-
 -- the family that is left where the server has no addresses of IPv4, and both were asked for
 abbrev pub other_family : List AddressFamily → Option AddressFamily
 other_family (IPV4 ∷ IPV6 ∷ rest) = Some IPV6
 other_family (IPV6 ∷ IPV4 ∷ rest) = Some IPV6
 other_family _ = None
 
--- whether an error says that the server has no address of a family that was asked for (RFC 8656, section 7.4)
-abbrev pub is_unsupported_family : Option ℕ → Bool
-is_unsupported_family None = false
-is_unsupported_family (Some code) = code == family_not_supported_code
-
--- the family for which the client asks again after an error response
+-- the family for which the client asks again after an error response, where the server has no address of a family that
+-- was asked for (RFC 8656, section 7.4)
 abbrev pub family_left : Protocol → List ℕ → Option AddressFamily
-family_left p bytes = if is_unsupported_family (first_code bytes) then other_family p.families else None
+family_left p bytes = if is_code family_not_supported_code (first_code bytes) then other_family p.families else None
 
 -- a client that gives up IPv4, and asks for an address of the family that is left
 unfoldable pub allocates_other : AddressFamily → ℕ → ℕ → Protocol → Protocol

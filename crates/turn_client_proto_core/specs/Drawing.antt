@@ -58,7 +58,7 @@ is_resting None now = false
 is_resting (Some last) now = nat_lt now (moment_after last cadence)
 
 -- the first message of the queue is sent
-pub record IsTaken (old : Protocol) (now : ℕ) (q : Queued) (rest : List Queued) (sent : Sent) (new : Protocol) : Type 0 where
+pub record IsQueuedSent (old : Protocol) (now : ℕ) (q : Queued) (rest : List Queued) (sent : Sent) (new : Protocol) : Type 0 where
   pub is_sent : sent ≡ record { bytes = q.bytes; transport = old.agent.transport; from = q.from; to = old.server }
   pub after : new ≡ after_sending now (record old { queue = rest })
 
@@ -103,20 +103,20 @@ abbrev pub IsStill : Protocol → Option Sent → Protocol → Type 0
 IsStill old answer new = (answer ≡ None) × (new ≡ old)
 
 -- something is sent
-abbrev pub IsSome : Option Sent → (Sent → Type 0) → Type 0
-IsSome answer Is = MatchOption answer ⊥ Is
+abbrev pub Sends : Option Sent → (Sent → Type 0) → Type 0
+Sends answer Is = MatchOption answer ⊥ Is
 
 -- by how far the client is: the first ALLOCATE, or a REFRESH whose time has come
 abbrev pub IsBegun : Phase → Protocol → ℕ → Option Sent → Protocol → Type 0
-IsBegun Initial old now answer new = IsSome answer (λ sent. IsFirstSent old now sent new)
+IsBegun Initial old now answer new = Sends answer (λ sent. IsFirstSent old now sent new)
 IsBegun Authenticated old now answer new = MatchBool (list_any (wants_refresh now) old.allocations)
-    (IsSome answer (λ sent. IsRefreshSent old now sent new))
+    (Sends answer (λ sent. IsRefreshSent old now sent new))
     (IsStill old answer new)
 IsBegun _ old now answer new = IsStill old answer new
 
 -- the first message that waits, or else one that is made now
 abbrev pub IsNextSent : List Queued → Protocol → ℕ → Option Sent → Protocol → Type 0
-IsNextSent (q ∷ rest) old now answer new = IsSome answer (λ sent. IsTaken old now q rest sent new)
+IsNextSent (q ∷ rest) old now answer new = Sends answer (λ sent. IsQueuedSent old now q rest sent new)
 IsNextSent [] old now answer new = IsBegun old.phase old now answer new
 
 -- where nothing is due again: nothing, for a short time after the last message

@@ -5,7 +5,6 @@ pub mod Beginning
 pub mod Deleting
 pub mod Drawing
 pub mod Ending
-pub mod Judging
 pub mod Numbering
 pub mod Outcomes
 pub mod Polling

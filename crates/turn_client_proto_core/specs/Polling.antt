@@ -2,10 +2,11 @@
 use Rattle.std.specs.Prelude.{◌≡◌, ℕ, min, max, Bool, false, List, [], ◌∷◌, map, Option, Some, None}
 use Rattle.std.specs.Bool.{MatchBool}
 use Rattle.stun_proto.specs.AgentPolls.{StunAgentPollRet, TransactionTimedOut, TransactionCancelled, WaitUntil}
+use Rattle.stun_proto.specs.Least.{IsLeastOf}
 use Rattle.stun_proto.specs.Moments.{moment_after}
 use Rattle.stun_proto.specs.State as agents
 use Rattle.turn_client_proto_allocation.specs.Awaited.{has_number}
-use Rattle.turn_client_proto_allocation.specs.Polling.{earliest, kept, polled}
+use Rattle.turn_client_proto_allocation.specs.Polling.{kept, nexts, polled}
 use Rattle.turn_client_proto_allocation.specs.declared.allocation.Allocation.{Allocation}
 use Rattle.turn_client_proto_api.specs.declared.answer.TurnPollRet.{TurnPollRet}
 use Rattle.turn_client_proto_api.specs.declared.answer.TurnPollRet.TheVariants as answer
@@ -77,12 +78,14 @@ abbrev pub answer_of : List Allocation → Option ℕ → ℕ → ℕ → TurnPo
 answer_of [] over now wait = answer.Closed
 answer_of (a ∷ rest) over now wait = waits_until over now (max wait now)
 
--- the allocations that are left, and the earliest wait
-abbrev pub IsPolledStanding : Option ℕ → ℕ → Protocol → ℕ → TurnPollRet → Protocol → Type 0
-IsPolledStanding over wait p now ret new = Answers
-    (answer_of (kept over now p.allocations) over now (earliest over (ready_after p.last_send now) now wait (kept over now p.allocations)))
-    (record p { allocations = map (polled over) (kept over now p.allocations) }) ret new
+-- the allocations that are left, and the earliest moment at which one of them, or the client, has something to do
+pub record IsPolledStanding (over : Option ℕ) (wait : ℕ) (p : Protocol) (now : ℕ) (ret : TurnPollRet) (new : Protocol) : Type 0 where
+  pub next : ℕ
+  pub least : IsLeastOf wait (nexts over (ready_after p.last_send now) now (kept over now p.allocations)) next
+  pub outcome : Answers (answer_of (kept over now p.allocations) over now next)
+      (record p { allocations = map (polled over) (kept over now p.allocations) }) ret new
 
+-- by how far the client is
 abbrev pub IsPolledIn : Phase → Option ℕ → ℕ → Protocol → ℕ → TurnPollRet → Protocol → Type 0
 IsPolledIn Initial over wait p now ret new = Answers (answer.WaitUntil now) p ret new
 IsPolledIn (InitialSent numbers) over wait p now ret new = IsPolledSent numbers over wait p now ret new

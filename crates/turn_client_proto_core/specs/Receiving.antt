@@ -11,7 +11,7 @@ use Rattle.stun_types.specs.MessageClasses.{MessageClass, Indication}
 use Rattle.stun_types.specs.Types.{class_of}
 use Rattle.turn_client_proto_allocation.specs.Awaited.{has_number}
 use Rattle.turn_client_proto_core.specs.Authenticating.{IsFirstJudged, IsSignedJudged}
-use Rattle.turn_client_proto_core.specs.Judging.{IsJudged}
+use Rattle.turn_client_proto_request.specs.Judging.{IsJudged}
 use Rattle.turn_client_proto_core.specs.Outcomes.{IsIgnored}
 use Rattle.turn_client_proto_core.specs.Responding.{judged}
 use Rattle.turn_client_proto_core.specs.Standing.{IsJudgedStanding}

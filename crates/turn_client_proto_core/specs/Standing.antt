@@ -14,9 +14,8 @@ use Rattle.turn_types.specs.TurnRegistry.{refresh_method}
 use Rattle.turn_client_proto_allocation.specs.Listed.{refresh_asked, refreshed_again}
 use Rattle.turn_client_proto_allocation.specs.Refreshing.{ends_by, renewed}
 use Rattle.turn_client_proto_request.specs.declared.request.TurnRequest.TheVariants.{Refresh}
-use Rattle.turn_client_proto_core.specs.Allocating.{lifetime_told}
+use Rattle.turn_client_proto_response.specs.Told.{first_code, is_code, lifetime_told}
 use Rattle.turn_client_proto_core.specs.Asking.{asked}
-use Rattle.turn_client_proto_core.specs.Authenticating.{first_code}
 use Rattle.turn_client_proto_core.specs.Ending.{ended}
 use Rattle.turn_client_proto_core.specs.Numbering.{IsNextNumber, after_number}
 use Rattle.turn_client_proto_core.specs.Outcomes.{IsHandled, IsIgnored}
@@ -53,17 +52,13 @@ IsRechallenged p bytes now handled new = MatchBool (is_tired p)
 
 -- ---- the response to a REFRESH
 
--- a REFRESH is granted by a success, or by the error that there is no allocation (RFC 8656, section 8.3)
-abbrev pub is_mismatch : Option ℕ → Bool
-is_mismatch None = false
-is_mismatch (Some code) = code == allocation_mismatch_code
-
 abbrev pub is_error_class : MessageClass → Bool
 is_error_class Error = true
 is_error_class _ = false
 
+-- a REFRESH is granted by a success, or by the error that there is no allocation (RFC 8656, section 8.3)
 abbrev pub is_refreshed : List ℕ → Bool
-is_refreshed bytes = if is_error_class (class_of (kind_at bytes)) then is_mismatch (first_code bytes) else true
+is_refreshed bytes = if is_error_class (class_of (kind_at bytes)) then is_code allocation_mismatch_code (first_code bytes) else true
 
 -- a client without allocations
 unfoldable pub deallocated : Protocol → Protocol

@@ -12,8 +12,8 @@ use stun_types::message::TransactionId;
 use turn_client_proto_request::request::TurnRequest;
 
 impl Protocol {
-    /// Makes a request of this number: it is outstanding from now on, and waits to be sent. Where memory is
-    /// refused, nothing changes. So it is, too, where a request of the number is outstanding.
+    /// Makes a request of this number: it is outstanding from now on, and waits to be sent. Where
+    /// memory is refused, nothing changes. So it is, too, where a request of the number is outstanding.
     #[tactic(auto, unfolding(crate::specs::Asking::asked))]
     pub(crate) fn ask(
         &mut self,

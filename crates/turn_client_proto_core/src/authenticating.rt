@@ -7,7 +7,7 @@ ghost use Rattle.stun_types.specs.Grammar.{number_at};
 ghost use Rattle.stun_types.specs.Types.{class_of};
 ghost use Rattle.turn_client_proto_request.specs.declared.request.TurnRequest.TheVariants.{Allocate};
 ghost use Rattle.turn_client_proto_core.specs.Asking.{asked};
-ghost use Rattle.turn_client_proto_core.specs.Authenticating.{IsAccepted, IsAllocateAnswered, IsChallenged, IsErrorAnswered, IsFirstJudged, IsSignedJudged, IsTurnedAway, allocates_again, allocates_other, family_left, first_code, is_unsupported_family, numbers_sent, other_family};
+ghost use Rattle.turn_client_proto_core.specs.Authenticating.{IsAccepted, IsAllocateAnswered, IsChallenged, IsErrorAnswered, IsFirstJudged, IsSignedJudged, IsTurnedAway, allocates_again, allocates_other, family_left, numbers_sent, other_family};
 ghost use Rattle.turn_client_proto_core.specs.Ending.{IsUnderWay};
 ghost use Rattle.turn_client_proto_core.specs.Numbering.{IsNextNumber, after_number};
 ghost use Rattle.turn_client_proto_core.specs.Receiving.{IsFollowed};
@@ -18,29 +18,17 @@ use std::alloc::Global;
 use std::mem;
 use stun_proto::Instant;
 use stun_proto::auth::{LongTermClientAuthError, LongTermClientValidation};
-use stun_types::attribute::{AttributeStaticType, ErrorCode};
 use stun_types::message::{Message, MessageClass, TransactionId};
 use stun_types::registry::ADDRESS_FAMILY_NOT_SUPPORTED;
 use stun_types::{AddressFamily, ListOf, NoMemory};
 use turn_client_proto_api::event::TurnEvent;
 use turn_client_proto_api::families::RequestedFamilies;
 use turn_client_proto_request::request::TurnRequest;
+use turn_client_proto_response::told::first_code;
 
 /// After so many challenges that were answered without an accepted response between, the next one ends
 /// the client.
 const MOST_RESENDS: u32 = 8;
-
-/// The code of the first ERROR-CODE, where it is there and well formed.
-#[tactic(auto, unfolding(stun_proto_claim::specs::Claims::code_told))]
-pub(crate) fn first_code(message: &Message<'_>) -> Option<u16>
-    ensures { result ≡ first_code message.now }
-{
-    let raw = message.raw_attribute(ErrorCode::TYPE)?;
-    match ErrorCode::code_of(&raw) {
-        Ok(code) => Some(code),
-        Err(_) => None,
-    }
-}
 
 /// The family that is left where the server has no addresses of IPv4, and both were asked for.
 fn other_family(families: RequestedFamilies) -> Option<AddressFamily>
@@ -80,8 +68,8 @@ impl Protocol {
         Ok(())
     }
 
-    /// A response is accepted: its transaction ends, and the challenges before it count no more. Where memory
-    /// is refused, nothing changes.
+    /// A response is accepted: its transaction ends, and the challenges before it count no more. Where
+    /// memory is refused, nothing changes.
     #[tactic(auto, unfolding(crate::specs::Responding::accepted, crate::specs::Responding::answered))]
     pub(crate) fn accept(&mut self, message: &Message<'_>) -> Result<(), NoMemory>
         ensures ok { OnOk result (self.new ≡ accepted message.now self.old) }
@@ -92,8 +80,8 @@ impl Protocol {
         Ok(())
     }
 
-    /// A challenge was answered: its transaction ends, and it is counted. Where memory is refused, nothing
-    /// changes.
+    /// A challenge was answered: its transaction ends, and it is counted. Where memory is refused,
+    /// nothing changes.
     #[tactic(auto, unfolding(crate::specs::Responding::challenged, crate::specs::Responding::answered))]
     pub(crate) fn count_challenge(&mut self, message: &Message<'_>) -> Result<(), NoMemory>
         requires { is_tired self.old ≡ false }
@@ -118,7 +106,7 @@ fn numbers_sent(alloc: Global, phase: Phase) -> ListOf<TransactionId>
 
 impl Protocol {
     /// Asks for an allocation under the credentials, once more.
-    #[tactic(auto, using(crate::proofs::Prefixes::front_kept, crate::proofs::Prefixes::whole_kept), unfolding(crate::specs::Authenticating::allocates_again, crate::specs::Asking::asked))]
+    #[tactic(auto, using(turn_client_proto_response::proofs::Prefixes::front_kept, turn_client_proto_response::proofs::Prefixes::whole_kept), unfolding(crate::specs::Authenticating::allocates_again, crate::specs::Asking::asked))]
     fn allocate_again(&mut self, now: Instant) -> Result<(), NoMemory>
         ensures ok { OnOk result ((number : ℕ) × IsNextNumber self.old number
             × (self.new ≡ allocates_again number now self.old)) }
@@ -135,7 +123,7 @@ impl Protocol {
     }
 
     /// A challenge that can be answered came (RFC 8489, section 9.2.5).
-    #[tactic(auto, using(crate::proofs::Prefixes::front_kept, crate::proofs::Prefixes::whole_kept), unfolding(crate::specs::Authenticating::allocates_again, crate::specs::Asking::asked, crate::specs::Ending::ended))]
+    #[tactic(auto, using(turn_client_proto_response::proofs::Prefixes::front_kept, turn_client_proto_response::proofs::Prefixes::whole_kept), unfolding(crate::specs::Authenticating::allocates_again, crate::specs::Asking::asked, crate::specs::Ending::ended))]
     fn answer_challenge(&mut self, message: &Message<'_>, now: Instant) -> Result<bool, NoMemory>
         ensures ok { IfOk result (λ handled.
             IsChallenged self.old message.now now handled self.new) }
@@ -154,7 +142,7 @@ impl Protocol {
     }
 
     /// A response to the first ALLOCATE came that is no challenge, or one that can't be answered.
-    #[tactic(auto, using(crate::proofs::Prefixes::front_kept, crate::proofs::Prefixes::whole_kept), unfolding(crate::specs::Responding::answered))]
+    #[tactic(auto, using(turn_client_proto_response::proofs::Prefixes::front_kept, turn_client_proto_response::proofs::Prefixes::whole_kept), unfolding(crate::specs::Responding::answered))]
     fn turn_away(&mut self, message: &Message<'_>) -> Result<bool, NoMemory>
         ensures ok { IfOk result (λ handled. IsTurnedAway self.old message.now handled self.new) }
         ensures err { OnErr result (IsUnderWay self.old self.new) }
@@ -168,7 +156,7 @@ impl Protocol {
     }
 
     /// A response came where no ALLOCATE was signed.
-    #[tactic(auto, using(crate::proofs::Prefixes::front_kept, crate::proofs::Prefixes::whole_kept))]
+    #[tactic(auto, using(turn_client_proto_response::proofs::Prefixes::front_kept, turn_client_proto_response::proofs::Prefixes::whole_kept))]
     pub(crate) fn hear_first(
         &mut self,
         message: &Message<'_>,
@@ -190,7 +178,7 @@ impl Protocol {
     }
 
     /// A response to one of the signed ALLOCATEs came.
-    #[tactic(auto, using(crate::proofs::Prefixes::front_kept, crate::proofs::Prefixes::whole_kept))]
+    #[tactic(auto, using(turn_client_proto_response::proofs::Prefixes::front_kept, turn_client_proto_response::proofs::Prefixes::whole_kept))]
     pub(crate) fn hear_signed(
         &mut self,
         message: &Message<'_>,
@@ -213,7 +201,7 @@ impl Protocol {
     }
 
     /// A response to a signed ALLOCATE came that validates.
-    #[tactic(auto, using(crate::proofs::Prefixes::front_kept, crate::proofs::Prefixes::whole_kept), unfolding(crate::specs::Responding::accepted))]
+    #[tactic(auto, using(turn_client_proto_response::proofs::Prefixes::front_kept, turn_client_proto_response::proofs::Prefixes::whole_kept), unfolding(crate::specs::Responding::accepted))]
     fn take_response(&mut self, message: &Message<'_>, now: Instant) -> Result<bool, NoMemory>
         ensures ok { IfOk result (λ handled.
             IsAccepted self.old message.now now handled self.new) }
@@ -228,7 +216,7 @@ impl Protocol {
     }
 
     /// A response to a signed ALLOCATE was accepted.
-    #[tactic(auto, using(crate::proofs::Prefixes::front_kept, crate::proofs::Prefixes::whole_kept))]
+    #[tactic(auto, using(turn_client_proto_response::proofs::Prefixes::front_kept, turn_client_proto_response::proofs::Prefixes::whole_kept))]
     fn take_answer(&mut self, message: &Message<'_>, now: Instant) -> Result<bool, NoMemory>
         ensures ok { IfOk result (λ handled. IsAllocateAnswered
             (class_of (kind_at message.now)) self.old message.now now handled self.new) }
@@ -252,7 +240,7 @@ impl Protocol {
     }
 
     /// An error response to a signed ALLOCATE was accepted (RFC 8656, section 7.4).
-    #[tactic(auto, using(crate::proofs::Prefixes::front_kept, crate::proofs::Prefixes::whole_kept))]
+    #[tactic(auto, using(turn_client_proto_response::proofs::Prefixes::front_kept, turn_client_proto_response::proofs::Prefixes::whole_kept))]
     fn take_error(&mut self, message: &Message<'_>, now: Instant) -> Result<bool, NoMemory>
         ensures ok { IfOk result (λ handled. IsErrorAnswered
             (family_left self.old message.now) self.old now handled self.new) }
@@ -267,7 +255,7 @@ impl Protocol {
     }
 
     /// Gives up IPv4, and asks for an address of the family that is left.
-    #[tactic(auto, using(crate::proofs::Prefixes::front_kept, crate::proofs::Prefixes::whole_kept), unfolding(crate::specs::Authenticating::allocates_other, crate::specs::Asking::asked))]
+    #[tactic(auto, using(turn_client_proto_response::proofs::Prefixes::front_kept, turn_client_proto_response::proofs::Prefixes::whole_kept), unfolding(crate::specs::Authenticating::allocates_other, crate::specs::Asking::asked))]
     fn allocate_other(&mut self, family: AddressFamily, now: Instant) -> Result<(), NoMemory>
         ensures ok { OnOk result ((number : ℕ) × IsNextNumber self.old number
             × (self.new ≡ allocates_other family number now self.old)) }

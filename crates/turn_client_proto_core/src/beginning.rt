@@ -5,7 +5,6 @@ ghost use Rattle.stun_types.specs.Registry.{longest_username};
 ghost use Rattle.turn_client_proto_core.specs.Beginning.{IsNew};
 
 use crate::protocol::{Phase, Protocol};
-use crate::signer::Signer;
 use rand_chacha::ChaCha20Rng;
 use rand_core::SeedableRng;
 use std::alloc::Global;
@@ -14,6 +13,7 @@ use stun_types::TransportType;
 use turn_client_proto_allocation::listed::Allocations;
 use turn_client_proto_allocation::queue::QueueOf;
 use turn_client_proto_api::config::TurnConfig;
+use turn_client_proto_request::signer::Signer;
 
 impl Protocol {
     /// A client with these settings that nothing was sent by, and nothing asked of, yet. It keeps the

@@ -17,10 +17,10 @@ use turn_client_proto_api::event::TurnEvent;
 use turn_client_proto_request::request::TurnRequest;
 
 impl Protocol {
-    /// Asks for the end of the allocations (RFC 8656, section 8.1): a REFRESH of lifetime 0 is made, and each
-    /// allocation is marked as expired, with no permission and no channel. Refused with `NoAllocation`
-    /// where the server has allocated nothing, or the client has ended. Where memory is refused, `NoMemory`,
-    /// and nothing changes but the words that were drawn.
+    /// Asks for the end of the allocations (RFC 8656, section 8.1): a REFRESH of lifetime 0 is made,
+    /// and each allocation is marked as expired, with no permission and no channel. Refused with
+    /// `NoAllocation` where the server has allocated nothing, or the client has ended. Where memory is
+    /// refused, `NoMemory`, and nothing changes but the words that were drawn.
     pub fn delete(&mut self, now: Instant) -> Result<(), DeleteError>
         ensures { IsDeleteAnswered self.old now result self.new }
     {

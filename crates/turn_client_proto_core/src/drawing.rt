@@ -16,16 +16,13 @@ use stun_types::data::{Data, DataOwned};
 use stun_types::message::TransactionId;
 use stun_types::{ListOf, NoMemory, Transmit, TransportType};
 use turn_client_proto_allocation::refresh::PendingRefresh;
-use turn_client_proto_request::request::TurnRequest;
-
-/// The lifetime that a REFRESH asks for, in seconds.
-const LIFETIME: u32 = 1800;
+use turn_client_proto_request::request::{ALLOCATION_LIFETIME, TurnRequest};
 
 impl Protocol {
-    /// What is to be sent at a moment, where there is something. A request that is due again comes first;
-    /// then, 50 ms after the last message at the earliest, what waits longest; then the first ALLOCATE, or a
-    /// REFRESH for an allocation that is to be renewed. Call it again until it answers `None`. Where memory
-    /// is refused, `NoMemory`, and the client has failed.
+    /// What is to be sent at a moment, where there is something. A request that is due again comes
+    /// first; then, 50 ms after the last message at the earliest, what waits longest; then the first
+    /// ALLOCATE, or a REFRESH for an allocation that is to be renewed. Call it again until it answers
+    /// `None`. Where memory is refused, `NoMemory`, and the client has failed.
     pub fn poll_transmit(
         &mut self,
         now: Instant,
@@ -45,7 +42,7 @@ impl Protocol {
     }
 
     /// The same; but where memory is refused, the client is under way still.
-    #[tactic(auto, using(crate::proofs::Prefixes::front_kept, crate::proofs::Prefixes::whole_kept))]
+    #[tactic(auto, using(turn_client_proto_response::proofs::Prefixes::front_kept, turn_client_proto_response::proofs::Prefixes::whole_kept))]
     fn draw(&mut self, now: Instant) -> Result<Option<Transmit<Data<'static>>>, NoMemory>
         ensures ok { IfOk result (λ answer.
             IsDrawn self.old now (option_map sent_of answer) self.new) }
@@ -61,7 +58,7 @@ impl Protocol {
     }
 
     /// A request that is due again.
-    #[tactic(auto, using(crate::proofs::Prefixes::front_kept, crate::proofs::Prefixes::whole_kept))]
+    #[tactic(auto, using(turn_client_proto_response::proofs::Prefixes::front_kept, turn_client_proto_response::proofs::Prefixes::whole_kept))]
     fn draw_again(&mut self, now: Instant) -> Result<Option<Transmit<Data<'static>>>, NoMemory>
         ensures ok { IfOk result (λ answer. MatchOption answer
             (NoneDue self.old.agent now × (self.new ≡ self.old))
@@ -88,7 +85,7 @@ impl Protocol {
     }
 
     /// The first message that waits, or else one that is made now.
-    #[tactic(auto, using(crate::proofs::Prefixes::front_kept, crate::proofs::Prefixes::whole_kept))]
+    #[tactic(auto, using(turn_client_proto_response::proofs::Prefixes::front_kept, turn_client_proto_response::proofs::Prefixes::whole_kept))]
     fn draw_next(&mut self, now: Instant) -> Result<Option<Transmit<Data<'static>>>, NoMemory>
         ensures ok { IfOk result (λ answer.
             IsNextSent self.old.queue self.old now (option_map sent_of answer) self.new) }
@@ -107,7 +104,7 @@ impl Protocol {
     }
 
     /// A message that is made now: the first ALLOCATE, or a REFRESH whose time has come.
-    #[tactic(auto, using(crate::proofs::Prefixes::front_kept, crate::proofs::Prefixes::whole_kept))]
+    #[tactic(auto, using(turn_client_proto_response::proofs::Prefixes::front_kept, turn_client_proto_response::proofs::Prefixes::whole_kept))]
     fn begin(&mut self, now: Instant) -> Result<Option<Transmit<Data<'static>>>, NoMemory>
         ensures ok { IfOk result (λ answer.
             IsBegun self.old.phase self.old now (option_map sent_of answer) self.new) }
@@ -126,7 +123,7 @@ impl Protocol {
     }
 
     /// Sends the first ALLOCATE.
-    #[tactic(auto, using(crate::proofs::Prefixes::front_kept, crate::proofs::Prefixes::whole_kept), unfolding(crate::specs::Drawing::first_allocated, crate::specs::Drawing::sent_at_once))]
+    #[tactic(auto, using(turn_client_proto_response::proofs::Prefixes::front_kept, turn_client_proto_response::proofs::Prefixes::whole_kept), unfolding(crate::specs::Drawing::first_allocated, crate::specs::Drawing::sent_at_once))]
     fn send_first(&mut self, now: Instant) -> Result<Transmit<Data<'static>>, NoMemory>
         ensures ok { IfOk result (λ sent. IsFirstSent self.old now (sent_of sent) self.new) }
         ensures err { OnErr result (IsUnderWay self.old self.new) }
@@ -142,24 +139,24 @@ impl Protocol {
     }
 
     /// Sends a REFRESH for the first allocation that is to be renewed.
-    #[tactic(auto, using(crate::proofs::Prefixes::front_kept, crate::proofs::Prefixes::whole_kept), unfolding(crate::specs::Drawing::first_refreshed, crate::specs::Drawing::sent_at_once))]
+    #[tactic(auto, using(turn_client_proto_response::proofs::Prefixes::front_kept, turn_client_proto_response::proofs::Prefixes::whole_kept), unfolding(crate::specs::Drawing::first_refreshed, crate::specs::Drawing::sent_at_once))]
     fn send_refresh(&mut self, now: Instant) -> Result<Transmit<Data<'static>>, NoMemory>
         ensures ok { IfOk result (λ sent. IsRefreshSent self.old now (sent_of sent) self.new) }
         ensures err { OnErr result (IsUnderWay self.old self.new) }
     {
         let number = self.draw_number();
-        let sent = self.send_at_once(number, TurnRequest::Refresh(LIFETIME), now)?;
+        let sent = self.send_at_once(number, TurnRequest::Refresh(ALLOCATION_LIFETIME), now)?;
         let refresh = PendingRefresh {
             number,
-            lifetime: LIFETIME,
+            lifetime: ALLOCATION_LIFETIME,
         };
         self.allocations.refresh_first(now, &refresh)?;
         self.last_send = Some(now);
         Ok(sent)
     }
 
-    /// Makes a request of this number that is sent at once, and is outstanding from now on. Where memory is
-    /// refused, nothing changes.
+    /// Makes a request of this number that is sent at once, and is outstanding from now on. Where
+    /// memory is refused, nothing changes.
     #[tactic(auto, unfolding(crate::specs::Drawing::sent_at_once))]
     fn send_at_once(
         &mut self,

@@ -1,50 +1,12 @@
 //! How a client ends.
 
-ghost use Rattle.std.specs.Prelude.{◌≡◌, ◌++◌, OnOk, OnErr, length, map, take};
-ghost use Rattle.turn_client_proto_api.specs.declared.event.TurnEvent.TheVariants.{AllocationCreateFailed};
+ghost use Rattle.std.specs.Prelude.{◌≡◌, OnOk, OnErr};
 ghost use Rattle.turn_client_proto_core.specs.Ending.{ended, failed};
 
 use crate::protocol::{Phase, Protocol};
 use stun_proto::agent::StunAgent;
-use stun_types::{AddressFamily, NoMemory};
-use turn_client_proto_allocation::queue::QueueOf;
-use turn_client_proto_api::event::TurnEvent;
-
-/// Tells that no address of these families is allocated. Where memory is refused, the events that were
-/// there still come first.
-#[tactic(auto, using(crate::proofs::Prefixes::front_kept, crate::proofs::Prefixes::whole_kept))]
-fn push_failures(
-    events: &mut QueueOf<TurnEvent>,
-    families: &[AddressFamily],
-) -> Result<(), NoMemory>
-    ensures ok { OnOk result (events.new
-        ≡ events.old ++ map AllocationCreateFailed families.now) }
-    ensures err { OnErr result (take (length events.old) events.new ≡ events.old) }
-{
-    for family in families {
-        events.push_back(TurnEvent::AllocationCreateFailed(*family))?;
-    }
-    Ok(())
-}
-
-/// The same, or nothing changes.
-fn tell_failures(
-    events: &mut QueueOf<TurnEvent>,
-    families: &[AddressFamily],
-) -> Result<(), NoMemory>
-    ensures ok { OnOk result (events.new
-        ≡ events.old ++ map AllocationCreateFailed families.now) }
-    ensures err { OnErr result (events.new ≡ events.old) }
-{
-    let count = events.len();
-    match push_failures(events, families) {
-        Ok(()) => Ok(()),
-        Err(e) => {
-            events.truncate(count);
-            Err(e)
-        }
-    }
-}
+use stun_types::NoMemory;
+use turn_client_proto_response::telling::tell_failures;
 
 impl Protocol {
     /// Ends the client: that no address is allocated is told for each family, in order. What is
@@ -59,8 +21,8 @@ impl Protocol {
         Ok(())
     }
 
-    /// Gives up after memory was refused. Nothing is held, awaited or sent any more. So many of the events
-    /// are left.
+    /// Gives up after memory was refused. Nothing is held, awaited or sent any more. So many of the
+    /// events are left.
     #[tactic(auto, unfolding(crate::specs::Ending::failed))]
     pub(crate) fn fail(&mut self, events: usize)
         ensures { self.new ≡ failed events self.old }

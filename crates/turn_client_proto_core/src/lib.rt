@@ -1,6 +1,6 @@
-//! The protocol core of a TURN client (RFC 8656): what it keeps, what it makes of each message that came,
-//! what it does as time goes on, and what it sends. It knows of no transport's framing: [`protocol`]
-//! tells what it keeps, and the other modules have its calls.
+//! The protocol core of a TURN client (RFC 8656): what it keeps, what it makes of each message that
+//! came, what it does as time goes on, and what it sends. It knows of no transport's framing:
+//! [`protocol`] tells what it keeps, and the other modules have its calls.
 #![tactic(auto)]
 
 pub mod allocating;
@@ -14,5 +14,4 @@ pub mod number;
 pub mod polling;
 pub mod protocol;
 pub mod receiving;
-pub mod signer;
 pub mod standing;

@@ -50,8 +50,8 @@ impl Protocol {
             || (self.phase.awaits(number) || self.allocations.is_any_awaited(number))
     }
 
-    /// The first number from this one on that isn't taken. The search ends at last behind 2^64 - 1 numbers,
-    /// for so many no client has the memory.
+    /// The first number from this one on that isn't taken. The search ends at last behind 2^64 - 1
+    /// numbers, for so many no client has the memory.
     fn first_free(&self, from: TransactionId) -> TransactionId
         ensures { IsFirstFree self.now from result }
     {

@@ -95,11 +95,12 @@ fn is_among(ended: &Option<TransactionId>, numbers: &[TransactionId]) -> bool
 }
 
 impl Protocol {
-    /// What is to be done at a moment. Where an event waits, the answer is to wait for that very moment:
-    /// `poll_event` gives it. Else a request that has ended without a response is given up, and allocations
-    /// whose time is over go. The answer is `Closed` where the client has ended or has no allocation left,
-    /// and else the moment until which nothing is to be done, at most 9999 seconds from now; it is now where
-    /// a request has ended. Where memory is refused, `NoMemory`, and the client has failed.
+    /// What is to be done at a moment. Where an event waits, the answer is to wait for that very
+    /// moment: `poll_event` gives it. Else a request that has ended without a response is given up, and
+    /// allocations whose time is over go. The answer is `Closed` where the client has ended or has no
+    /// allocation left, and else the moment until which nothing is to be done, at most 9999 seconds
+    /// from now; it is now where a request has ended. Where memory is refused, `NoMemory`, and the
+    /// client has failed.
     pub fn poll(&mut self, now: Instant) -> TurnPollRet
         ensures { IsPolled self.old now result self.new }
     {
@@ -137,7 +138,7 @@ impl Protocol {
     }
 
     /// Polls the agent, and does what follows, where no event waits.
-    #[tactic(auto, using(crate::proofs::Prefixes::front_kept, crate::proofs::Prefixes::whole_kept))]
+    #[tactic(auto, using(turn_client_proto_response::proofs::Prefixes::front_kept, turn_client_proto_response::proofs::Prefixes::whole_kept))]
     fn tick(&mut self, now: Instant) -> Result<TurnPollRet, NoMemory>
         ensures ok { IfOk result (λ answer. IsTicked self.old now answer self.new) }
         ensures named { IfOk result (λ answer. answer ≢ TurnPollRet.NoMemory) }
@@ -150,7 +151,7 @@ impl Protocol {
     }
 
     /// Does what follows from what the agent told.
-    #[tactic(auto, using(crate::proofs::Prefixes::front_kept, crate::proofs::Prefixes::whole_kept))]
+    #[tactic(auto, using(turn_client_proto_response::proofs::Prefixes::front_kept, turn_client_proto_response::proofs::Prefixes::whole_kept))]
     fn follow(
         &mut self,
         ended: &Option<TransactionId>,

@@ -4,7 +4,6 @@ ghost use Rattle.std.specs.Prelude.{◌≡◌};
 ghost use Rattle.turn_client_proto_allocation.specs.Awaited.{has_number};
 ghost use Rattle.turn_client_proto_core.specs.Numbering.{awaits};
 
-use crate::signer::Signer;
 use rand_chacha::ChaCha20Rng;
 use std::alloc::Global;
 use std::marker::Model;
@@ -18,6 +17,7 @@ use turn_client_proto_allocation::numbers::has_number;
 use turn_client_proto_allocation::queue::QueueOf;
 use turn_client_proto_api::event::TurnEvent;
 use turn_client_proto_api::families::RequestedFamilies;
+use turn_client_proto_request::signer::Signer;
 
 /// How far a client is.
 #[derive(Debug, Drop)]
@@ -26,8 +26,8 @@ pub enum Phase {
     Initial,
     /// An ALLOCATE was sent without credentials, under these numbers.
     InitialSent(ListOf<TransactionId>),
-    /// An ALLOCATE was sent with credentials; these are the numbers of all that were sent since the last
-    /// answer that the server meant.
+    /// An ALLOCATE was sent with credentials; these are the numbers of all that were sent since the
+    /// last answer that the server meant.
     Authenticating(ListOf<TransactionId>),
     /// The server has allocated.
     Authenticated,

@@ -11,9 +11,9 @@ use stun_types::message::{Message, MessageClass};
 use turn_client_proto_allocation::numbers::has_number;
 
 impl Protocol {
-    /// A message came from the server at a moment. Answers whether it was for the client. Where memory is
-    /// refused, `NoMemory`: then the client has ended, holds and awaits nothing, and sends nothing more;
-    /// the events that waited still do.
+    /// A message came from the server at a moment. Answers whether it was for the client. Where memory
+    /// is refused, `NoMemory`: then the client has ended, holds and awaits nothing, and sends nothing
+    /// more; the events that waited still do.
     pub fn handle_message(&mut self, message: &Message<'_>, now: Instant) -> Result<bool, NoMemory>
         ensures ok { IfOk result (λ handled. IsHeard self.old message.now now handled self.new) }
         ensures err { OnErr result (HasFailed self.old self.new) }
@@ -29,7 +29,7 @@ impl Protocol {
     }
 
     /// The same; but where memory is refused, the client is under way still.
-    #[tactic(auto, using(crate::proofs::Prefixes::front_kept, crate::proofs::Prefixes::whole_kept))]
+    #[tactic(auto, using(turn_client_proto_response::proofs::Prefixes::front_kept, turn_client_proto_response::proofs::Prefixes::whole_kept))]
     fn hear(&mut self, message: &Message<'_>, now: Instant) -> Result<bool, NoMemory>
         ensures ok { IfOk result (λ handled. IsHeard self.old message.now now handled self.new) }
         ensures err { OnErr result (IsUnderWay self.old self.new) }

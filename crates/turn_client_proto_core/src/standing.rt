@@ -7,8 +7,6 @@ ghost use Rattle.turn_client_proto_core.specs.Numbering.{IsNextNumber};
 ghost use Rattle.turn_client_proto_core.specs.Receiving.{IsFollowed};
 ghost use Rattle.turn_client_proto_core.specs.Standing.{IsJudgedStanding, IsRechallenged, IsTakenUp, after_refresh, deallocated, is_refreshed, refreshed, refreshes_again};
 
-use crate::allocating::lifetime_told;
-use crate::authenticating::first_code;
 use crate::protocol::{Phase, Protocol};
 use stun_proto::Instant;
 use stun_proto::auth::{LongTermClientAuthError, LongTermClientValidation};
@@ -17,6 +15,7 @@ use stun_types::message::{Message, MessageClass, TransactionId};
 use stun_types::registry::ALLOCATION_MISMATCH;
 use turn_client_proto_allocation::refresh::PendingRefresh;
 use turn_client_proto_request::request::TurnRequest;
+use turn_client_proto_response::told::{first_code, lifetime_told};
 use turn_types::message::REFRESH;
 
 /// Whether a REFRESH is granted by its response: by a success, or by the error that there is no
@@ -32,7 +31,7 @@ fn is_refreshed(message: &Message<'_>) -> bool
 
 impl Protocol {
     /// A request or a response came.
-    #[tactic(auto, using(crate::proofs::Prefixes::front_kept, crate::proofs::Prefixes::whole_kept))]
+    #[tactic(auto, using(turn_client_proto_response::proofs::Prefixes::front_kept, turn_client_proto_response::proofs::Prefixes::whole_kept))]
     pub(crate) fn hear_standing(
         &mut self,
         message: &Message<'_>,
@@ -51,7 +50,7 @@ impl Protocol {
     }
 
     /// A challenge that can be answered came (RFC 8489, section 9.2.5).
-    #[tactic(auto, using(crate::proofs::Prefixes::front_kept, crate::proofs::Prefixes::whole_kept), unfolding(crate::specs::Standing::refreshes_again, crate::specs::Asking::asked))]
+    #[tactic(auto, using(turn_client_proto_response::proofs::Prefixes::front_kept, turn_client_proto_response::proofs::Prefixes::whole_kept), unfolding(crate::specs::Standing::refreshes_again, crate::specs::Asking::asked))]
     fn ask_again(&mut self, message: &Message<'_>, now: Instant) -> Result<bool, NoMemory>
         ensures ok { IfOk result (λ handled.
             IsRechallenged self.old message.now now handled self.new) }
@@ -73,9 +72,9 @@ impl Protocol {
         Ok(true)
     }
 
-    /// Sends a REFRESH of this lifetime again, under another number, for the allocation that awaits the one
-    /// of the old number.
-    #[tactic(auto, using(crate::proofs::Prefixes::front_kept, crate::proofs::Prefixes::whole_kept), unfolding(crate::specs::Standing::refreshes_again, crate::specs::Asking::asked))]
+    /// Sends a REFRESH of this lifetime again, under another number, for the allocation that awaits the
+    /// one of the old number.
+    #[tactic(auto, using(turn_client_proto_response::proofs::Prefixes::front_kept, turn_client_proto_response::proofs::Prefixes::whole_kept), unfolding(crate::specs::Standing::refreshes_again, crate::specs::Asking::asked))]
     fn refresh_again(
         &mut self,
         old: TransactionId,
@@ -94,7 +93,7 @@ impl Protocol {
     }
 
     /// A request or a response came that validates.
-    #[tactic(auto, using(crate::proofs::Prefixes::front_kept, crate::proofs::Prefixes::whole_kept), unfolding(crate::specs::Responding::accepted))]
+    #[tactic(auto, using(turn_client_proto_response::proofs::Prefixes::front_kept, turn_client_proto_response::proofs::Prefixes::whole_kept), unfolding(crate::specs::Responding::accepted))]
     fn take_up(&mut self, message: &Message<'_>, now: Instant) -> Result<bool, NoMemory>
         ensures ok { IfOk result (λ handled.
             IsTakenUp self.old message.now now handled self.new) }
@@ -121,7 +120,8 @@ impl Protocol {
         }
     }
 
-    /// A REFRESH was granted: the allocations are gone where their end was asked for, and are renewed else.
+    /// A REFRESH was granted: the allocations are gone where their end was asked for, and are renewed
+    /// else.
     #[tactic(auto, unfolding(crate::specs::Standing::refreshed, crate::specs::Standing::deallocated))]
     fn refresh(&mut self, message: &Message<'_>, now: Instant)
         ensures { self.new ≡ refreshed message.now now self.old }

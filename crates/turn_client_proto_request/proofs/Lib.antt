@@ -1,3 +1,4 @@
+pub mod Algorithms
 pub mod Beside
 pub mod Families
 pub mod Growing

@@ -1,4 +1,5 @@
 pub mod Composing
+pub mod Judging
 pub mod Requests
 pub mod ShortTexts
 pub mod ToldRequests

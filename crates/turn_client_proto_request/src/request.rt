@@ -12,6 +12,9 @@ use stun_types::message::{MessageWrite, TransactionId};
 use stun_types::{NoMemory, TransportType};
 use turn_client_proto_api::families::RequestedFamilies;
 
+/// For how many seconds a client asks for an allocation, and for its renewal (RFC 8656, section 7.1).
+pub const ALLOCATION_LIFETIME: u32 = 1800;
+
 /// What a request of a client asks for.
 #[derive(Clone, Copy, Debug, PartialEq, Eq)]
 pub enum TurnRequest {

@@ -11,7 +11,7 @@ use crate::attributes::{
     add_channel, add_connection, add_dont_fragment, add_families, add_lifetime, add_peer,
     add_transport, begin,
 };
-use crate::request::TurnRequest;
+use crate::request::{ALLOCATION_LIFETIME, TurnRequest};
 use std::alloc::Global;
 use std::net::{IpAddr, SocketAddr};
 use stun_types::message::{MessageWriteVec, Method, TransactionId};
@@ -20,9 +20,6 @@ use turn_client_proto_api::families::RequestedFamilies;
 use turn_types::message::{
     ALLOCATE, CHANNEL_BIND, CONNECT, CONNECTION_BIND, CREATE_PERMISSION, REFRESH,
 };
-
-/// For how many seconds an allocation is asked for.
-const ALLOCATION_LIFETIME: u32 = 1800;
 
 /// A request of this number that is not signed yet. Where memory is refused, `NoMemory`.
 pub(crate) fn write_unsigned(

@@ -9,18 +9,18 @@ use Rattle.turn_client_proto_api.specs.declared.answer.TurnRecvRet.{TurnRecvRet}
 use Rattle.turn_client_proto_api.specs.declared.answer.TurnRecvRet.TheVariants.{NoMemory}
 use Rattle.turn_client_proto_core.specs.Ending.{HasFailed}
 use Rattle.turn_client_proto_core.specs.declared.protocol.Protocol.{Protocol}
-use Rattle.turn_client_proto_calls.specs.Receipts.{IsHandledAs, IsLost, IsOfServer, IsRead, IsReceived, IsTaken, Own}
+use Rattle.turn_client_proto_calls.specs.Receipts.{IsHandledAs, Lost, IsOfServer, IsRead, IsReceived, Heard, Own}
 use Rattle.turn_client_proto_udp.specs.HandingIn.{IsHandedIn}
 
 read_by : {T : Type 0} (refused : Option StunParseError) (old : Protocol) (bytes : List ℕ) (came : Transmit T) (now : ℕ) (handled : Bool) (answer : TurnRecvRet T) (new : Protocol)
     → IsHandedIn refused old bytes now handled new → IsHandledAs came handled answer → IsRead refused old bytes came now answer new
-read_by None old bytes came now handled answer new heard told = IsTaken handled heard told
+read_by None old bytes came now handled answer new heard told = Heard handled heard told
 read_by (Some error) old bytes came now handled answer new unread told =
     (subst (λ (h : Bool). IsHandledAs came h answer) unread.0 told, unread.1)
 
 lost_by : {T : Type 0} (refused : Option StunParseError) (old : Protocol) (bytes : List ℕ) (came : Transmit T) (now : ℕ) (answer : TurnRecvRet T) (new : Protocol)
     → refused ≡ None → HasFailed old new → answer ≡ NoMemory came → IsRead refused old bytes came now answer new
-lost_by None old bytes came now answer new is failed told = IsLost told failed
+lost_by None old bytes came now answer new is failed told = Lost told failed
 lost_by (Some error) old bytes came now answer new is failed told = absurd (Prim.cc is)
 
 own_by : (is : Bool) (P N : Type 0) → is ≡ true → MatchBool is P N → P

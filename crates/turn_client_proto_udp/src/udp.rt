@@ -46,10 +46,11 @@ impl Model for TurnClientUdp {
 }
 
 impl TurnClientUdp {
-    /// A client that asks the server at `remote`, from `local`, for an allocation over UDP as the settings
-    /// say. Nothing is sent yet: `poll_transmit` answers the first ALLOCATE. The numbers of its messages are
-    /// drawn from the ChaCha20 generator of the seed, three words each, the first of them highest. The name
-    /// of the user has 513 bytes at most. It takes no memory now, and never answers `NoMemory`.
+    /// A client that asks the server at `remote`, from `local`, for an allocation over UDP as the
+    /// settings say. Nothing is sent yet: `poll_transmit` answers the first ALLOCATE. The numbers of
+    /// its messages are drawn from the ChaCha20 generator of the seed, three words each, the first of
+    /// them highest. The name of the user has 513 bytes at most. It takes no memory now, and never
+    /// answers `NoMemory`.
     pub fn allocate(
         alloc: Global,
         local: SocketAddr,

@@ -1,5 +1,5 @@
 use Rattle.std.proofs.Common.{◌≡◌, take}
-use Rattle.turn_client_proto_allocation.specs.Polling.{earliest}
+use Rattle.turn_client_proto_allocation.proofs.Earliest.{earliest}
 use Rattle.turn_client_proto_allocation.proofs.listed.earliest.Given as goal
 
 -- the earliest of those so far

@@ -1,6 +1,6 @@
 use Rattle.std.proofs.Common.{◌∙◌}
-use Rattle.turn_client_proto_core.proofs.Algorithms.{added}
-use Rattle.turn_client_proto_core.proofs.signer.add_algorithm.Goals as goal
+use Rattle.turn_client_proto_request.proofs.Algorithms.{added}
+use Rattle.turn_client_proto_request.proofs.signer.add_algorithm.Goals as goal
 
 pub returns-in-Some : goal.returns-in-Some
 returns-in-Some c =

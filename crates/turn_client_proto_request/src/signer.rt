@@ -5,20 +5,20 @@ ghost use Rattle.std.specs.List.{IsDistinct};
 ghost use Rattle.stun_proto.specs.SupportedAlgorithms.{is_same_algorithm};
 ghost use Rattle.stun_types.specs.Registry.{longest_username};
 ghost use Rattle.turn_client_proto_request.specs.Requests.{request_text};
-ghost use Rattle.turn_client_proto_core.specs.Judging.{IsJudged, signer_of};
+ghost use Rattle.turn_client_proto_request.specs.Judging.{IsJudged, signer_of};
 
+use crate::laws::texts_stay_short;
+use crate::request::{TurnRequest, write_request};
 use std::alloc::Global;
 use std::marker::Model;
 use stun_proto::auth::{LongTermClientAuth, LongTermClientAuthError, LongTermClientValidation};
 use stun_types::NoMemory;
 use stun_types::message::{IntegrityAlgorithm, LongTermCredentials, Message, TransactionId};
 use turn_client_proto_api::config::TurnConfig;
-use turn_client_proto_request::laws::texts_stay_short;
-use turn_client_proto_request::request::{TurnRequest, write_request};
 
-/// The client's side of long-term authentication. Its name, and the realm and the nonce of the challenge
-/// that it keeps, are no longer than their attributes may be, so that each request can be signed. Contracts
-/// see the record `Client` of `stun_proto`.
+/// The client's side of long-term authentication. Its name, and the realm and the nonce of the
+/// challenge that it keeps, are no longer than their attributes may be, so that each request can be
+/// signed. Contracts see the record `Client` of `stun_proto`.
 #[derive(Debug, Drop)]
 pub struct Signer {
     auth: LongTermClientAuth,
@@ -63,8 +63,8 @@ fn set_algorithms(auth: &mut LongTermClientAuth, algorithms: &[IntegrityAlgorith
 }
 
 impl Signer {
-    /// The authenticator of a new client with these settings: it has the credentials and the algorithms of
-    /// the settings, hides its name as they say, and keeps no challenge.
+    /// The authenticator of a new client with these settings: it has the credentials and the algorithms
+    /// of the settings, hides its name as they say, and keeps no challenge.
     pub fn new(alloc: Global, config: TurnConfig) -> Signer
         requires { length config.credentials.username ≤ longest_username }
         ensures { result ≡ signer_of config }

@@ -1,6 +1,6 @@
 use Rattle.std.proofs.Common.{◌≡◌, ◌++◌, map, take}
-use Rattle.turn_client_proto_core.specs.Allocating.{created}
-use Rattle.turn_client_proto_core.proofs.allocating.tell_created.Given as goal
+use Rattle.turn_client_proto_response.specs.Telling.{created}
+use Rattle.turn_client_proto_response.proofs.telling.tell_created.Given as goal
 
 -- those so far are told
 abbrev pub invariant-loop-allocation : goal.invariant-loop-allocation

@@ -1,4 +1,4 @@
-use Rattle.turn_client_proto_core.proofs.signer.Signer.validate_incoming_message.Goals as goal
+use Rattle.turn_client_proto_request.proofs.signer.Signer.validate_incoming_message.Goals as goal
 
 pub invariant_of-self : goal.invariant_of-self
 invariant_of-self c =

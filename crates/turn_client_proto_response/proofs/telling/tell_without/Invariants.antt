@@ -1,7 +1,7 @@
 use Rattle.std.proofs.Common.{◌≡◌, ◌++◌, map, take}
 use Rattle.turn_client_proto_api.specs.declared.event.TurnEvent.TheVariants.{AllocationCreateFailed}
-use Rattle.turn_client_proto_core.specs.Allocating.{families_without}
-use Rattle.turn_client_proto_core.proofs.allocating.tell_without.Given as goal
+use Rattle.turn_client_proto_response.specs.Granting.{families_without}
+use Rattle.turn_client_proto_response.proofs.telling.tell_without.Given as goal
 
 -- those so far are told
 abbrev pub invariant-loop-family : goal.invariant-loop-family

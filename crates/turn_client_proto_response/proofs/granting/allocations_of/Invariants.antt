@@ -1,8 +1,10 @@
 use Rattle.std.proofs.Common.{◌≡◌, fold, map, eqb}
 use Rattle.std.specs.List.{filter}
 use Rattle.turn_types.specs.TurnRegistry.{xor_relayed_address_kind}
-use Rattle.turn_client_proto_core.specs.Allocating.{addresses_before, allocations_of, relayed_told, with_address}
-use Rattle.turn_client_proto_core.proofs.allocating.allocations_of.Given as goal
+use Rattle.turn_client_proto_response.specs.Granting.{allocations_of, with_address}
+use Rattle.turn_client_proto_response.specs.Told.{relayed_told}
+use Rattle.turn_client_proto_response.proofs.Firsts.{addresses_before}
+use Rattle.turn_client_proto_response.proofs.granting.allocations_of.Given as goal
 
 -- those so far and those of what is left are all
 abbrev pub invariant-loop-raw : goal.invariant-loop-raw

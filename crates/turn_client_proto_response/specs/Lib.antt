@@ -1,0 +1,3 @@
+pub mod Granting
+pub mod Telling
+pub mod Told

@@ -1,0 +1,38 @@
+-- What a response tells (RFC 8489, section 14.8; RFC 8656, section 18).
+use Rattle.std.specs.Prelude.{ℕ, ◌==◌, Bool, false, List, find, is_some, Option, Some, None}
+use Rattle.std.specs.List.{filter_map, take_while}
+use Rattle.std.specs.Option.{option_and_then}
+use Rattle.std.specs.declared.net.socket_addr.SocketAddr.{SocketAddr}
+use Rattle.byteorder.specs.Endian.{big_number}
+use Rattle.stun_proto.specs.Claims.{code_told}
+use Rattle.stun_types.specs.Attributes.{Attr}
+use Rattle.stun_types.specs.Grammar.{number_at, shown}
+use Rattle.stun_types.specs.Registry.{error_code_kind}
+use Rattle.stun_types.specs.ValueReading.{value_refusal}
+use Rattle.turn_types.specs.TurnRegistry.{lifetime_kind, xor_relayed_address_kind}
+use Rattle.turn_types.specs.TurnShows.{address_in, each_shown, first_shown, unless_refused}
+
+-- the lifetime in a LIFETIME, where it is well formed
+abbrev pub lifetime_in : Attr → Option ℕ
+lifetime_in a = unless_refused (value_refusal lifetime_kind 4 4 a) (Some (big_number 4 a.value))
+
+-- the lifetime that it tells, in seconds: the first LIFETIME decides
+abbrev pub lifetime_told : List ℕ → Option ℕ
+lifetime_told bytes = option_and_then lifetime_in (first_shown lifetime_kind bytes)
+
+-- the code of the first ERROR-CODE, where it is there and well formed
+abbrev pub first_code : List ℕ → Option ℕ
+first_code bytes = code_told (find (λ a. a.kind == error_code_kind) (shown bytes))
+
+-- a code is told, and is this one
+abbrev pub is_code : ℕ → Option ℕ → Bool
+is_code code None = false
+is_code code (Some told) = told == code
+
+-- the addresses in attributes, up to the first that is malformed
+abbrev pub addresses_in : ℕ → List Attr → List SocketAddr
+addresses_in number all = filter_map (address_in number) (take_while (λ a. is_some (address_in number a)) all)
+
+-- the relayed addresses that it tells, in order, up to the first that is malformed
+abbrev pub relayed_told : List ℕ → List SocketAddr
+relayed_told bytes = addresses_in (number_at bytes) (each_shown xor_relayed_address_kind bytes)

@@ -1,0 +1,48 @@
+//! What a response tells (RFC 8489, section 14.8; RFC 8656, section 18).
+
+ghost use Rattle.std.specs.Prelude.{◌≡◌};
+ghost use Rattle.turn_types.specs.TurnRegistry.{xor_relayed_address_kind};
+ghost use Rattle.turn_types.specs.TurnShows.{address_in};
+ghost use Rattle.turn_client_proto_response.specs.Told.{first_code, lifetime_told};
+
+use std::convert::TryFrom;
+use std::net::SocketAddr;
+use stun_types::attribute::{AttributeStaticType, ErrorCode, RawAttribute};
+use stun_types::message::{Message, TransactionId};
+use turn_types::attribute::{Lifetime, XorRelayedAddress};
+
+/// The lifetime that a message tells, in seconds (RFC 8656, section 18.2): the first LIFETIME decides,
+/// and tells none where it is malformed.
+pub fn lifetime_told(message: &Message<'_>) -> Option<u32>
+    ensures { result ≡ lifetime_told message.now }
+{
+    let raw = message.raw_attribute(Lifetime::TYPE)?;
+    match Lifetime::try_from(&raw) {
+        Ok(lifetime) => Some(lifetime.seconds()),
+        Err(_) => None,
+    }
+}
+
+/// The code that a message tells, 300 to 699 (RFC 8489, section 14.8): the first ERROR-CODE decides,
+/// and tells none where it is malformed.
+#[tactic(auto, unfolding(stun_proto_claim::specs::Claims::code_told))]
+pub fn first_code(message: &Message<'_>) -> Option<u16>
+    ensures { result ≡ first_code message.now }
+{
+    let raw = message.raw_attribute(ErrorCode::TYPE)?;
+    match ErrorCode::code_of(&raw) {
+        Ok(code) => Some(code),
+        Err(_) => None,
+    }
+}
+
+/// The address of a XOR-RELAYED-ADDRESS in a message of this number, where it is well formed.
+pub(crate) fn relayed_in(raw: &RawAttribute<'_>, number: TransactionId) -> Option<SocketAddr>
+    requires { raw.now.kind ≡ xor_relayed_address_kind }
+    ensures { result ≡ address_in number raw.now }
+{
+    match XorRelayedAddress::try_from(raw) {
+        Ok(relayed) => Some(relayed.addr(number)),
+        Err(_) => None,
+    }
+}
