@@ -1,6 +1,6 @@
 use Rattle.std.proofs.Common.{◌≡◌, length}
 use Rattle.turn_client_proto_allocation.specs.Listed.{relayed_shown}
-use Rattle.turn_client_proto_calls.proofs.getters.RelayedAddressesIterIterator.next.Given as goal
+use Rattle.turn_client_proto.proofs.getters.RelayedAddressesIterIterator.next.Given as goal
 
 -- what is left to look at has what is left to give
 abbrev pub invariant-loop-first : goal.invariant-loop-first

@@ -1,26 +1,34 @@
-//! The calls of a client.
+//! The settings of a client, the trait of its calls, and what they answer.
 
 ghost use Rattle.std.specs.Prelude.{◌≡◌, ◌++◌, ℕ, [], Err, Ok, None, IfNone, IfOk, OnErr, OnOk, false, option_to_list};
 ghost use Rattle.std.specs.Option.{option_map};
-ghost use Rattle.turn_client_proto_api.specs.declared.error.CreatePermissionError.{CreatePermissionError as PermissionError};
 ghost use Rattle.turn_client_proto_core.specs.Deleting.{IsDeleteAnswered};
 ghost use Rattle.turn_client_proto_core.specs.Drawing.{IsDrawn, sent_of};
 ghost use Rattle.turn_client_proto_core.specs.Ending.{HasFailed, ended};
 ghost use Rattle.turn_client_proto_core.specs.Polling.{IsPolled};
 ghost use Rattle.turn_client_proto_core.specs.declared.protocol.Protocol.{Protocol};
-ghost use Rattle.turn_client_proto_calls.specs.Getters.{relayed_of};
-ghost use Rattle.turn_client_proto_calls.specs.Receipts.{IsReceived};
+ghost use Rattle.turn_client_proto.specs.Getters.{relayed_of};
+ghost use Rattle.turn_client_proto.specs.Receipts.{IsReceived};
 
-use crate::getters::RelayedAddressesIter;
+pub use crate::getters::RelayedAddressesIter;
 use std::convert::AsSlice;
 use std::fmt::Debug;
-use std::net::{IpAddr, SocketAddr};
+use std::net::SocketAddr;
 use stun_proto::Instant;
 use stun_types::data::Data;
 use stun_types::{NoMemory, Transmit, TransportType};
-use turn_client_proto_api::answer::{TurnPollRet, TurnRecvRet};
-use turn_client_proto_api::error::DeleteError;
-use turn_client_proto_api::event::TurnEvent;
+pub use turn_client_proto_api::answer::{Socket5Tuple, TurnPollRet, TurnRecvRet};
+pub use turn_client_proto_api::config::TurnConfig;
+pub use turn_client_proto_api::data::{DataRangeOrOwned, TurnPeerData};
+pub use turn_client_proto_api::error::{
+    BindChannelError, CreatePermissionError, DeleteError, SendError, TcpAllocateError,
+    TcpConnectError,
+};
+pub use turn_client_proto_api::event::TurnEvent;
+pub use turn_client_proto_api::send::DelayedMessageOrChannelSend;
+
+/// The greatest moment of a call of a client: 2^62 nanoseconds behind `Instant::ZERO`, some 146 years.
+pub const CLIENT_END: u64 = 1 << 62;
 
 /// The calls of a TURN client, over any transport. They perform no input or output: a caller sends what
 /// `poll_transmit` answers, hands in what came by `recv`, waits as `poll` tells, and asks for what

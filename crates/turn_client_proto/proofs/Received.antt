@@ -9,8 +9,8 @@ use Rattle.turn_client_proto_api.specs.declared.answer.TurnRecvRet.{TurnRecvRet}
 use Rattle.turn_client_proto_api.specs.declared.answer.TurnRecvRet.TheVariants.{NoMemory}
 use Rattle.turn_client_proto_core.specs.Ending.{HasFailed}
 use Rattle.turn_client_proto_core.specs.declared.protocol.Protocol.{Protocol}
-use Rattle.turn_client_proto_calls.specs.Receipts.{IsHandledAs, Lost, IsOfServer, IsRead, IsReceived, Heard, Own}
-use Rattle.turn_client_proto_udp.specs.HandingIn.{IsHandedIn}
+use Rattle.turn_client_proto.specs.Receipts.{IsHandledAs, Lost, IsOfServer, IsRead, IsReceived, Heard, Own}
+use Rattle.turn_client_proto.specs.HandingIn.{IsHandedIn}
 
 read_by : {T : Type 0} (refused : Option StunParseError) (old : Protocol) (bytes : List ℕ) (came : Transmit T) (now : ℕ) (handled : Bool) (answer : TurnRecvRet T) (new : Protocol)
     → IsHandedIn refused old bytes now handled new → IsHandledAs came handled answer → IsRead refused old bytes came now answer new

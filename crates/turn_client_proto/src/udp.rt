@@ -7,9 +7,13 @@ ghost use Rattle.stun_types.specs.Registry.{longest_username};
 ghost use Rattle.stun_types.specs.declared.transport.TransportType.TheVariants.{Udp};
 ghost use Rattle.turn_client_proto_core.specs.Beginning.{IsNew};
 ghost use Rattle.turn_client_proto_core.specs.Ending.{HasFailed};
-ghost use Rattle.turn_client_proto_udp.specs.HandingIn.{IsHandedIn};
-ghost use Rattle.turn_client_proto_calls.specs.Receipts.{IsOfServer, IsReceived};
+ghost use Rattle.turn_client_proto.specs.HandingIn.{IsHandedIn};
+ghost use Rattle.turn_client_proto.specs.Receipts.{IsOfServer, IsReceived};
 
+use crate::api::{
+    DeleteError, RelayedAddressesIter, TurnClientApi, TurnConfig, TurnEvent, TurnPollRet,
+    TurnRecvRet,
+};
 use std::alloc::Global;
 use std::convert::AsSlice;
 use std::fmt::Debug;
@@ -19,12 +23,6 @@ use stun_proto::Instant;
 use stun_types::data::Data;
 use stun_types::message::Message;
 use stun_types::{NoMemory, Transmit, TransportType};
-use turn_client_proto_api::answer::{TurnPollRet, TurnRecvRet};
-use turn_client_proto_api::config::TurnConfig;
-use turn_client_proto_api::error::DeleteError;
-use turn_client_proto_api::event::TurnEvent;
-use turn_client_proto_calls::api::TurnClientApi;
-use turn_client_proto_calls::getters::RelayedAddressesIter;
 use turn_client_proto_core::protocol::Protocol;
 
 /// A TURN client over UDP: datagrams to and from the server, and an allocation over UDP. Contracts see
@@ -36,7 +34,7 @@ pub struct TurnClientUdp {
 
 impl Model for TurnClientUdp {
     ghost use Rattle.turn_client_proto_core.specs.declared.protocol.Protocol.{Protocol};
-    ghost use Rattle.turn_client_proto_udp.specs.Codes.{protocol_code};
+    ghost use Rattle.turn_client_proto.specs.Codes.{protocol_code};
 
     ghost Value = { Protocol };
 

@@ -1,8 +1,8 @@
 use Rattle.std.proofs.Common.{sym, subst, Bool}
-use Rattle.turn_client_proto_calls.specs.Receipts.{IsHandledAs}
-use Rattle.turn_client_proto_udp.proofs.Received.{received_err, received_ok}
-use Rattle.turn_client_proto_udp.proofs.udp.TurnClientUdpTurnClientApi.recv.Goals as goal
-use Rattle.turn_client_proto_udp.proofs.udp.TurnClientUdpTurnClientApi.recv.Goals.{in-Ok-true, in-Ok-false, in-Err}
+use Rattle.turn_client_proto.specs.Receipts.{IsHandledAs}
+use Rattle.turn_client_proto.proofs.Received.{received_err, received_ok}
+use Rattle.turn_client_proto.proofs.udp.TurnClientUdpTurnClientApi.recv.Goals as goal
+use Rattle.turn_client_proto.proofs.udp.TurnClientUdpTurnClientApi.recv.Goals.{in-Ok-true, in-Ok-false, in-Err}
 
 pub returns : goal.returns
 returns g c =

@@ -1,2 +1,0 @@
-pub mod Getters
-pub mod Receipts

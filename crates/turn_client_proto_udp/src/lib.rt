@@ -1,4 +1,0 @@
-//! A TURN client over UDP (RFC 8656).
-#![tactic(auto)]
-
-pub mod udp;
