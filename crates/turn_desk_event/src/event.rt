@@ -1,0 +1,53 @@
+//! What happens in a world.
+
+use std::net::SocketAddr;
+use stun_proto::Instant;
+use turn_desk_grant::decision::Decision;
+
+/// A call of a client by its user.
+#[derive(Clone, Copy, Debug, PartialEq, Eq)]
+pub enum ClientCall {
+    /// `poll`.
+    Poll,
+    /// `poll_event`.
+    PollEvent,
+    /// `delete`.
+    Delete,
+    /// `protocol_error`.
+    ProtocolError,
+    /// `relayed_addresses`.
+    RelayedAddresses,
+}
+
+/// What happens to the client or to the desk of a world.
+#[derive(Debug, Drop)]
+pub enum Event {
+    /// The client's user calls it at a moment.
+    Call(ClientCall, Instant),
+    /// The client is asked at a moment for what it sends.
+    Draw(Instant),
+    /// Bytes reach the client by its own transport.
+    ToClient {
+        /// The bytes.
+        bytes: Vec<u8>,
+        /// The address that they come from.
+        from: SocketAddr,
+        /// The address that they go to.
+        to: SocketAddr,
+        /// When they arrive.
+        now: Instant,
+    },
+    /// Bytes reach the desk.
+    ToDesk {
+        /// The bytes.
+        bytes: Vec<u8>,
+        /// The address that they come from.
+        from: SocketAddr,
+        /// When they arrive.
+        now: Instant,
+        /// What the desk is told, where it asks.
+        decision: Decision,
+        /// The seed of the ChaCha20 generator whose words the desk draws for them.
+        seed: [u8; 32],
+    },
+}

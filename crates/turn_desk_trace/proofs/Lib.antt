@@ -1,0 +1,4 @@
+pub mod BytesLemmas
+pub mod LineLemmas
+pub mod NumberLemmas
+pub mod PrintLemmas

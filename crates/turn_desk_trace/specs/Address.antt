@@ -1,0 +1,10 @@
+-- Addresses of a trace.
+use Rattle.std.specs.Prelude.{ℕ, List, [], ◌∷◌}
+use Rattle.std.specs.Net.Grammar.{IsSocketText}
+use Rattle.std.specs.declared.net.socket_addr.SocketAddr.{SocketAddr}
+
+-- the texts, one or two, spell these transport addresses in their order
+abbrev pub AreAddresses : List (List ℕ) → List SocketAddr → Type 0
+AreAddresses (text ∷ []) (a ∷ []) = IsSocketText text a
+AreAddresses (text ∷ second ∷ []) (a ∷ b ∷ []) = IsSocketText text a × IsSocketText second b
+AreAddresses texts addresses = ⊥

@@ -1,0 +1,72 @@
+-- The bytes that a BYTES word names. The answers of the event lines so far are lists of bytes, the
+-- first line's first; a line that was answered by no bytes has none.
+use Rattle.std.specs.Prelude.{ℕ, ◌+◌, ◌-◌, ◌==◌, nat_le, ◌&&◌, if◌then◌else◌, List, [], ◌∷◌, ◌++◌, map, drop, take, length, slice_get, slice_range, slice_index, Option, Some, None}
+use Rattle.std.specs.Option.{option_map}
+use Rattle.std.specs.List.{slice_split}
+use Rattle.stun_types.specs.Registry.{greatest_size}
+use Rattle.program_lines.specs.LowerHex.{hex_bytes, is_dash}
+use Rattle.turn_desk_trace.specs.TraceNumbers.{number}
+
+-- what the event line of this number was answered, event lines counted from 1
+abbrev pub answer_of : List (List ℕ) → Option ℕ → Option (List ℕ)
+answer_of answers None = None
+answer_of answers (Some k) = if k == 0 then None else slice_get answers (k - 1)
+
+-- the bytes from one place up to, not including, another
+abbrev pub range_of : Option (List ℕ) → Option ℕ → Option ℕ → Option (List ℕ)
+range_of (Some bytes) (Some from) (Some to) =
+    if nat_le from to && nat_le to (length bytes) then Some (slice_range bytes from to) else None
+range_of (Some bytes) (Some from) None = None
+range_of (Some bytes) None to = None
+range_of None from to = None
+
+-- what `k` or `k:a:b` names, from the words between the colons
+unfoldable pub reference_bytes : List (List ℕ) → List (List ℕ) → Option (List ℕ)
+reference_bytes answers [] = None
+reference_bytes answers (event ∷ []) = answer_of answers (number event)
+reference_bytes answers (event ∷ from ∷ []) = None
+reference_bytes answers (event ∷ from ∷ to ∷ []) = range_of (answer_of answers (number event)) (number from) (number to)
+reference_bytes answers (event ∷ from ∷ to ∷ more ∷ rest) = None
+
+-- bytes, where there is one at least
+abbrev pub some_bytes : Option (List ℕ) → Option (List ℕ)
+some_bytes None = None
+some_bytes (Some []) = None
+some_bytes (Some (b ∷ bs)) = Some (b ∷ bs)
+
+-- the bytes that a part names by what stands behind its `@`
+abbrev pub answered_part : List (List ℕ) → List ℕ → Option (List ℕ)
+answered_part answers reference = some_bytes (reference_bytes answers (slice_split (λ b. b == 58) reference))
+
+-- the bytes that a part names, which begins with `@` or is lower case hex
+unfoldable pub part_bytes : List (List ℕ) → List ℕ → Option (List ℕ)
+part_bytes answers piece =
+    if slice_index piece 0 == 64 then answered_part answers (drop 1 piece) else some_bytes (hex_bytes piece)
+
+-- the bytes in front of some others, where those are there
+abbrev pub prepend : List ℕ → Option (List ℕ) → Option (List ℕ)
+prepend bytes others = option_map (λ rest. bytes ++ rest) others
+
+-- the bytes of one part and those of the parts behind it
+abbrev pub both : Option (List ℕ) → Option (List ℕ) → Option (List ℕ)
+both None others = None
+both (Some bytes) others = prepend bytes others
+
+-- the bytes of the parts in their order, where each names some
+unfoldable pub joined : List (Option (List ℕ)) → Option (List ℕ)
+joined [] = Some []
+joined (bytes ∷ rest) = both bytes (joined rest)
+
+-- how many of the bytes that a word names are read: one more than a message can have, so that what is
+-- longer is still too long
+abbrev pub most_bytes : ℕ
+most_bytes = greatest_size + 1
+
+-- the first bytes, as many as are read
+abbrev pub first_bytes : Option (List ℕ) → Option (List ℕ)
+first_bytes named = option_map (λ bytes. take most_bytes bytes) named
+
+-- the bytes that a BYTES word names: none for `-`, else those of the parts that `+` joins
+unfoldable pub named_bytes : List (List ℕ) → List ℕ → Option (List ℕ)
+named_bytes answers word =
+    if is_dash word then Some [] else joined (map (part_bytes answers) (slice_split (λ b. b == 43) word))

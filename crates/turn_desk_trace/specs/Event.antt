@@ -1,0 +1,84 @@
+-- Event lines of a trace.
+use Rattle.std.specs.Prelude.{ℕ, ◌≡◌, List, [], ◌∷◌, Some, codes}
+use Rattle.std.specs.Net.Grammar.{IsSocketText}
+use Rattle.turn_desk_event.specs.declared.event.ClientCall.{ClientCall}
+use Rattle.turn_desk_event.specs.declared.event.ClientCall.TheVariants.{Poll, PollEvent, Delete, ProtocolError, RelayedAddresses}
+use Rattle.turn_desk_event.specs.declared.event.Event.{Event}
+use Rattle.turn_desk_event.specs.declared.event.Event.TheVariants.{Call, Draw, ToClient, ToDesk}
+use Rattle.turn_desk_trace.specs.Bytes.{first_bytes, named_bytes}
+use Rattle.turn_desk_trace.specs.Decision.{IsDecision}
+use Rattle.turn_desk_trace.specs.TraceNumbers.{number, seed_of}
+
+-- the words are one, and it spells this moment
+abbrev pub IsMoment : List (List ℕ) → ℕ → Type 0
+IsMoment [] moment = ⊥
+IsMoment (now ∷ []) moment = number now ≡ Some moment
+IsMoment (now ∷ more ∷ rest) moment = ⊥
+
+-- there is no word, and the moment is the start
+abbrev pub IsNoMoment : List (List ℕ) → ℕ → Type 0
+IsNoMoment [] moment = moment ≡ 0
+IsNoMoment (word ∷ rest) moment = ⊥
+
+-- a name and the words behind it spell a call of the client at a moment
+abbrev pub IsCall : List ℕ → List (List ℕ) → ClientCall → ℕ → Type 0
+IsCall name rest Poll moment = (name ≡ codes "poll") × IsMoment rest moment
+IsCall name rest PollEvent moment = (name ≡ codes "event") × IsNoMoment rest moment
+IsCall name rest Delete moment = (name ≡ codes "delete") × IsMoment rest moment
+IsCall name rest ProtocolError moment = (name ≡ codes "error") × IsNoMoment rest moment
+IsCall name rest RelayedAddresses moment = (name ≡ codes "relayed") × IsNoMoment rest moment
+
+-- the words, of which the last ones are a decision, spell bytes that reach the desk
+abbrev pub IsToDeskOf : List (List ℕ) → List ℕ → List ℕ → List ℕ → List ℕ → List (List ℕ) → Event → Type 0
+IsToDeskOf answers now from bytes seed decision (ToDesk b f n d s) =
+    (number now ≡ Some n) × IsSocketText from f × (first_bytes (named_bytes answers bytes) ≡ Some b.items)
+    × (seed_of seed ≡ Some s) × IsDecision decision d
+IsToDeskOf answers now from bytes seed decision (ToClient b f t n) = ⊥
+IsToDeskOf answers now from bytes seed decision (Draw n) = ⊥
+IsToDeskOf answers now from bytes seed decision (Call call n) = ⊥
+
+-- a moment, a source and the words behind them spell bytes that reach the desk
+abbrev pub IsToDeskFrom : List (List ℕ) → List ℕ → List ℕ → List (List ℕ) → Event → Type 0
+IsToDeskFrom answers now from [] event = ⊥
+IsToDeskFrom answers now from (a ∷ []) event = ⊥
+IsToDeskFrom answers now from (bytes ∷ seed ∷ decision) event = IsToDeskOf answers now from bytes seed decision event
+
+-- the words behind `todesk` spell the event, after these answers
+abbrev pub IsToDesk : List (List ℕ) → List (List ℕ) → Event → Type 0
+IsToDesk answers [] event = ⊥
+IsToDesk answers (a ∷ []) event = ⊥
+IsToDesk answers (now ∷ from ∷ rest) event = IsToDeskFrom answers now from rest event
+
+-- the words spell bytes that reach the client
+abbrev pub IsToClientOf : List (List ℕ) → List ℕ → List ℕ → List ℕ → List ℕ → Event → Type 0
+IsToClientOf answers now from to bytes (ToClient b f t n) =
+    (number now ≡ Some n) × IsSocketText from f × IsSocketText to t
+    × (first_bytes (named_bytes answers bytes) ≡ Some b.items)
+IsToClientOf answers now from to bytes (ToDesk b f n d s) = ⊥
+IsToClientOf answers now from to bytes (Draw n) = ⊥
+IsToClientOf answers now from to bytes (Call call n) = ⊥
+
+-- a moment, a source and the words behind them spell bytes that reach the client
+abbrev pub IsToClientFrom : List (List ℕ) → List ℕ → List ℕ → List (List ℕ) → Event → Type 0
+IsToClientFrom answers now from [] event = ⊥
+IsToClientFrom answers now from (a ∷ []) event = ⊥
+IsToClientFrom answers now from (to ∷ bytes ∷ []) event = IsToClientOf answers now from to bytes event
+IsToClientFrom answers now from (a ∷ b ∷ more ∷ rest) event = ⊥
+
+-- the words behind `toclient` spell the event, after these answers
+abbrev pub IsToClient : List (List ℕ) → List (List ℕ) → Event → Type 0
+IsToClient answers [] event = ⊥
+IsToClient answers (a ∷ []) event = ⊥
+IsToClient answers (now ∷ from ∷ rest) event = IsToClientFrom answers now from rest event
+
+-- a name and the words behind it spell the event, after these answers
+abbrev pub IsEventOf : List (List ℕ) → List ℕ → List (List ℕ) → Event → Type 0
+IsEventOf answers name rest (Call call moment) = IsCall name rest call moment
+IsEventOf answers name rest (Draw moment) = (name ≡ codes "draw") × IsMoment rest moment
+IsEventOf answers name rest (ToClient b f t n) = (name ≡ codes "toclient") × IsToClient answers rest (ToClient b f t n)
+IsEventOf answers name rest (ToDesk b f n d s) = (name ≡ codes "todesk") × IsToDesk answers rest (ToDesk b f n d s)
+
+-- the words spell the event, after these answers
+abbrev pub IsEvent : List (List ℕ) → List (List ℕ) → Event → Type 0
+IsEvent answers [] event = ⊥
+IsEvent answers (name ∷ rest) event = IsEventOf answers name rest event

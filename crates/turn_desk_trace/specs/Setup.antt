@@ -1,0 +1,136 @@
+-- Setup lines of a trace.
+use Rattle.std.specs.Prelude.{ℕ, ◌≡◌, ◌≤◌, ◌*◌, List, [], ◌∷◌, length, codes, Some}
+use Rattle.std.specs.Duration.{as_nanos}
+use Rattle.std.specs.Option.{option_map}
+use Rattle.std.specs.Net.Grammar.{IsSocketText}
+use Rattle.std.specs.declared.time.Duration.{Duration}
+use Rattle.stun_proto.specs.Features.{Feature, Auto, Required, Disabled}
+use Rattle.stun_types.specs.IntegrityAlgorithms as integrity
+use Rattle.stun_types.specs.declared.family.AddressFamily.{AddressFamily}
+use Rattle.stun_types.specs.declared.family.AddressFamily.TheVariants.{IPV4, IPV6}
+use Rattle.turn_desk_trace.specs.Decision.{IsU32}
+use Rattle.turn_desk_trace.specs.TraceNumbers.{number, seed_of}
+use Rattle.turn_desk_trace.specs.declared.setup.Algorithms.{Algorithms}
+use Rattle.turn_desk_trace.specs.declared.setup.Algorithms.TheVariants.{Sha1, Sha256, Sha1AndSha256, Sha256AndSha1}
+use Rattle.turn_desk_trace.specs.declared.setup.Client.{Client as ClientSetup}
+use Rattle.turn_desk_trace.specs.declared.setup.Families.{Families}
+use Rattle.turn_desk_trace.specs.declared.setup.Families.TheVariants.{V4, V6, V4AndV6, V6AndV4}
+use Rattle.turn_desk_trace.specs.declared.setup.Setup.{Setup}
+use Rattle.turn_desk_trace.specs.declared.setup.Setup.TheVariants.{Desk, User, Rto, Client}
+use Rattle.turn_desk_trace.specs.declared.setup.TheConstants.{MAX_REALM, MAX_USERNAME}
+
+-- the word for the algorithms
+abbrev pub algorithms_word : Algorithms → List ℕ
+algorithms_word Sha1 = codes "sha1"
+algorithms_word Sha256 = codes "sha256"
+algorithms_word Sha1AndSha256 = codes "sha1,sha256"
+algorithms_word Sha256AndSha1 = codes "sha256,sha1"
+
+-- the algorithms themselves, in the order in which the word names them
+abbrev pub algorithms_in_order : Algorithms → List integrity.IntegrityAlgorithm
+algorithms_in_order Sha1 = integrity.Sha1 ∷ []
+algorithms_in_order Sha256 = integrity.Sha256 ∷ []
+algorithms_in_order Sha1AndSha256 = integrity.Sha1 ∷ integrity.Sha256 ∷ []
+algorithms_in_order Sha256AndSha1 = integrity.Sha256 ∷ integrity.Sha1 ∷ []
+
+-- the word for the families
+abbrev pub families_word : Families → List ℕ
+families_word V4 = codes "4"
+families_word V6 = codes "6"
+families_word V4AndV6 = codes "4,6"
+families_word V6AndV4 = codes "6,4"
+
+-- the families themselves, in the order in which the word names them
+abbrev pub families_in_order : Families → List AddressFamily
+families_in_order V4 = IPV4 ∷ []
+families_in_order V6 = IPV6 ∷ []
+families_in_order V4AndV6 = IPV4 ∷ IPV6 ∷ []
+families_in_order V6AndV4 = IPV6 ∷ IPV4 ∷ []
+
+-- the word for the anonymity
+abbrev pub anonymity_word : Feature → List ℕ
+anonymity_word Auto = codes "auto"
+anonymity_word Required = codes "required"
+anonymity_word Disabled = codes "disabled"
+
+-- the word for UDP
+abbrev pub udp_word : List ℕ
+udp_word = codes "udp"
+
+-- a millisecond, in nanoseconds
+abbrev pub millisecond : ℕ
+millisecond = 1_000_000
+
+-- the word spells a number of milliseconds, which the duration lasts
+abbrev pub IsMillis : List ℕ → Duration → Type 0
+IsMillis word duration = option_map (λ millis. millis * millisecond) (number word) ≡ Some (as_nanos duration)
+
+-- the words behind `desk` spell a desk of that realm and those settings
+abbrev pub IsDesk : List (List ℕ) → Setup → Type 0
+IsDesk (realm ∷ algorithms ∷ anonymity ∷ []) (Desk r a b) =
+    (r.now ≡ realm) × (length realm ≤ MAX_REALM) × (algorithms ≡ algorithms_word a) × (anonymity ≡ anonymity_word b)
+IsDesk words setup = ⊥
+
+-- the words behind `user` spell a user of that name and password
+abbrev pub IsUser : List (List ℕ) → Setup → Type 0
+IsUser (name ∷ password ∷ []) (User n p) = (n.now ≡ name) × (length name ≤ MAX_USERNAME) × (p.now ≡ password)
+IsUser words setup = ⊥
+
+-- the words spell how long requests wait: first, at most, how many there are, and last
+abbrev pub IsRtoOf : List ℕ → List ℕ → List ℕ → List ℕ → Setup → Type 0
+IsRtoOf initial most count last (Desk r a b) = ⊥
+IsRtoOf initial most count last (User n p) = ⊥
+IsRtoOf initial most count last (Rto i m n l) = IsMillis initial i × IsMillis most m × IsU32 count n × IsMillis last l
+IsRtoOf initial most count last (Client client) = ⊥
+
+-- the first two waits and the words behind them spell how long requests wait
+abbrev pub IsRtoWith : List ℕ → List ℕ → List (List ℕ) → Setup → Type 0
+IsRtoWith initial most (count ∷ last ∷ []) setup = IsRtoOf initial most count last setup
+IsRtoWith initial most words setup = ⊥
+
+-- the words behind `rto` spell how long requests wait
+abbrev pub IsRto : List (List ℕ) → Setup → Type 0
+IsRto (initial ∷ most ∷ rest) setup = IsRtoWith initial most rest setup
+IsRto words setup = ⊥
+
+-- the words spell the settings of a client at those addresses
+pub record IsClientOf (local remote families algorithms anonymity name password seed : List ℕ) (client : ClientSetup) : Type 0 where
+  pub here : IsSocketText local client.local
+  pub server : IsSocketText remote client.remote
+  pub asked : families ≡ families_word client.families
+  pub supported : algorithms ≡ algorithms_word client.algorithms
+  pub hidden : anonymity ≡ anonymity_word client.anonymity
+  pub user : client.name.now ≡ name
+  pub bound : length name ≤ MAX_USERNAME
+  pub secret : client.password.now ≡ password
+  pub drawn : seed_of seed ≡ Some client.seed
+
+-- the words behind the settings spell a client at those addresses with those settings
+abbrev pub IsClientWith : List ℕ → List ℕ → List ℕ → List ℕ → List ℕ → List (List ℕ) → ClientSetup → Type 0
+IsClientWith local remote families algorithms anonymity (name ∷ password ∷ seed ∷ []) client =
+    IsClientOf local remote families algorithms anonymity name password seed client
+IsClientWith local remote families algorithms anonymity words client = ⊥
+
+-- the words behind the transport of the allocation spell a client at those addresses
+abbrev pub IsClientAt : List ℕ → List ℕ → List (List ℕ) → ClientSetup → Type 0
+IsClientAt local remote (families ∷ algorithms ∷ anonymity ∷ words) client =
+    IsClientWith local remote families algorithms anonymity words client
+IsClientAt local remote words client = ⊥
+
+-- the words behind `client` spell the client: over UDP, for an allocation over UDP
+abbrev pub IsClient : List (List ℕ) → ClientSetup → Type 0
+IsClient (transport ∷ local ∷ remote ∷ asked ∷ words) client =
+    (transport ≡ udp_word) × (asked ≡ udp_word) × IsClientAt local remote words client
+IsClient words client = ⊥
+
+-- a name and the words behind it spell the setup line
+abbrev pub IsSetupOf : List ℕ → List (List ℕ) → Setup → Type 0
+IsSetupOf name rest (Desk r a b) = (name ≡ codes "desk") × IsDesk rest (Desk r a b)
+IsSetupOf name rest (User n p) = (name ≡ codes "user") × IsUser rest (User n p)
+IsSetupOf name rest (Rto i m n l) = (name ≡ codes "rto") × IsRto rest (Rto i m n l)
+IsSetupOf name rest (Client client) = (name ≡ codes "client") × IsClient rest client
+
+-- the words spell the setup line
+abbrev pub IsSetup : List (List ℕ) → Setup → Type 0
+IsSetup [] setup = ⊥
+IsSetup (name ∷ rest) setup = IsSetupOf name rest setup

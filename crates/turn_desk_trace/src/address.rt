@@ -1,0 +1,73 @@
+//! Addresses of a trace, as std reads and prints them.
+
+ghost use Rattle.std.specs.Prelude.{◌≡◌, [], ◌∷◌, List, Err, IfOk, MatchOption, ◌==◌, map};
+ghost use Rattle.std.specs.List.{slice_split};
+ghost use Rattle.std.specs.Net.Grammar.{IsSocketText};
+ghost use Rattle.std.specs.declared.net.socket_addr.SocketAddr.{SocketAddr};
+ghost use Rattle.turn_desk_trace.specs.Address.{AreAddresses};
+
+use program_lines::refusal::LineError;
+use program_lines::word::pieces;
+use std::alloc::Global;
+use std::net::SocketAddr;
+use stun_types::{ListOf, NoMemory};
+
+/// The transport address that a word spells, as `192.0.2.1:3478` or `[2001:db8::1]:3478`. None
+/// where it spells none.
+pub fn read_address(word: &str) -> Option<SocketAddr>
+    ensures { MatchOption result ((a : SocketAddr) → ¬ (IsSocketText word.now a))
+        (IsSocketText word.now) }
+{
+    word.parse::<SocketAddr>().ok()
+}
+
+/// One transport address, or two with a comma between. Two of one family are read: whether they
+/// fit a request is for the desk to say. Refused with `Bad` where the word spells none, and with
+/// `NoMemory` where memory is refused.
+pub fn read_addresses(alloc: Global, word: &str) -> Result<ListOf<SocketAddr>, LineError>
+    ensures ok { IfOk result (AreAddresses (slice_split (λ b. b == 44) word.now)) }
+    ensures bad { result ≡ Err LineError.Bad → (addresses : List SocketAddr)
+        → ¬ (AreAddresses (slice_split (λ b. b == 44) word.now) addresses) }
+{
+    let words = pieces(alloc, word, ',')?;
+    listed_addresses(alloc, words.as_slice())
+}
+
+/// The addresses that one word or two spell.
+fn listed_addresses(alloc: Global, words: &[&str]) -> Result<ListOf<SocketAddr>, LineError>
+    ensures ok { IfOk result (AreAddresses (map (λ x. x.now) words.now)) }
+    ensures bad { result ≡ Err LineError.Bad → (addresses : List SocketAddr)
+        → ¬ (AreAddresses (map (λ x. x.now) words.now) addresses) }
+{
+    match words {
+        [only] => match read_address(only) {
+            Some(address) => Ok(list_of_one(alloc, address)?),
+            None => Err(LineError::Bad),
+        },
+        [first, second] => match (read_address(first), read_address(second)) {
+            (Some(first), Some(second)) => Ok(list_of_two(alloc, first, second)?),
+            _ => Err(LineError::Bad),
+        },
+        _ => Err(LineError::Bad),
+    }
+}
+
+fn list_of_one(alloc: Global, address: SocketAddr) -> Result<ListOf<SocketAddr>, NoMemory>
+    ensures { IfOk result (λ addresses. addresses ≡ address ∷ []) }
+{
+    let mut addresses = ListOf::new(alloc);
+    addresses.push(address)?;
+    Ok(addresses)
+}
+
+fn list_of_two(
+    alloc: Global,
+    first: SocketAddr,
+    second: SocketAddr,
+) -> Result<ListOf<SocketAddr>, NoMemory>
+    ensures { IfOk result (λ addresses. addresses ≡ first ∷ second ∷ []) }
+{
+    let mut addresses = list_of_one(alloc, first)?;
+    addresses.push(second)?;
+    Ok(addresses)
+}

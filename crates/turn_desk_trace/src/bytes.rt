@@ -1,0 +1,163 @@
+//! BYTES: parts joined by `+`, each lower case hex or bytes that an earlier event line answered.
+
+ghost use Rattle.std.specs.Prelude.{◌≡◌, ◌≤◌, Some, None, Err, IfOk, OnOk, length, map};
+ghost use Rattle.std.specs.Option.{option_copied};
+ghost use Rattle.program_lines.specs.LowerHex.{hex_bytes};
+ghost use Rattle.turn_desk_trace.specs.TraceNumbers.{number};
+ghost use Rattle.turn_desk_trace.specs.Bytes.{answer_of, answered_part, first_bytes, joined, most_bytes, named_bytes, part_bytes, prepend, range_of, reference_bytes, some_bytes};
+
+use crate::named::Named;
+use crate::number::read_u64;
+use program_lines::lower_hex::{decode_lower, is_no_bytes};
+use program_lines::refusal::LineError;
+use program_lines::word::pieces;
+use std::alloc::Global;
+use stun_types::{NoMemory, registry};
+
+/// How many bytes of a word are read: one more than a message can have.
+const MOST_BYTES: usize = registry::MAX_MESSAGE_LENGTH + 1;
+
+/// The bytes that a BYTES word names: `-` is no bytes, and else its parts, which `+` joins, give
+/// theirs in their order. A part that names no bytes makes the word bad. Of more bytes than a
+/// message can have only the first are read, one more than that: they are no message either, so a
+/// word that names an answer again and again takes no more memory.
+///
+/// `answers` are those of the event lines so far, the first of them first. Where memory is refused,
+/// `NoMemory`.
+pub fn read_bytes(alloc: Global, word: &str, answers: &[Named]) -> Result<Vec<u8>, LineError>
+    ensures ok { IfOk result (λ bytes. first_bytes (named_bytes answers.now word.now)
+        ≡ Some bytes.items) }
+    ensures bad { result ≡ Err LineError.Bad → named_bytes answers.now word.now ≡ None }
+{
+    if is_no_bytes(word) {
+        return Ok(Vec::new(alloc));
+    }
+    let parts = pieces(alloc, word, '+')?;
+    join_parts(alloc, parts.as_slice(), answers)
+}
+
+/// The first bytes that the parts of a word name, in the order of the parts.
+fn join_parts(alloc: Global, parts: &[&str], answers: &[Named]) -> Result<Vec<u8>, LineError>
+    ensures ok { IfOk result (λ bytes. first_bytes (joined (map (λ x. part_bytes answers.now x.now)
+        parts.now)) ≡ Some bytes.items) }
+    ensures bad { result ≡ Err LineError.Bad → joined
+        (map (λ x. part_bytes answers.now x.now) parts.now) ≡ None }
+{
+    let mut bytes = Vec::new(alloc);
+    for part in parts {
+        if let Err(error) = push_part(alloc, &mut bytes, part, answers) {
+            return Err(error);
+        }
+    }
+    Ok(bytes)
+}
+
+/// Appends the bytes that a part names, as far as they are read.
+fn push_part(
+    alloc: Global,
+    bytes: &mut Vec<u8>,
+    part: &str,
+    answers: &[Named],
+) -> Result<(), LineError>
+    requires short { length bytes.old.items ≤ most_bytes }
+    ensures ok { OnOk result (first_bytes (prepend bytes.old.items (part_bytes answers.now
+        part.now))
+        ≡ Some bytes.new.items) }
+    ensures bad { result ≡ Err LineError.Bad → part_bytes answers.now part.now ≡ None }
+{
+    match part.strip_prefix('@') {
+        Some(reference) => push_answered(alloc, bytes, reference, answers),
+        None => push_hex(alloc, bytes, part),
+    }
+}
+
+/// Appends the bytes that a part names by what stands behind its `@`.
+fn push_answered(
+    alloc: Global,
+    bytes: &mut Vec<u8>,
+    reference: &str,
+    answers: &[Named],
+) -> Result<(), LineError>
+    requires short { length bytes.old.items ≤ most_bytes }
+    ensures ok { OnOk result (first_bytes (prepend bytes.old.items (answered_part answers.now
+        reference.now))
+        ≡ Some bytes.new.items) }
+    ensures bad { result ≡ Err LineError.Bad → answered_part answers.now reference.now ≡ None }
+{
+    let words = pieces(alloc, reference, ':')?;
+    match answered_bytes(words.as_slice(), answers) {
+        Some(named) => push_some(bytes, named),
+        None => Err(LineError::Bad),
+    }
+}
+
+/// Appends the bytes of a part that is lower case hex.
+fn push_hex(alloc: Global, bytes: &mut Vec<u8>, part: &str) -> Result<(), LineError>
+    requires short { length bytes.old.items ≤ most_bytes }
+    ensures ok { OnOk result (first_bytes (prepend bytes.old.items (some_bytes (hex_bytes
+        part.now)))
+        ≡ Some bytes.new.items) }
+    ensures bad { result ≡ Err LineError.Bad → some_bytes (hex_bytes part.now) ≡ None }
+{
+    let decoded = decode_lower(alloc, part)?;
+    push_some(bytes, decoded.as_slice())
+}
+
+/// Appends bytes that a part named, as far as they are read. Where they are none, the part named
+/// nothing.
+fn push_some(bytes: &mut Vec<u8>, named: &[u8]) -> Result<(), LineError>
+    requires short { length bytes.old.items ≤ most_bytes }
+    ensures ok { OnOk result (first_bytes (prepend bytes.old.items (some_bytes (Some named.now)))
+        ≡ Some bytes.new.items) }
+    ensures bad { result ≡ Err LineError.Bad → some_bytes (Some named.now) ≡ None }
+{
+    if named.is_empty() {
+        return Err(LineError::Bad);
+    }
+    let room = MOST_BYTES - bytes.len();
+    bytes.extend_from_slice(&named[..named.len().min(room)])?;
+    Ok(())
+}
+
+/// The bytes that `k` or `k:a:b` names, from the words between the colons.
+#[tactic(auto, unfolding(crate::specs::Bytes::reference_bytes))]
+fn answered_bytes<'a>(words: &[&str], answers: &'a [Named]) -> Option<&'a [u8]>
+    ensures { option_copied result ≡ reference_bytes answers.entry.now
+        (map (λ x. x.now) words.now) }
+{
+    match words {
+        [event] => whole_answer(event, answers),
+        [event, from, to] => answer_range(event, from, to, answers),
+        _ => None,
+    }
+}
+
+/// What an event line answered, event lines counted from 1.
+fn whole_answer<'a>(event: &str, answers: &'a [Named]) -> Option<&'a [u8]>
+    ensures { option_copied result ≡ answer_of answers.entry.now (number event.now) }
+{
+    let Some(event) = read_u64(event) else {
+        return None;
+    };
+    if event == 0 {
+        return None;
+    }
+    match answers.get((event - 1) as usize) {
+        Some(answer) => Some(answer.as_slice()),
+        None => None,
+    }
+}
+
+/// A range of what an event line answered: from one place up to, not including, another.
+fn answer_range<'a>(event: &str, from: &str, to: &str, answers: &'a [Named]) -> Option<&'a [u8]>
+    ensures { option_copied result ≡ range_of (answer_of answers.entry.now (number event.now))
+        (number from.now) (number to.now) }
+{
+    let Some(bytes) = whole_answer(event, answers) else {
+        return None;
+    };
+    let (Some(from), Some(to)) = (read_u64(from), read_u64(to)) else {
+        return None;
+    };
+    bytes.get(from as usize..to as usize)
+}

@@ -1,0 +1,219 @@
+//! Event lines: what happens to the client or to the desk.
+
+ghost use Rattle.std.specs.Prelude.{◌≡◌, ℕ, Err, IfOk, MatchOption, map};
+ghost use Rattle.turn_desk_event.specs.declared.event.ClientCall.{ClientCall};
+ghost use Rattle.turn_desk_event.specs.declared.event.Event.{Event};
+ghost use Rattle.turn_desk_trace.specs.Event.{IsCall, IsEvent, IsMoment, IsNoMoment, IsToClient, IsToClientFrom, IsToClientOf, IsToDesk, IsToDeskFrom, IsToDeskOf};
+
+use crate::address::read_address;
+use crate::bytes::read_bytes;
+use crate::decision::read_decision;
+use crate::named::Named;
+use crate::number::{read_seed, read_u64};
+use program_lines::refusal::LineError;
+use std::alloc::Global;
+use stun_proto::Instant;
+use turn_desk_event::event::{ClientCall, Event};
+
+/// The event that some words spell. `answers` are those of the event lines so far. Refused with
+/// `Bad` where the words spell none, and with `NoMemory` where memory is refused.
+pub fn read_event(alloc: Global, words: &[&str], answers: &[Named]) -> Result<Event, LineError>
+    ensures ok { IfOk result (IsEvent answers.now (map (λ x. x.now) words.now)) }
+    ensures bad { result ≡ Err LineError.Bad → (event : Event)
+        → ¬ (IsEvent answers.now (map (λ x. x.now) words.now) event) }
+{
+    match words {
+        ["todesk", rest @ ..] => read_to_desk(alloc, rest, answers),
+        ["toclient", rest @ ..] => read_to_client(alloc, rest, answers),
+        ["draw", rest @ ..] => match read_moment(rest) {
+            Some(now) => Ok(Event::Draw(now)),
+            None => Err(LineError::Bad),
+        },
+        [name, rest @ ..] => match read_call(name, rest) {
+            Some((call, now)) => Ok(Event::Call(call, now)),
+            None => Err(LineError::Bad),
+        },
+        _ => Err(LineError::Bad),
+    }
+}
+
+/// The event of a line that begins with `todesk`, from the words behind it.
+fn read_to_desk(alloc: Global, words: &[&str], answers: &[Named]) -> Result<Event, LineError>
+    ensures ok { IfOk result (IsToDesk answers.now (map (λ x. x.now) words.now)) }
+    ensures bad { result ≡ Err LineError.Bad → (event : Event)
+        → ¬ (IsToDesk answers.now (map (λ x. x.now) words.now) event) }
+{
+    match words {
+        [now, from, rest @ ..] => read_to_desk_from(alloc, now, from, rest, answers),
+        _ => Err(LineError::Bad),
+    }
+}
+
+/// The event in which bytes reach the desk at a moment and from a source, from the words behind those.
+fn read_to_desk_from(
+    alloc: Global,
+    now: &str,
+    from: &str,
+    words: &[&str],
+    answers: &[Named],
+) -> Result<Event, LineError>
+    ensures ok { IfOk result (IsToDeskFrom answers.now now.now from.now
+        (map (λ x. x.now) words.now)) }
+    ensures bad { result ≡ Err LineError.Bad → (event : Event)
+        → ¬ (IsToDeskFrom answers.now now.now from.now (map (λ x. x.now) words.now) event) }
+{
+    match words {
+        [bytes, seed, decision @ ..] => {
+            to_desk(alloc, now, from, bytes, seed, decision, answers)
+        }
+        _ => Err(LineError::Bad),
+    }
+}
+
+/// The event in which bytes reach the desk, from the words that spell it, of which the last ones are a
+/// decision.
+fn to_desk(
+    alloc: Global,
+    now: &str,
+    from: &str,
+    bytes: &str,
+    seed: &str,
+    decision: &[&str],
+    answers: &[Named],
+) -> Result<Event, LineError>
+    ensures ok { IfOk result (IsToDeskOf answers.now now.now from.now bytes.now seed.now
+        (map (λ x. x.now) decision.now)) }
+    ensures bad { result ≡ Err LineError.Bad → (event : Event)
+        → ¬ (IsToDeskOf answers.now now.now from.now bytes.now seed.now
+        (map (λ x. x.now) decision.now) event) }
+{
+    let Some(now) = read_u64(now) else {
+        return Err(LineError::Bad);
+    };
+    let Some(from) = read_address(from) else {
+        return Err(LineError::Bad);
+    };
+    let Some(seed) = read_seed(seed) else {
+        return Err(LineError::Bad);
+    };
+    let decision = match read_decision(alloc, decision) {
+        Ok(decision) => decision,
+        Err(error) => return Err(error),
+    };
+    match read_bytes(alloc, bytes, answers) {
+        Ok(bytes) => Ok(Event::ToDesk {
+            bytes,
+            from,
+            now: Instant::from_nanos(now),
+            decision,
+            seed,
+        }),
+        Err(error) => Err(error),
+    }
+}
+
+/// The event of a line that begins with `toclient`, from the words behind it.
+fn read_to_client(alloc: Global, words: &[&str], answers: &[Named]) -> Result<Event, LineError>
+    ensures ok { IfOk result (IsToClient answers.now (map (λ x. x.now) words.now)) }
+    ensures bad { result ≡ Err LineError.Bad → (event : Event)
+        → ¬ (IsToClient answers.now (map (λ x. x.now) words.now) event) }
+{
+    match words {
+        [now, from, rest @ ..] => read_to_client_from(alloc, now, from, rest, answers),
+        _ => Err(LineError::Bad),
+    }
+}
+
+/// The event in which bytes reach the client at a moment and from a source, from the words behind
+/// those.
+fn read_to_client_from(
+    alloc: Global,
+    now: &str,
+    from: &str,
+    words: &[&str],
+    answers: &[Named],
+) -> Result<Event, LineError>
+    ensures ok { IfOk result (IsToClientFrom answers.now now.now from.now
+        (map (λ x. x.now) words.now)) }
+    ensures bad { result ≡ Err LineError.Bad → (event : Event)
+        → ¬ (IsToClientFrom answers.now now.now from.now (map (λ x. x.now) words.now) event) }
+{
+    match words {
+        [to, bytes] => to_client(alloc, now, from, to, bytes, answers),
+        _ => Err(LineError::Bad),
+    }
+}
+
+/// The event in which bytes reach the client, from the four words that spell it.
+fn to_client(
+    alloc: Global,
+    now: &str,
+    from: &str,
+    to: &str,
+    bytes: &str,
+    answers: &[Named],
+) -> Result<Event, LineError>
+    ensures ok { IfOk result (IsToClientOf answers.now now.now from.now to.now bytes.now) }
+    ensures bad { result ≡ Err LineError.Bad → (event : Event)
+        → ¬ (IsToClientOf answers.now now.now from.now to.now bytes.now event) }
+{
+    let Some(now) = read_u64(now) else {
+        return Err(LineError::Bad);
+    };
+    let Some(from) = read_address(from) else {
+        return Err(LineError::Bad);
+    };
+    let Some(to) = read_address(to) else {
+        return Err(LineError::Bad);
+    };
+    match read_bytes(alloc, bytes, answers) {
+        Ok(bytes) => Ok(Event::ToClient {
+            bytes,
+            from,
+            to,
+            now: Instant::from_nanos(now),
+        }),
+        Err(error) => Err(error),
+    }
+}
+
+/// The call of the client, and its moment, that a name and the words behind it spell.
+fn read_call(name: &str, words: &[&str]) -> Option<(ClientCall, Instant)>
+    ensures { MatchOption result ((call : ClientCall) (moment : ℕ)
+        → ¬ (IsCall name.now (map (λ x. x.now) words.now) call moment))
+        (λ called. IsCall name.now (map (λ x. x.now) words.now) called.0 called.1) }
+{
+    match name {
+        "poll" => Some((ClientCall::Poll, read_moment(words)?)),
+        "event" => Some((ClientCall::PollEvent, read_no_moment(words)?)),
+        "delete" => Some((ClientCall::Delete, read_moment(words)?)),
+        "error" => Some((ClientCall::ProtocolError, read_no_moment(words)?)),
+        "relayed" => Some((ClientCall::RelayedAddresses, read_no_moment(words)?)),
+        _ => None,
+    }
+}
+
+/// The moment that the last word of a line spells, where no other word is left.
+fn read_moment(words: &[&str]) -> Option<Instant>
+    ensures { MatchOption result ((moment : ℕ) → ¬ (IsMoment (map (λ x. x.now) words.now) moment))
+        (IsMoment (map (λ x. x.now) words.now)) }
+{
+    match words {
+        [now] => match read_u64(now) {
+            Some(now) => Some(Instant::from_nanos(now)),
+            None => None,
+        },
+        _ => None,
+    }
+}
+
+/// The start, where no word is left: the moment of a call that is made at none.
+fn read_no_moment(words: &[&str]) -> Option<Instant>
+    ensures { MatchOption result ((moment : ℕ) → ¬ (IsNoMoment (map (λ x. x.now) words.now) moment))
+        (IsNoMoment (map (λ x. x.now) words.now)) }
+{
+    match words {
+        [] => Some(Instant::from_nanos(0)),
+        _ => None,
+    }
+}

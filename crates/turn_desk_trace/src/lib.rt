@@ -1,0 +1,18 @@
+//! The lines of a trace, and the printing of what its events are answered. `docs/TRACE.md` has the
+//! language.
+//!
+//! The words of a line are read as numbers ([`number`]), addresses ([`address`]), bytes
+//! ([`bytes`]), decisions ([`decision`]), setup lines ([`setup`]) and events ([`event`]), and then
+//! as a [`line`]. An answer is printed by [`print`], and its bytes, which later lines name, are
+//! kept as [`named`].
+#![tactic(auto)]
+
+pub mod address;
+pub mod bytes;
+pub mod decision;
+pub mod event;
+pub mod line;
+pub mod named;
+pub mod number;
+pub mod print;
+pub mod setup;

@@ -1,0 +1,53 @@
+//! The lines of a trace.
+
+ghost use Rattle.std.specs.Prelude.{◌≡◌, Err, IfOk, map};
+ghost use Rattle.turn_desk_trace.specs.declared.line.Line.{Line};
+ghost use Rattle.turn_desk_trace.specs.TraceLines.{IsLine, IsLineOf};
+
+use crate::event::read_event;
+use crate::named::Named;
+use crate::setup::{Setup, read_setup};
+use program_lines::refusal::LineError;
+use program_lines::word::read_words;
+use std::alloc::Global;
+use turn_desk_event::event::Event;
+
+/// A line of a trace.
+#[derive(Debug, Drop)]
+pub enum Line<'a> {
+    /// A line that stands before the events.
+    Setup(Setup<'a>),
+    /// A line that is answered.
+    Event(Event),
+}
+
+/// Reads a line, of which the line feed is no part. `answers` are those of the event lines so far.
+/// Refused with `Bad` where it is no line of the language, and with `NoMemory` where memory is
+/// refused.
+pub fn read_line<'a>(
+    alloc: Global,
+    line: &'a [u8],
+    answers: &[Named],
+) -> Result<Line<'a>, LineError>
+    ensures ok { IfOk result (IsLine answers.entry.now line.entry.now) }
+    ensures bad { result ≡ Err LineError.Bad → (read : Line)
+        → ¬ (IsLine answers.entry.now line.entry.now read) }
+{
+    let words = read_words(alloc, line)?;
+    spell(alloc, words.as_slice(), answers)
+}
+
+/// The line that some words spell.
+fn spell<'a>(alloc: Global, words: &[&'a str], answers: &[Named]) -> Result<Line<'a>, LineError>
+    ensures ok { IfOk result (IsLineOf answers.entry.now (map (λ x. x.now) words.entry.now)) }
+    ensures bad { result ≡ Err LineError.Bad → (read : Line)
+        → ¬ (IsLineOf answers.entry.now (map (λ x. x.now) words.entry.now) read) }
+{
+    match read_setup(words) {
+        Some(setup) => Ok(Line::Setup(setup)),
+        None => match read_event(alloc, words, answers) {
+            Ok(event) => Ok(Line::Event(event)),
+            Err(error) => Err(error),
+        },
+    }
+}

@@ -1,0 +1,228 @@
+//! The printing of answers.
+
+ghost use Rattle.std.specs.Prelude.{◌≡◌, ◌++◌, IfOk, OnOk, codes, decimal, string_bytes};
+ghost use Rattle.std.specs.List.{flat_map};
+ghost use Rattle.std.specs.Net.Text.{socket_text};
+ghost use Rattle.program_lines.specs.LowerHex.{hex_text};
+ghost use Rattle.turn_desk_trace.specs.Answer.{answer_text, answer_words, between_text, event_text, family_word, icmp_text, placed_text, refusal_text, relayed_text, transport_word};
+
+use program_lines::lower_hex::write_hex;
+use std::alloc::{AllocError, Global};
+use std::net::SocketAddr;
+use stun_types::{AddressFamily, TransportType};
+use turn_client_proto_api::answer::Socket5Tuple;
+use turn_client_proto_api::error::DeleteError;
+use turn_client_proto_api::event::TurnEvent;
+use turn_desk_event::answer::{Answer, Refusal};
+
+/// The line that an answer is printed as, with its line feed. Where memory is refused,
+/// `AllocError`.
+pub fn answer_line(alloc: Global, answer: &Answer) -> Result<String, AllocError>
+    ensures { IfOk result (λ text. string_bytes text ≡ answer_text answer.now) }
+{
+    let mut text = print_words(alloc, answer)?;
+    text.push_str("\n")?;
+    Ok(text)
+}
+
+/// What an answer is printed as, without the line feed.
+fn print_words(alloc: Global, answer: &Answer) -> Result<String, AllocError>
+    ensures { IfOk result (λ text. string_bytes text ≡ answer_words answer.now) }
+{
+    match answer {
+        Answer::Reply(reply) => print_reply(alloc, reply.as_slice()),
+        Answer::Nothing => String::from_str(alloc, "none"),
+        Answer::Transmit(sent) => print_transmit(alloc, sent.from, sent.to, sent.bytes.as_slice()),
+        Answer::Handled => String::from_str(alloc, "handled"),
+        Answer::Ignored => String::from_str(alloc, "ignored"),
+        Answer::Peer(data) => print_peer(alloc, data.transport, data.peer, data.data()),
+        Answer::Icmp {
+            transport,
+            peer,
+            icmp_type,
+            icmp_code,
+            icmp_data,
+        } => print_icmp(alloc, *transport, *peer, *icmp_type, *icmp_code, *icmp_data),
+        Answer::Wait(moment) => format!(in alloc; "wait {}", moment.as_nanos()),
+        Answer::Socket { id, socket, peer } => print_socket(alloc, *id, *socket, *peer),
+        Answer::Close { local, remote } => print_close(alloc, *local, *remote),
+        Answer::Closed => String::from_str(alloc, "closed"),
+        Answer::Event(event) => print_event(alloc, *event),
+        Answer::Done => String::from_str(alloc, "ok"),
+        Answer::Refused(refusal) => format!(in alloc; "refused {}", name_of_refusal(*refusal)),
+        Answer::Relayed(list) => print_relayed(alloc, list.as_slice()),
+        Answer::OutOfRange => String::from_str(alloc, "out of range"),
+    }
+}
+
+/// `reply HEX`
+fn print_reply(alloc: Global, reply: &[u8]) -> Result<String, AllocError>
+    ensures { IfOk result (λ text. string_bytes text ≡ codes "reply " ++ hex_text reply.now) }
+{
+    let digits = write_hex(alloc, reply)?;
+    format!(in alloc; "reply {digits}")
+}
+
+/// `transmit FROM TO HEX`
+fn print_transmit(
+    alloc: Global,
+    from: SocketAddr,
+    to: SocketAddr,
+    bytes: &[u8],
+) -> Result<String, AllocError>
+    ensures { IfOk result (λ text. string_bytes text
+        ≡ codes "transmit " ++ between_text from to ++ codes " " ++ hex_text bytes.now) }
+{
+    let digits = write_hex(alloc, bytes)?;
+    format!(in alloc; "transmit {from} {to} {digits}")
+}
+
+/// `peer T ADDR HEX`
+fn print_peer(
+    alloc: Global,
+    transport: TransportType,
+    peer: SocketAddr,
+    payload: &[u8],
+) -> Result<String, AllocError>
+    ensures { IfOk result (λ text. string_bytes text ≡ codes "peer "
+        ++ placed_text transport (socket_text peer) ++ codes " " ++ hex_text payload.now) }
+{
+    let digits = write_hex(alloc, payload)?;
+    format!(in alloc; "peer {} {peer} {digits}", name_of_transport(transport))
+}
+
+/// `icmp T ADDR TYPE CODE DATA`
+fn print_icmp(
+    alloc: Global,
+    transport: TransportType,
+    peer: SocketAddr,
+    icmp_type: u8,
+    icmp_code: u8,
+    icmp_data: u32,
+) -> Result<String, AllocError>
+    ensures { IfOk result (λ text. string_bytes text ≡ codes "icmp "
+        ++ placed_text transport (socket_text peer) ++ codes " "
+        ++ icmp_text icmp_type icmp_code icmp_data) }
+{
+    let name = name_of_transport(transport);
+    format!(in alloc; "icmp {name} {peer} {icmp_type} {icmp_code} {icmp_data}")
+}
+
+/// `socket ID FROM TO PEER`
+fn print_socket(
+    alloc: Global,
+    id: u32,
+    socket: Socket5Tuple,
+    peer: SocketAddr,
+) -> Result<String, AllocError>
+    ensures { IfOk result (λ text. string_bytes text ≡ codes "socket " ++ decimal id ++ codes " "
+        ++ between_text socket.from socket.to ++ codes " " ++ socket_text peer) }
+{
+    format!(in alloc; "socket {id} {} {} {peer}", socket.from, socket.to)
+}
+
+/// `close LOCAL REMOTE`
+fn print_close(alloc: Global, local: SocketAddr, remote: SocketAddr) -> Result<String, AllocError>
+    ensures { IfOk result (λ text. string_bytes text
+        ≡ codes "close " ++ between_text local remote) }
+{
+    format!(in alloc; "close {local} {remote}")
+}
+
+/// `event NAME` and the values of the event.
+fn print_event(alloc: Global, event: TurnEvent) -> Result<String, AllocError>
+    ensures { IfOk result (λ text. string_bytes text ≡ codes "event " ++ event_text event) }
+{
+    match event {
+        TurnEvent::AllocationCreated(transport, address) => {
+            format!(in alloc;
+                "event AllocationCreated {} {address}",
+                name_of_transport(transport)
+            )
+        }
+        TurnEvent::AllocationCreateFailed(family) => {
+            format!(in alloc; "event AllocationCreateFailed {}", name_of_family(family))
+        }
+        TurnEvent::PermissionCreated(transport, ip) => {
+            format!(in alloc;
+                "event PermissionCreated {} {ip}",
+                name_of_transport(transport)
+            )
+        }
+        TurnEvent::PermissionCreateFailed(transport, ip) => {
+            format!(in alloc;
+                "event PermissionCreateFailed {} {ip}",
+                name_of_transport(transport)
+            )
+        }
+        TurnEvent::ChannelCreated(transport, peer) => {
+            format!(in alloc;
+                "event ChannelCreated {} {peer}",
+                name_of_transport(transport)
+            )
+        }
+        TurnEvent::ChannelCreateFailed(transport, peer) => {
+            format!(in alloc;
+                "event ChannelCreateFailed {} {peer}",
+                name_of_transport(transport)
+            )
+        }
+        TurnEvent::TcpConnected(peer) => format!(in alloc; "event TcpConnected {peer}"),
+        TurnEvent::TcpConnectFailed(peer) => format!(in alloc; "event TcpConnectFailed {peer}"),
+    }
+}
+
+/// `relayed`, and the transport and the address of each.
+fn print_relayed(alloc: Global, list: &[(TransportType, SocketAddr)]) -> Result<String, AllocError>
+    ensures { IfOk result (λ text. string_bytes text
+        ≡ codes "relayed" ++ flat_map relayed_text list.now) }
+{
+    let mut text = String::from_str(alloc, "relayed")?;
+    for relayed in list {
+        push_relayed(alloc, &mut text, *relayed)?;
+    }
+    Ok(text)
+}
+
+/// Appends the transport and the address of a relayed address, each behind a space.
+fn push_relayed(
+    alloc: Global,
+    text: &mut String,
+    relayed: (TransportType, SocketAddr),
+) -> Result<(), AllocError>
+    ensures { OnOk result (string_bytes text.new ≡ string_bytes text.old ++ relayed_text relayed) }
+{
+    let (transport, address) = relayed;
+    let words = format!(in alloc; " {} {address}", name_of_transport(transport))?;
+    text.push_str(words.as_str())
+}
+
+/// The word for a transport.
+fn name_of_transport(transport: TransportType) -> &'static str
+    ensures { result.now ≡ transport_word transport }
+{
+    match transport {
+        TransportType::Udp => "udp",
+        TransportType::Tcp => "tcp",
+    }
+}
+
+/// The word for a family of addresses.
+fn name_of_family(family: AddressFamily) -> &'static str
+    ensures { result.now ≡ family_word family }
+{
+    match family {
+        AddressFamily::IPV4 => "4",
+        AddressFamily::IPV6 => "6",
+    }
+}
+
+/// The name of a client's reason to refuse a call.
+fn name_of_refusal(refusal: Refusal) -> &'static str
+    ensures { result.now ≡ refusal_text refusal }
+{
+    match refusal {
+        Refusal::Delete(DeleteError::NoAllocation) => "NoAllocation",
+        Refusal::Delete(_) => "NoMemory",
+    }
+}

@@ -1,0 +1,330 @@
+//! Setup lines: what stands before the events.
+
+ghost use Rattle.std.specs.Prelude.{◌≡◌, ◌≢◌, MatchOption, map};
+ghost use Rattle.std.specs.declared.time.Duration.{Duration};
+ghost use Rattle.stun_proto.specs.Features.{Feature};
+ghost use Rattle.turn_desk_trace.specs.declared.setup.Algorithms.{Algorithms};
+ghost use Rattle.turn_desk_trace.specs.declared.setup.Client.{Client};
+ghost use Rattle.turn_desk_trace.specs.declared.setup.Families.{Families};
+ghost use Rattle.turn_desk_trace.specs.declared.setup.Setup.{Setup};
+ghost use Rattle.turn_desk_trace.specs.Setup.{algorithms_word, anonymity_word, families_word, IsClient, IsClientAt, IsClientOf, IsClientWith, IsDesk, IsMillis, IsRto, IsRtoOf, IsRtoWith, IsSetup, IsUser};
+
+use crate::address::read_address;
+use crate::number::{SEED_LENGTH, read_seed, read_u32, read_u64};
+use std::net::SocketAddr;
+use std::time::Duration;
+use stun_proto::auth::Feature as Anonymity;
+use stun_types::registry;
+
+/// The most bytes of a realm (RFC 8489, section 14.9).
+pub const MAX_REALM: usize = registry::MAX_TEXT_LENGTH;
+
+/// The most bytes of a user's name (RFC 8489, section 14.3).
+pub const MAX_USERNAME: usize = registry::MAX_USERNAME_LENGTH;
+
+/// The algorithms that a side supports, in their order.
+#[derive(Clone, Copy, Debug, PartialEq, Eq)]
+pub enum Algorithms {
+    /// `sha1`
+    Sha1,
+    /// `sha256`
+    Sha256,
+    /// `sha1,sha256`
+    Sha1AndSha256,
+    /// `sha256,sha1`
+    Sha256AndSha1,
+}
+
+/// The families of the addresses that a client asks for, in their order.
+#[derive(Clone, Copy, Debug, PartialEq, Eq)]
+pub enum Families {
+    /// `4`
+    V4,
+    /// `6`
+    V6,
+    /// `4,6`
+    V4AndV6,
+    /// `6,4`
+    V6AndV4,
+}
+
+/// The settings of a client over UDP, which asks for an allocation over UDP.
+#[derive(Clone, Copy, Debug)]
+pub struct Client<'a> {
+    /// The own address.
+    pub local: SocketAddr,
+    /// The server's address.
+    pub remote: SocketAddr,
+    /// The families of the addresses that it asks for.
+    pub families: Families,
+    /// The algorithms that it supports.
+    pub algorithms: Algorithms,
+    /// Whether it hides the user's name.
+    pub anonymity: Anonymity,
+    /// The user's name, at most [`MAX_USERNAME`] bytes.
+    pub name: &'a str,
+    /// The user's password.
+    pub password: &'a str,
+    /// The seed of the ChaCha20 generator whose words it draws.
+    pub seed: [u8; SEED_LENGTH],
+}
+
+/// A line that stands before the events.
+#[derive(Debug, Drop)]
+pub enum Setup<'a> {
+    /// `desk REALM ALGS ANON`: there is a desk, with no user yet.
+    Desk {
+        /// Its realm, at most [`MAX_REALM`] bytes.
+        realm: &'a str,
+        /// The algorithms that it supports.
+        algorithms: Algorithms,
+        /// Whether it offers to take names in hashed form.
+        anonymity: Anonymity,
+    },
+    /// `user NAME PASSWORD`: the desk knows this user.
+    User {
+        /// The user's name, at most [`MAX_USERNAME`] bytes.
+        name: &'a str,
+        /// The user's password.
+        password: &'a str,
+    },
+    /// `rto INITIAL MAX N FINAL`: how long each request of the client waits for its response.
+    Rto {
+        /// The wait behind the first transmission, in whole milliseconds.
+        initial: Duration,
+        /// The longest wait but the last, in whole milliseconds.
+        max: Duration,
+        /// How often a request is sent in all.
+        retransmits: u32,
+        /// The wait behind the last transmission, in whole milliseconds.
+        last: Duration,
+    },
+    /// `client udp LOCAL REMOTE udp FAMILIES ALGS ANON NAME PASSWORD SEED`: there is a client.
+    Client(Client<'a>),
+}
+
+/// The setup line that some words spell. None where they spell none.
+pub fn read_setup<'a>(words: &[&'a str]) -> Option<Setup<'a>>
+    ensures { MatchOption result ((setup : Setup)
+        → ¬ (IsSetup (map (λ x. x.now) words.entry.now) setup))
+        (IsSetup (map (λ x. x.now) words.entry.now)) }
+{
+    match words {
+        ["desk", rest @ ..] => read_desk(rest),
+        ["user", rest @ ..] => read_user(rest),
+        ["rto", rest @ ..] => read_rto(rest),
+        ["client", rest @ ..] => match read_client(rest) {
+            Some(client) => Some(Setup::Client(client)),
+            None => None,
+        },
+        _ => None,
+    }
+}
+
+/// The setup line that begins with `desk`, from the words behind it.
+fn read_desk<'a>(words: &[&'a str]) -> Option<Setup<'a>>
+    ensures { MatchOption result ((setup : Setup)
+        → ¬ (IsDesk (map (λ x. x.now) words.entry.now) setup))
+        (IsDesk (map (λ x. x.now) words.entry.now)) }
+{
+    let [realm, algorithms, anonymity] = words else {
+        return None;
+    };
+    if realm.len() > MAX_REALM {
+        return None;
+    }
+    match (read_algorithms(algorithms), read_anonymity(anonymity)) {
+        (Some(algorithms), Some(anonymity)) => Some(Setup::Desk {
+            realm,
+            algorithms,
+            anonymity,
+        }),
+        _ => None,
+    }
+}
+
+/// The setup line that begins with `user`, from the words behind it.
+fn read_user<'a>(words: &[&'a str]) -> Option<Setup<'a>>
+    ensures { MatchOption result ((setup : Setup)
+        → ¬ (IsUser (map (λ x. x.now) words.entry.now) setup))
+        (IsUser (map (λ x. x.now) words.entry.now)) }
+{
+    let [name, password] = words else {
+        return None;
+    };
+    if name.len() > MAX_USERNAME {
+        return None;
+    }
+    Some(Setup::User { name, password })
+}
+
+/// The setup line that begins with `rto`, from the words behind it.
+fn read_rto<'a>(words: &[&'a str]) -> Option<Setup<'a>>
+    ensures { MatchOption result ((setup : Setup)
+        → ¬ (IsRto (map (λ x. x.now) words.entry.now) setup))
+        (IsRto (map (λ x. x.now) words.entry.now)) }
+{
+    match words {
+        [initial, max, rest @ ..] => read_rto_with(initial, max, rest),
+        _ => None,
+    }
+}
+
+/// The setup line that begins with `rto` and two waits, from the words behind those.
+fn read_rto_with<'a>(initial: &str, max: &str, words: &[&str]) -> Option<Setup<'a>>
+    ensures { MatchOption result ((setup : Setup)
+        → ¬ (IsRtoWith initial.now max.now (map (λ x. x.now) words.now) setup))
+        (IsRtoWith initial.now max.now (map (λ x. x.now) words.now)) }
+{
+    match words {
+        [retransmits, last] => read_waits(initial, max, retransmits, last),
+        _ => None,
+    }
+}
+
+/// The waits of a client's requests, from the four words that spell them.
+fn read_waits<'a>(initial: &str, max: &str, retransmits: &str, last: &str) -> Option<Setup<'a>>
+    ensures { MatchOption result ((setup : Setup)
+        → ¬ (IsRtoOf initial.now max.now retransmits.now last.now setup))
+        (IsRtoOf initial.now max.now retransmits.now last.now) }
+{
+    Some(Setup::Rto {
+        initial: read_millis(initial)?,
+        max: read_millis(max)?,
+        retransmits: read_u32(retransmits)?,
+        last: read_millis(last)?,
+    })
+}
+
+/// The duration of which a word spells the milliseconds.
+fn read_millis(word: &str) -> Option<Duration>
+    ensures { MatchOption result ((duration : Duration) → ¬ (IsMillis word.now duration))
+        (IsMillis word.now) }
+{
+    match read_u64(word) {
+        Some(millis) => Some(Duration::from_millis(millis)),
+        None => None,
+    }
+}
+
+/// The client of the setup line that begins with `client`, from the words behind it.
+fn read_client<'a>(words: &[&'a str]) -> Option<Client<'a>>
+    ensures { MatchOption result ((client : Client)
+        → ¬ (IsClient (map (λ x. x.now) words.entry.now) client))
+        (IsClient (map (λ x. x.now) words.entry.now)) }
+{
+    match words {
+        ["udp", local, remote, "udp", rest @ ..] => read_client_at(local, remote, rest),
+        _ => None,
+    }
+}
+
+/// The client between two addresses, from the words behind the transport of its allocation.
+fn read_client_at<'a>(local: &str, remote: &str, words: &[&'a str]) -> Option<Client<'a>>
+    ensures { MatchOption result ((client : Client)
+        → ¬ (IsClientAt local.now remote.now (map (λ x. x.now) words.entry.now) client))
+        (IsClientAt local.now remote.now (map (λ x. x.now) words.entry.now)) }
+{
+    match words {
+        [families, algorithms, anonymity, rest @ ..] => {
+            read_client_with(local, remote, families, algorithms, anonymity, rest)
+        }
+        _ => None,
+    }
+}
+
+/// The client between two addresses with some settings, from the words behind those.
+fn read_client_with<'a>(
+    local: &str,
+    remote: &str,
+    families: &str,
+    algorithms: &str,
+    anonymity: &str,
+    words: &[&'a str],
+) -> Option<Client<'a>>
+    ensures { MatchOption result ((client : Client)
+        → ¬ (IsClientWith local.now remote.now families.now algorithms.now anonymity.now
+        (map (λ x. x.now) words.entry.now) client))
+        (IsClientWith local.now remote.now families.now algorithms.now anonymity.now
+        (map (λ x. x.now) words.entry.now)) }
+{
+    match words {
+        [name, password, seed] => client_of(
+            local, remote, families, algorithms, anonymity, name, password, seed,
+        ),
+        _ => None,
+    }
+}
+
+/// The client that some words spell, each for one of its settings.
+fn client_of<'a>(
+    local: &str,
+    remote: &str,
+    families: &str,
+    algorithms: &str,
+    anonymity: &str,
+    name: &'a str,
+    password: &'a str,
+    seed: &str,
+) -> Option<Client<'a>>
+    ensures { MatchOption result ((client : Client)
+        → ¬ (IsClientOf local.now remote.now families.now algorithms.now anonymity.now
+        name.entry.now password.entry.now seed.now client))
+        (IsClientOf local.now remote.now families.now algorithms.now anonymity.now
+        name.entry.now password.entry.now seed.now) }
+{
+    if name.len() > MAX_USERNAME {
+        return None;
+    }
+    Some(Client {
+        local: read_address(local)?,
+        remote: read_address(remote)?,
+        families: read_families(families)?,
+        algorithms: read_algorithms(algorithms)?,
+        anonymity: read_anonymity(anonymity)?,
+        name,
+        password,
+        seed: read_seed(seed)?,
+    })
+}
+
+/// The algorithms that a word names: one, or both in either order. None where it names none.
+pub fn read_algorithms(word: &str) -> Option<Algorithms>
+    ensures { MatchOption result ((a : Algorithms) → word.now ≢ algorithms_word a)
+        (λ a. word.now ≡ algorithms_word a) }
+{
+    match word {
+        "sha1" => Some(Algorithms::Sha1),
+        "sha256" => Some(Algorithms::Sha256),
+        "sha1,sha256" => Some(Algorithms::Sha1AndSha256),
+        "sha256,sha1" => Some(Algorithms::Sha256AndSha1),
+        _ => None,
+    }
+}
+
+/// The families that a word names: one, or both in either order. None where it names none.
+pub fn read_families(word: &str) -> Option<Families>
+    ensures { MatchOption result ((f : Families) → word.now ≢ families_word f)
+        (λ f. word.now ≡ families_word f) }
+{
+    match word {
+        "4" => Some(Families::V4),
+        "6" => Some(Families::V6),
+        "4,6" => Some(Families::V4AndV6),
+        "6,4" => Some(Families::V6AndV4),
+        _ => None,
+    }
+}
+
+/// The anonymity that a word names. None where it names none.
+pub fn read_anonymity(word: &str) -> Option<Anonymity>
+    ensures { MatchOption result ((a : Feature) → word.now ≢ anonymity_word a)
+        (λ a. word.now ≡ anonymity_word a) }
+{
+    match word {
+        "auto" => Some(Anonymity::Auto),
+        "required" => Some(Anonymity::Required),
+        "disabled" => Some(Anonymity::Disabled),
+        _ => None,
+    }
+}

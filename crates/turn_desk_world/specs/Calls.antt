@@ -1,0 +1,89 @@
+-- What a client answers in a world.
+use Rattle.std.specs.Prelude.{◌≡◌, ℕ, List, [], ◌∷◌, Option, Some, None, Ok, Err}
+use Rattle.std.specs.Borrow.{Bor}
+use Rattle.std.specs.declared.net.socket_addr.SocketAddr.{SocketAddr}
+use Rattle.stun_types.specs.declared.transmit.Transmit.{Transmit}
+use Rattle.turn_client_proto_api.specs.declared.answer.TurnPollRet.TheVariants as poll
+use Rattle.turn_client_proto_api.specs.declared.answer.TurnRecvRet.{TurnRecvRet}
+use Rattle.turn_client_proto_api.specs.declared.answer.TurnRecvRet.TheVariants as recv
+use Rattle.turn_client_proto.specs.Getters.{relayed_of}
+use Rattle.turn_client_proto.specs.Receipts.{IsReceived}
+use Rattle.turn_client_proto.specs.Deleting.{IsDeleteAnswered}
+use Rattle.turn_client_proto.specs.Drawing.{IsDrawn, sent_of}
+use Rattle.turn_client_proto.specs.Ending.{ended}
+use Rattle.turn_client_proto.specs.Polling.{IsPolled}
+use Rattle.turn_client_proto.specs.Kept.{Protocol}
+use Rattle.turn_desk_event.specs.declared.answer.Answer.{Answer}
+use Rattle.turn_desk_event.specs.declared.answer.Answer.TheVariants as answer
+use Rattle.turn_desk_event.specs.declared.answer.Refusal.TheVariants.{Delete as DeleteRefused}
+use Rattle.turn_desk_event.specs.declared.event.ClientCall.{ClientCall}
+use Rattle.turn_desk_event.specs.declared.event.ClientCall.TheVariants.{Poll, PollEvent, Delete, ProtocolError, RelayedAddresses}
+
+-- ---- calls
+
+-- `poll`, by its contract
+abbrev pub IsPolledAs : Answer → Protocol → ℕ → Protocol → Type 0
+IsPolledAs (answer.Wait moment) old now new = IsPolled old now (poll.WaitUntil moment) new
+IsPolledAs (answer.Socket id socket peer) old now new = IsPolled old now (poll.AllocateTcpSocket id socket peer) new
+IsPolledAs (answer.Close local remote) old now new = IsPolled old now (poll.TcpClose local remote) new
+IsPolledAs answer.Closed old now new = IsPolled old now poll.Closed new
+IsPolledAs _ old now new = ⊥
+
+-- `poll_event`
+abbrev pub IsEventTold : Answer → Protocol → Protocol → Type 0
+IsEventTold (answer.Event event) old new = (old.events ≡ event ∷ new.events) × (new ≡ record old { events = new.events })
+IsEventTold answer.Nothing old new = (old.events ≡ []) × (new ≡ old)
+IsEventTold _ old new = ⊥
+
+-- `delete`
+abbrev pub IsDeleteTold : Answer → Protocol → ℕ → Protocol → Type 0
+IsDeleteTold answer.Done old now new = IsDeleteAnswered old now (Ok tt) new
+IsDeleteTold (answer.Refused (DeleteRefused error)) old now new = IsDeleteAnswered old now (Err error) new
+IsDeleteTold _ old now new = ⊥
+
+-- `protocol_error`
+abbrev pub IsEndTold : Answer → Protocol → Protocol → Type 0
+IsEndTold answer.Done old new = new ≡ ended old
+IsEndTold _ old new = ⊥
+
+-- `relayed_addresses`
+abbrev pub IsRelayedTold : Answer → Protocol → Protocol → Type 0
+IsRelayedTold (answer.Relayed list) old new = (list.items ≡ relayed_of old) × (new ≡ old)
+IsRelayedTold _ old new = ⊥
+
+-- a call of a client, by its contract
+unfoldable pub IsCalled : ClientCall → Answer → Protocol → ℕ → Protocol → Type 0
+IsCalled Poll answer old now new = IsPolledAs answer old now new
+IsCalled PollEvent answer old now new = IsEventTold answer old new
+IsCalled Delete answer old now new = IsDeleteTold answer old now new
+IsCalled ProtocolError answer old now new = IsEndTold answer old new
+IsCalled RelayedAddresses answer old now new = IsRelayedTold answer old new
+
+-- ---- what is sent, and what comes
+
+-- `poll_transmit`, by its contract
+unfoldable pub IsDrawnAs : Answer → Protocol → ℕ → Protocol → Type 0
+IsDrawnAs (answer.Transmit transmit) old now new = IsDrawn old now (Some (sent_of transmit)) new
+IsDrawnAs answer.Nothing old now new = IsDrawn old now None new
+IsDrawnAs _ old now new = ⊥
+
+-- what is told of bytes that came
+abbrev pub IsTold : TurnRecvRet (Bor (List ℕ)) → Answer → Type 0
+IsTold recv.Handled answer.Handled = Unit {0}
+IsTold (recv.Ignored came) answer.Ignored = Unit {0}
+IsTold (recv.PeerData held) (answer.Peer owned) =
+    (owned.payload ≡ held.payload) × (owned.transport ≡ held.transport) × (owned.peer ≡ held.peer)
+IsTold (recv.PeerIcmp t p k c d) (answer.Icmp transport peer kind code report) =
+    (transport ≡ t) × (peer ≡ p) × (kind ≡ k) × (code ≡ c) × (report ≡ d)
+IsTold _ _ = ⊥
+
+-- bytes came to a client by its own transport: `recv`, by its contract
+pub record IsFed (answer : Answer) (old : Protocol) (bytes : List ℕ) (from to : SocketAddr) (now : ℕ) (new : Protocol) : Type 0 where
+  pub came : Transmit (Bor (List ℕ))
+  pub bytes_are : came.bytes.now ≡ bytes
+  pub transport_is : came.transport ≡ old.agent.transport
+  pub from_is : came.from ≡ from
+  pub to_is : came.to ≡ to
+  pub took : TurnRecvRet (Bor (List ℕ))
+  pub received : IsReceived (λ (b : Bor (List ℕ)). b.now) old came now took new
+  pub told : IsTold took answer

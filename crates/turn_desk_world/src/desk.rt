@@ -1,0 +1,32 @@
+//! What reaches a desk.
+
+ghost use Rattle.std.specs.Prelude.{IfOk};
+ghost use Rattle.turn_desk_world.specs.Desks.{IsDeskAnswered, words_of};
+
+use rand_chacha::ChaCha20Rng;
+use rand_core::SeedableRng;
+use std::net::SocketAddr;
+use stun_proto::Instant;
+use stun_types::NoMemory;
+use turn_desk_core::desk::Desk;
+use turn_desk_event::answer::Answer;
+use turn_desk_grant::decision::Decision;
+
+/// Bytes reach a desk, which draws its words from the generator of a seed.
+pub(crate) fn ask(
+    desk: &mut Desk,
+    bytes: &[u8],
+    from: SocketAddr,
+    now: Instant,
+    decision: &Decision,
+    seed: [u8; 32],
+) -> Result<Answer, NoMemory>
+    ensures { IfOk result (λ answer. IsDeskAnswered answer desk.old bytes.now from now
+        decision.now seed desk.new) }
+{
+    let mut words = ChaCha20Rng::from_seed(seed);
+    match desk.handle(bytes, from, now, decision, &mut words)? {
+        Some(reply) => Ok(Answer::Reply(reply)),
+        None => Ok(Answer::Nothing),
+    }
+}

@@ -1,0 +1,279 @@
+//! What happens to a client.
+
+ghost use Rattle.std.specs.Prelude.{◌≡◌, IfOk};
+ghost use Rattle.turn_client_proto.specs.Clients.{protocol_of};
+ghost use Rattle.turn_client_proto.specs.Getters.{relayed_of};
+ghost use Rattle.turn_desk_world.specs.Calls.{IsCalled, IsDrawnAs, IsEventTold, IsFed, IsPolledAs, IsDeleteTold};
+ghost use Rattle.turn_desk_world.specs.Runs.{IsAtClient, IsInRange, is_in_range};
+
+use std::alloc::Global;
+use std::marker::Model;
+use std::net::SocketAddr;
+use stun_proto::Instant;
+use stun_types::{NoMemory, Transmit, TransportType};
+use turn_client_proto::api::{CLIENT_END, DeleteError, TurnPollRet, TurnRecvRet};
+use turn_client_proto::client::TurnClient;
+use turn_client_proto::prelude::TurnClientApi;
+use turn_desk_event::answer::{Answer, Refusal};
+use turn_desk_event::event::ClientCall;
+
+/// The client's user calls it at a moment.
+#[tactic(auto, unfolding(crate::specs::Calls::IsCalled))]
+fn call(
+    alloc: Global,
+    client: &mut TurnClient,
+    call: ClientCall,
+    now: Instant,
+) -> Result<Answer, NoMemory>
+    ensures { IfOk result (λ answer.
+        IsCalled call answer (protocol_of client.old) now (protocol_of client.new)) }
+{
+    match call {
+        ClientCall::Poll => poll(client, now),
+        ClientCall::PollEvent => Ok(poll_event(client)),
+        ClientCall::Delete => delete(client, now),
+        ClientCall::ProtocolError => {
+            client.protocol_error()?;
+            Ok(Answer::Done)
+        }
+        ClientCall::RelayedAddresses => {
+            let relayed = relayed(alloc, client)?;
+            Ok(Answer::Relayed(relayed))
+        }
+    }
+}
+
+/// The client is polled.
+fn poll(client: &mut TurnClient, now: Instant) -> Result<Answer, NoMemory>
+    ensures { IfOk result (λ answer.
+        IsPolledAs answer (protocol_of client.old) now (protocol_of client.new)) }
+{
+    match client.poll(now) {
+        TurnPollRet::WaitUntil(moment) => Ok(Answer::Wait(moment)),
+        TurnPollRet::AllocateTcpSocket {
+            id,
+            socket,
+            peer_addr,
+        } => Ok(Answer::Socket {
+            id,
+            socket,
+            peer: peer_addr,
+        }),
+        TurnPollRet::TcpClose {
+            local_addr,
+            remote_addr,
+        } => Ok(Answer::Close {
+            local: local_addr,
+            remote: remote_addr,
+        }),
+        TurnPollRet::Closed => Ok(Answer::Closed),
+        TurnPollRet::NoMemory => Err(NoMemory),
+    }
+}
+
+/// The event that has waited longest.
+fn poll_event(client: &mut TurnClient) -> Answer
+    ensures { IsEventTold result (protocol_of client.old) (protocol_of client.new) }
+{
+    match client.poll_event() {
+        Some(event) => Answer::Event(event),
+        None => Answer::Nothing,
+    }
+}
+
+/// The client is to delete its allocations.
+fn delete(client: &mut TurnClient, now: Instant) -> Result<Answer, NoMemory>
+    ensures { IfOk result (λ answer.
+        IsDeleteTold answer (protocol_of client.old) now (protocol_of client.new)) }
+{
+    match client.delete(now) {
+        Ok(()) => Ok(Answer::Done),
+        Err(DeleteError::NoMemory) => Err(NoMemory),
+        Err(error) => Ok(Answer::Refused(Refusal::Delete(error))),
+    }
+}
+
+/// The relayed addresses that the client shows.
+fn relayed(alloc: Global, client: &TurnClient) -> Result<Vec<(TransportType, SocketAddr)>, NoMemory>
+    ensures { IfOk result (λ list. list.items ≡ relayed_of (protocol_of client.now)) }
+{
+    let mut list = Vec::new(alloc);
+    for relayed in client.relayed_addresses() {
+        list.push(relayed)?;
+    }
+    Ok(list)
+}
+
+/// The client is asked for what it sends.
+#[tactic(auto, unfolding(crate::specs::Calls::IsDrawnAs))]
+fn draw(client: &mut TurnClient, now: Instant) -> Result<Answer, NoMemory>
+    ensures { IfOk result (λ answer.
+        IsDrawnAs answer (protocol_of client.old) now (protocol_of client.new)) }
+{
+    match client.poll_transmit(now)? {
+        Some(transmit) => Ok(Answer::Transmit(transmit)),
+        None => Ok(Answer::Nothing),
+    }
+}
+
+/// Bytes reach the client by its own transport.
+fn feed(
+    alloc: Global,
+    client: &mut TurnClient,
+    bytes: &[u8],
+    from: SocketAddr,
+    to: SocketAddr,
+    now: Instant,
+) -> Result<Answer, NoMemory>
+    ensures { IfOk result (λ answer. IsFed answer (protocol_of client.old) bytes.now from to now
+        (protocol_of client.new)) }
+{
+    let transmit = Transmit::new(bytes, client.transport(), from, to);
+    match client.recv(transmit, now) {
+        TurnRecvRet::Handled => Ok(Answer::Handled),
+        TurnRecvRet::Ignored(_) => Ok(Answer::Ignored),
+        TurnRecvRet::PeerData(data) => Ok(Answer::Peer(data.into_owned(alloc)?)),
+        TurnRecvRet::PeerIcmp {
+            transport,
+            peer,
+            icmp_type,
+            icmp_code,
+            icmp_data,
+        } => Ok(Answer::Icmp {
+            transport,
+            peer,
+            icmp_type,
+            icmp_code,
+            icmp_data,
+        }),
+        TurnRecvRet::NoMemory(_) => Err(NoMemory),
+    }
+}
+
+/// Whether something happens to a client at a moment.
+fn is_in_range(now: Instant) -> bool
+    ensures { result ≡ is_in_range now }
+{
+    now.as_nanos() <= CLIENT_END
+}
+
+/// The client's user calls it at a moment, where that is in range.
+#[tactic(auto, unfolding(crate::specs::Runs::IsInRange))]
+fn call_in_range(
+    alloc: Global,
+    client: &mut TurnClient,
+    what: ClientCall,
+    now: Instant,
+) -> Result<Answer, NoMemory>
+    ensures { IfOk result (λ answer. IsInRange now (λ p q. IsCalled what answer p now q)
+        (protocol_of client.old) answer (protocol_of client.new)) }
+{
+    if !is_in_range(now) {
+        return Ok(Answer::OutOfRange);
+    }
+    call(alloc, client, what, now)
+}
+
+/// The client is asked for what it sends, where the moment is in range.
+#[tactic(auto, unfolding(crate::specs::Runs::IsInRange))]
+fn draw_in_range(client: &mut TurnClient, now: Instant) -> Result<Answer, NoMemory>
+    ensures { IfOk result (λ answer. IsInRange now (λ p q. IsDrawnAs answer p now q)
+        (protocol_of client.old) answer (protocol_of client.new)) }
+{
+    if !is_in_range(now) {
+        return Ok(Answer::OutOfRange);
+    }
+    draw(client, now)
+}
+
+/// Bytes reach the client, where the moment is in range.
+#[tactic(auto, unfolding(crate::specs::Runs::IsInRange))]
+fn feed_in_range(
+    alloc: Global,
+    client: &mut TurnClient,
+    bytes: &[u8],
+    from: SocketAddr,
+    to: SocketAddr,
+    now: Instant,
+) -> Result<Answer, NoMemory>
+    ensures { IfOk result (λ answer.
+        IsInRange now (λ p q. IsFed answer p bytes.now from to now q)
+        (protocol_of client.old) answer (protocol_of client.new)) }
+{
+    if !is_in_range(now) {
+        return Ok(Answer::OutOfRange);
+    }
+    feed(alloc, client, bytes, from, to, now)
+}
+
+/// A client, where there is one. Contracts see what it keeps.
+#[derive(Debug, Drop)]
+pub(crate) struct Driven {
+    pub(crate) alloc: Global,
+    pub(crate) client: Option<TurnClient>,
+}
+
+impl Model for Driven {
+    ghost use Rattle.std.specs.Option.{option_map};
+    ghost use Rattle.std.specs.Prelude.{Option};
+    ghost use Rattle.turn_client_proto.specs.Clients.{protocol_of};
+    ghost use Rattle.turn_client_proto.specs.Kept.{Protocol};
+    ghost use Rattle.turn_desk_world.specs.Model.{driven_code};
+
+    ghost Value = { Option Protocol };
+
+    ghost coded = { driven_code };
+
+    ghost view = { λ d. option_map protocol_of d.client };
+}
+
+impl Driven {
+    /// The client's user calls it at a moment, where there is a client, and the moment is in range.
+    #[tactic(auto, unfolding(crate::specs::Runs::IsAtClient))]
+    pub(crate) fn call(&mut self, what: ClientCall, now: Instant) -> Result<Answer, NoMemory>
+        ensures { IfOk result (λ answer. IsAtClient now (λ p q. IsCalled what answer p now q)
+            self.old answer self.new) }
+    {
+        let Some(mut client) = self.client.take() else {
+            return Ok(Answer::OutOfRange);
+        };
+        let answer = call_in_range(self.alloc, &mut client, what, now);
+        self.client = Some(client);
+        answer
+    }
+
+    /// The client is asked for what it sends, where there is one, and the moment is in range.
+    #[tactic(auto, unfolding(crate::specs::Runs::IsAtClient))]
+    pub(crate) fn draw(&mut self, now: Instant) -> Result<Answer, NoMemory>
+        ensures { IfOk result (λ answer. IsAtClient now (λ p q. IsDrawnAs answer p now q)
+            self.old answer self.new) }
+    {
+        let Some(mut client) = self.client.take() else {
+            return Ok(Answer::OutOfRange);
+        };
+        let answer = draw_in_range(&mut client, now);
+        self.client = Some(client);
+        answer
+    }
+
+    /// Bytes reach the client, where there is one, and the moment is in range.
+    #[tactic(auto, unfolding(crate::specs::Runs::IsAtClient))]
+    pub(crate) fn feed(
+        &mut self,
+        bytes: &[u8],
+        from: SocketAddr,
+        to: SocketAddr,
+        now: Instant,
+    ) -> Result<Answer, NoMemory>
+        ensures { IfOk result (λ answer.
+            IsAtClient now (λ p q. IsFed answer p bytes.now from to now q)
+            self.old answer self.new) }
+    {
+        let Some(mut client) = self.client.take() else {
+            return Ok(Answer::OutOfRange);
+        };
+        let answer = feed_in_range(self.alloc, &mut client, bytes, from, to, now);
+        self.client = Some(client);
+        answer
+    }
+}

@@ -1,0 +1,10 @@
+//! A world of one client and one desk, and a network that may hand either of them any bytes at any
+//! moment: events in, their answers out. It performs no input or output.
+#![tactic(auto)]
+
+mod desk;
+mod driven;
+pub mod world;
+
+// What stands above this crate has the client through it.
+pub use turn_client_proto as client;

@@ -1,0 +1,143 @@
+//! A world, and its runs.
+
+ghost use Rattle.std.specs.Prelude.{◌≡◌, IfOk, OnErr, OnOk, false, length, true};
+ghost use Rattle.std.specs.List.{zip};
+ghost use Rattle.std.specs.Option.{option_map};
+ghost use Rattle.turn_client_proto.specs.Clients.{protocol_of};
+ghost use Rattle.turn_desk_world.specs.Runs.{IsClientRun, IsDeskRun, IsRun, IsStep};
+
+use crate::desk::ask;
+use crate::driven::Driven;
+use std::alloc::Global;
+use std::marker::Model;
+use stun_types::NoMemory;
+use turn_client_proto::client::TurnClient;
+use turn_desk_core::desk::Desk;
+use turn_desk_event::answer::Answer;
+use turn_desk_event::event::Event;
+
+/// A desk, and a client where there is one. Contracts see the record `World` of `specs/Model.antt`.
+#[derive(Debug, Drop)]
+pub struct World {
+    alloc: Global,
+    desk: Desk,
+    driven: Driven,
+    is_failed: bool,
+}
+
+impl Model for World {
+    ghost use Rattle.turn_desk_world.specs.Model.{World as WorldModel, world_code};
+
+    ghost Value = { WorldModel };
+
+    ghost coded = { world_code };
+
+    ghost view = { λ w. record {
+      desk = w.desk;
+      client = w.driven;
+      is_failed = w.is_failed;
+    } };
+}
+
+impl World {
+    /// A world of this desk and this client. It keeps the allocator, and holds no memory of its own.
+    pub fn new(alloc: Global, desk: Desk, client: Option<TurnClient>) -> World
+        ensures { result ≡ record {
+          desk = desk;
+          client = option_map protocol_of client;
+          is_failed = false;
+        } }
+    {
+        World {
+            alloc,
+            desk,
+            driven: Driven { alloc, client },
+            is_failed: false,
+        }
+    }
+
+    /// The desk.
+    pub fn desk(&self) -> &Desk
+        ensures { result.now ≡ self.now.desk }
+    {
+        &self.desk
+    }
+
+    /// The client, where there is one.
+    pub fn client(&self) -> Option<&TurnClient>
+        ensures { option_map (λ c. protocol_of c.now) result ≡ self.now.client }
+    {
+        self.driven.client.as_ref()
+    }
+
+    /// Lets the events happen in order, and answers each. Where a call of the client or of the desk is
+    /// refused memory, `NoMemory`; so is every later run. A client event with no client, or at a moment
+    /// past `CLIENT_END`, is answered `OutOfRange`.
+    pub fn run(&mut self, events: &[Event]) -> Result<Vec<Answer>, NoMemory>
+        ensures each { IfOk result (λ answers. length answers.items ≡ length events.now) }
+        ensures run { IfOk result (λ answers.
+            IsRun self.old (zip events.now answers.items) self.new) }
+        // The desk's answers are those to its events alone, and the client's those to the others.
+        ensures desk { IfOk result (λ answers.
+            IsDeskRun self.old (zip events.now answers.items) self.new) }
+        ensures client { IfOk result (λ answers.
+            IsClientRun self.old (zip events.now answers.items) self.new) }
+        ensures err { OnErr result (self.new.is_failed ≡ true) }
+        ensures failed { OnOk result (self.old.is_failed ≡ false) }
+    {
+        if self.is_failed {
+            return Err(NoMemory);
+        }
+        match self.run_each(events) {
+            Ok(answers) => Ok(answers),
+            Err(e) => {
+                self.is_failed = true;
+                Err(e)
+            }
+        }
+    }
+
+    /// The same, where no run was refused memory.
+    fn run_each(&mut self, events: &[Event]) -> Result<Vec<Answer>, NoMemory>
+        ensures each { IfOk result (λ answers. length answers.items ≡ length events.now) }
+        ensures run { IfOk result (λ answers.
+            IsRun self.old (zip events.now answers.items) self.new) }
+    {
+        let mut answers = Vec::with_capacity(self.alloc, events.len())?;
+        for event in events {
+            let answer = self.step(event)?;
+            answers.push(answer)?;
+        }
+        Ok(answers)
+    }
+
+    /// Lets one event happen.
+    fn step(&mut self, event: &Event) -> Result<Answer, NoMemory>
+        ensures { IfOk result (λ answer. IsStep event.now self.old answer self.new) }
+    {
+        match event {
+            Event::ToDesk {
+                bytes,
+                from,
+                now,
+                decision,
+                seed,
+            } => ask(
+                &mut self.desk,
+                bytes.as_slice(),
+                *from,
+                *now,
+                decision,
+                *seed,
+            ),
+            Event::Call(what, now) => self.driven.call(*what, *now),
+            Event::Draw(now) => self.driven.draw(*now),
+            Event::ToClient {
+                bytes,
+                from,
+                to,
+                now,
+            } => self.driven.feed(bytes.as_slice(), *from, *to, *now),
+        }
+    }
+}
