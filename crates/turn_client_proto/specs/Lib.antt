@@ -4,6 +4,7 @@ pub mod Codes
 pub mod Getters
 pub mod HandingIn
 pub mod Receipts
+pub mod Refusals
 pub use Rattle.turn_client_proto_core.specs.Beginning
 pub use Rattle.turn_client_proto_core.specs.Deleting
 pub use Rattle.turn_client_proto_core.specs.Drawing

@@ -9,11 +9,12 @@ ghost use Rattle.turn_client_proto_core.specs.Polling.{IsPolled};
 ghost use Rattle.turn_client_proto_core.specs.declared.protocol.Protocol.{Protocol};
 ghost use Rattle.turn_client_proto.specs.Getters.{relayed_of};
 ghost use Rattle.turn_client_proto.specs.Receipts.{IsReceived};
+ghost use Rattle.turn_client_proto.specs.Refusals.{IsAnsweredStill, IsTurnedDown};
 
 pub use crate::getters::RelayedAddressesIter;
 use std::convert::AsSlice;
 use std::fmt::Debug;
-use std::net::SocketAddr;
+use std::net::{IpAddr, SocketAddr};
 use stun_proto::Instant;
 use stun_types::data::Data;
 use stun_types::{NoMemory, Transmit, TransportType};
@@ -26,6 +27,7 @@ pub use turn_client_proto_api::error::{
 };
 pub use turn_client_proto_api::event::TurnEvent;
 pub use turn_client_proto_api::send::DelayedMessageOrChannelSend;
+use turn_types::transmit::TransmitBuild;
 
 /// The greatest moment of a call of a client: 2^62 nanoseconds behind `Instant::ZERO`, some 146 years.
 pub const CLIENT_END: u64 = 1 << 62;
@@ -33,6 +35,9 @@ pub const CLIENT_END: u64 = 1 << 62;
 /// The calls of a TURN client, over any transport. They perform no input or output: a caller sends what
 /// `poll_transmit` answers, hands in what came by `recv`, waits as `poll` tells, and asks for what
 /// happened by `poll_event`.
+///
+/// No client has permissions, channels or connections yet: calls that ask for one are refused, with the
+/// error of a client that has no allocation of the kind, and change nothing.
 pub trait TurnClientApi: Debug + Send {
     ghost protocol: { Self → Protocol };
 
@@ -60,6 +65,76 @@ pub trait TurnClientApi: Debug + Send {
     /// changes but the words that were drawn.
     fn delete(&mut self, now: Instant) -> Result<(), DeleteError>
         ensures { IsDeleteAnswered (protocol self.old) now result (protocol self.new) };
+
+    /// Asks for a permission for an address (RFC 8656, section 10.1). There are none yet: it is refused
+    /// with `NoAllocation`.
+    fn create_permission(
+        &mut self,
+        transport: TransportType,
+        peer_addr: IpAddr,
+        now: Instant,
+    ) -> Result<(), CreatePermissionError>
+        ensures { IsTurnedDown result CreatePermissionError.NoAllocation (protocol self.old)
+            (protocol self.new) };
+
+    /// Whether a permission for an address stands, in an allocation of this transport. None does yet.
+    fn have_permission(&self, transport: TransportType, to: IpAddr) -> bool
+        ensures { result ≡ false };
+
+    /// Asks for a channel to a peer (RFC 8656, section 12.1). There are none yet: it is refused with
+    /// `NoAllocation`.
+    fn bind_channel(
+        &mut self,
+        transport: TransportType,
+        peer_addr: SocketAddr,
+        now: Instant,
+    ) -> Result<(), BindChannelError>
+        ensures { IsTurnedDown result BindChannelError.NoAllocation (protocol self.old)
+            (protocol self.new) };
+
+    /// Asks for a connection to a peer (RFC 6062, section 4.3). There are none yet: it is refused with
+    /// `NoAllocation`.
+    fn tcp_connect(&mut self, peer_addr: SocketAddr, now: Instant) -> Result<(), TcpConnectError>
+        ensures { IsTurnedDown result TcpConnectError.NoAllocation (protocol self.old)
+            (protocol self.new) };
+
+    /// Hands in the local address of the socket for a connection to a peer, or that there is none (RFC
+    /// 6062, section 4.3). `poll` asks for none yet: it is refused with `NoAllocation`.
+    fn allocated_tcp_socket(
+        &mut self,
+        id: u32,
+        five_tuple: Socket5Tuple,
+        peer_addr: SocketAddr,
+        local_addr: Option<SocketAddr>,
+        now: Instant,
+    ) -> Result<(), TcpAllocateError>
+        ensures { IsTurnedDown result TcpAllocateError.NoAllocation (protocol self.old)
+            (protocol self.new) };
+
+    /// Tells that a connection has ended. A client over UDP has none: nothing changes.
+    fn tcp_closed(
+        &mut self,
+        local_addr: SocketAddr,
+        remote_addr: SocketAddr,
+        now: Instant,
+    ) -> Result<(), NoMemory>
+        ensures { IsAnsweredStill result (Ok tt) (protocol self.old) (protocol self.new) };
+
+    /// What carries bytes to a peer, by an allocation of this transport (RFC 8656, sections 11.1 and
+    /// 12.5). No permission stands yet: it is refused with `NoPermission`.
+    fn send_to<T: AsSlice<u8> + Debug + Drop>(
+        &mut self,
+        transport: TransportType,
+        to: SocketAddr,
+        data: T,
+        now: Instant,
+    ) -> Result<Option<TransmitBuild<DelayedMessageOrChannelSend<T>>>, SendError>
+        ensures { IsTurnedDown result SendError.NoPermission (protocol self.old)
+            (protocol self.new) };
+
+    /// A payload that has come in a stream and waits. A client over UDP has none.
+    fn poll_recv(&mut self, now: Instant) -> Result<Option<TurnPeerData<Vec<u8>>>, NoMemory>
+        ensures { IsAnsweredStill result (Ok None) (protocol self.old) (protocol self.new) };
 
     /// Hands in a datagram that came at a moment. What didn't come from the server to the client's own
     /// address, by the client's transport, is given back as `Ignored`, and so is what is no message, or

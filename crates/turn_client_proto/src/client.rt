@@ -3,15 +3,18 @@
 ghost use Rattle.turn_client_proto.specs.Clients.{protocol_of};
 
 use crate::api::{
-    DeleteError, RelayedAddressesIter, TurnClientApi, TurnEvent, TurnPollRet, TurnRecvRet,
+    BindChannelError, CreatePermissionError, DelayedMessageOrChannelSend, DeleteError,
+    RelayedAddressesIter, SendError, Socket5Tuple, TcpAllocateError, TcpConnectError,
+    TurnClientApi, TurnEvent, TurnPeerData, TurnPollRet, TurnRecvRet,
 };
 use crate::udp::TurnClientUdp;
 use std::convert::AsSlice;
 use std::fmt::Debug;
-use std::net::SocketAddr;
+use std::net::{IpAddr, SocketAddr};
 use stun_proto::Instant;
 use stun_types::data::Data;
 use stun_types::{NoMemory, Transmit, TransportType};
+use turn_types::transmit::TransmitBuild;
 
 /// A TURN client over whichever transport. Its calls are those of the client inside.
 #[derive(Debug, Drop)]
@@ -63,6 +66,84 @@ impl TurnClientApi for TurnClient {
     fn delete(&mut self, now: Instant) -> Result<(), DeleteError> {
         match self {
             TurnClient::Udp(client) => client.delete(now),
+        }
+    }
+
+    fn create_permission(
+        &mut self,
+        transport: TransportType,
+        peer_addr: IpAddr,
+        now: Instant,
+    ) -> Result<(), CreatePermissionError> {
+        match self {
+            TurnClient::Udp(client) => client.create_permission(transport, peer_addr, now),
+        }
+    }
+
+    fn have_permission(&self, transport: TransportType, to: IpAddr) -> bool {
+        match self {
+            TurnClient::Udp(client) => client.have_permission(transport, to),
+        }
+    }
+
+    fn bind_channel(
+        &mut self,
+        transport: TransportType,
+        peer_addr: SocketAddr,
+        now: Instant,
+    ) -> Result<(), BindChannelError> {
+        match self {
+            TurnClient::Udp(client) => client.bind_channel(transport, peer_addr, now),
+        }
+    }
+
+    fn tcp_connect(&mut self, peer_addr: SocketAddr, now: Instant) -> Result<(), TcpConnectError> {
+        match self {
+            TurnClient::Udp(client) => client.tcp_connect(peer_addr, now),
+        }
+    }
+
+    fn allocated_tcp_socket(
+        &mut self,
+        id: u32,
+        five_tuple: Socket5Tuple,
+        peer_addr: SocketAddr,
+        local_addr: Option<SocketAddr>,
+        now: Instant,
+    ) -> Result<(), TcpAllocateError> {
+        match self {
+            TurnClient::Udp(client) => client.allocated_tcp_socket(
+                id, five_tuple, peer_addr, local_addr, now,
+            ),
+        }
+    }
+
+    fn tcp_closed(
+        &mut self,
+        local_addr: SocketAddr,
+        remote_addr: SocketAddr,
+        now: Instant,
+    ) -> Result<(), NoMemory> {
+        match self {
+            TurnClient::Udp(client) => client.tcp_closed(local_addr, remote_addr, now),
+        }
+    }
+
+    fn send_to<T: AsSlice<u8> + Debug + Drop>(
+        &mut self,
+        transport: TransportType,
+        to: SocketAddr,
+        data: T,
+        now: Instant,
+    ) -> Result<Option<TransmitBuild<DelayedMessageOrChannelSend<T>>>, SendError> {
+        match self {
+            TurnClient::Udp(client) => client.send_to(transport, to, data, now),
+        }
+    }
+
+    fn poll_recv(&mut self, now: Instant) -> Result<Option<TurnPeerData<Vec<u8>>>, NoMemory> {
+        match self {
+            TurnClient::Udp(client) => client.poll_recv(now),
         }
     }
 

@@ -3,7 +3,8 @@
 //!
 //! [`api`] has the settings, the trait of a client's calls, and what they answer; [`udp`] the client
 //! over UDP; [`client`] the client over whichever transport, as one type; [`prelude`] the traits that a
-//! caller wants in scope. [`types`] and [`stun`] are the crates below.
+//! caller wants in scope; [`laws`] what the contracts mean for a layer above. [`types`] and [`stun`] are
+//! the crates below.
 #![tactic(auto)]
 
 pub mod api;
@@ -13,4 +14,5 @@ pub mod prelude;
 pub mod udp;
 
 pub use stun_proto as stun;
+pub use turn_client_proto_core::laws;
 pub use turn_types as types;

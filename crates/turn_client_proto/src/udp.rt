@@ -11,19 +11,21 @@ ghost use Rattle.turn_client_proto.specs.HandingIn.{IsHandedIn};
 ghost use Rattle.turn_client_proto.specs.Receipts.{IsOfServer, IsReceived};
 
 use crate::api::{
-    DeleteError, RelayedAddressesIter, TurnClientApi, TurnConfig, TurnEvent, TurnPollRet,
-    TurnRecvRet,
+    BindChannelError, CreatePermissionError, DelayedMessageOrChannelSend, DeleteError,
+    RelayedAddressesIter, SendError, Socket5Tuple, TcpAllocateError, TcpConnectError,
+    TurnClientApi, TurnConfig, TurnEvent, TurnPeerData, TurnPollRet, TurnRecvRet,
 };
 use std::alloc::Global;
 use std::convert::AsSlice;
 use std::fmt::Debug;
 use std::marker::Model;
-use std::net::SocketAddr;
+use std::net::{IpAddr, SocketAddr};
 use stun_proto::Instant;
 use stun_types::data::Data;
 use stun_types::message::Message;
 use stun_types::{NoMemory, Transmit, TransportType};
 use turn_client_proto_core::protocol::Protocol;
+use turn_types::transmit::TransmitBuild;
 
 /// A TURN client over UDP: datagrams to and from the server, and an allocation over UDP. Contracts see
 /// what the protocol core keeps.
@@ -110,6 +112,70 @@ impl TurnClientApi for TurnClientUdp {
 
     fn delete(&mut self, now: Instant) -> Result<(), DeleteError> {
         self.protocol.delete(now)
+    }
+
+    fn create_permission(
+        &mut self,
+        _transport: TransportType,
+        _peer_addr: IpAddr,
+        _now: Instant,
+    ) -> Result<(), CreatePermissionError> {
+        Err(CreatePermissionError::NoAllocation)
+    }
+
+    fn have_permission(&self, _transport: TransportType, _to: IpAddr) -> bool {
+        false
+    }
+
+    fn bind_channel(
+        &mut self,
+        _transport: TransportType,
+        _peer_addr: SocketAddr,
+        _now: Instant,
+    ) -> Result<(), BindChannelError> {
+        Err(BindChannelError::NoAllocation)
+    }
+
+    fn tcp_connect(
+        &mut self,
+        _peer_addr: SocketAddr,
+        _now: Instant,
+    ) -> Result<(), TcpConnectError> {
+        Err(TcpConnectError::NoAllocation)
+    }
+
+    fn allocated_tcp_socket(
+        &mut self,
+        _id: u32,
+        _five_tuple: Socket5Tuple,
+        _peer_addr: SocketAddr,
+        _local_addr: Option<SocketAddr>,
+        _now: Instant,
+    ) -> Result<(), TcpAllocateError> {
+        Err(TcpAllocateError::NoAllocation)
+    }
+
+    fn tcp_closed(
+        &mut self,
+        _local_addr: SocketAddr,
+        _remote_addr: SocketAddr,
+        _now: Instant,
+    ) -> Result<(), NoMemory> {
+        Ok(())
+    }
+
+    fn send_to<T: AsSlice<u8> + Debug + Drop>(
+        &mut self,
+        _transport: TransportType,
+        _to: SocketAddr,
+        _data: T,
+        _now: Instant,
+    ) -> Result<Option<TransmitBuild<DelayedMessageOrChannelSend<T>>>, SendError> {
+        Err(SendError::NoPermission)
+    }
+
+    fn poll_recv(&mut self, _now: Instant) -> Result<Option<TurnPeerData<Vec<u8>>>, NoMemory> {
+        Ok(None)
     }
 
     fn recv<T: AsSlice<u8> + Debug + Drop>(

@@ -1,8 +1,8 @@
 -- What becomes of allocations as time goes on (RFC 8656, section 8).
-use Rattle.std.specs.Prelude.{ℕ, nat_lt, min, max, Bool, true, false, not, ◌||◌, ◌&&◌, List, [], ◌∷◌, filter, Option, Some, None, if◌then◌else◌}
+use Rattle.std.specs.Prelude.{ℕ, nat_lt, min, max, Bool, false, not, ◌||◌, ◌&&◌, List, [], ◌∷◌, filter, Option, Some, None, if◌then◌else◌}
 use Rattle.std.specs.List.{filter_map, list_any}
 use Rattle.turn_client_proto_allocation.specs.Awaited.{is_refresh}
-use Rattle.turn_client_proto_allocation.specs.Refreshing.{renewal}
+use Rattle.turn_client_proto_allocation.specs.Refreshing.{is_settled, renewal}
 use Rattle.turn_client_proto_allocation.specs.declared.allocation.Allocation.{Allocation}
 use Rattle.turn_client_proto_allocation.specs.declared.refresh.PendingRefresh.{PendingRefresh}
 
@@ -10,11 +10,6 @@ use Rattle.turn_client_proto_allocation.specs.declared.refresh.PendingRefresh.{P
 abbrev pub has_ended : Option ℕ → List PendingRefresh → Bool
 has_ended None refreshes = false
 has_ended (Some number) refreshes = list_any (is_refresh number) refreshes
-
--- no REFRESH is awaited
-abbrev pub is_settled : List PendingRefresh → Bool
-is_settled [] = true
-is_settled (r ∷ rs) = false
 
 -- whether an allocation is kept: its time isn't over; or its end was found before, and a REFRESH may still be
 -- answered

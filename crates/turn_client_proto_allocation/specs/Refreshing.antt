@@ -85,13 +85,14 @@ renewed number now told a = renewed_by now told (lifetime_asked number a.pending
 
 -- ---- requests
 
+-- no REFRESH is awaited
+abbrev pub is_settled : List PendingRefresh → Bool
+is_settled [] = true
+is_settled (r ∷ rs) = false
+
 -- an allocation is to be renewed at this moment
 unfoldable pub wants_refresh : ℕ → Allocation → Bool
-wants_refresh now a = not a.is_expired && (nat_le now a.expiry && (is_none_pending a.pending_refreshes && nat_le (renewal a) now))
-  where
-    is_none_pending : List PendingRefresh → Bool
-    is_none_pending [] = true
-    is_none_pending (r ∷ rs) = false
+wants_refresh now a = not a.is_expired && (nat_le now a.expiry && (is_settled a.pending_refreshes && nat_le (renewal a) now))
 
 -- an allocation for which a REFRESH of this number and lifetime was sent
 abbrev pub refreshing : PendingRefresh → Allocation → Allocation

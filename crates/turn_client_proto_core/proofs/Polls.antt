@@ -26,7 +26,7 @@ no_events (e ∷ events) count old now ret new is none ticked = absurd (omega (a
 pub ticked_by : (old : Protocol) (now : ℕ) (ticked : StunAgentPollRet) (agent : agents.Agent) (over : Option ℕ) (wait : ℕ) (ret : TurnPollRet) (new : Protocol)
     → agents.IsPolled old.agent now ticked agent
     → over ≡ ended_of ticked
-    → wait ≡ wait_of (wait_to_send old.last_send old.queue (moment_after now longest_pause)) ticked
+    → wait ≡ wait_of (wait_to_send old.last_send old.queue now (moment_after now longest_pause)) ticked
     → IsPolledIn old.phase over wait (record old { agent = agent }) now ret new → IsTicked old now ret new
 ticked_by old now ticked agent over wait ret new polled over_is wait_is is =
     let by_over = subst (λ (o : Option ℕ). IsPolledIn old.phase o wait (record old { agent = agent }) now ret new) over_is is in

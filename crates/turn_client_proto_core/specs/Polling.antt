@@ -32,10 +32,11 @@ abbrev pub ready_after : Option ℕ → ℕ → ℕ
 ready_after None now = now
 ready_after (Some last) now = max (moment_after last cadence) now
 
--- a wait that ends where the first message of a queue may be sent
-abbrev pub wait_to_send : Option ℕ → List Queued → ℕ → ℕ
-wait_to_send (Some last) (q ∷ rest) wait = min wait (moment_after last cadence)
-wait_to_send _ _ wait = wait
+-- a wait that ends where the first message of a queue may be sent: now, where none was sent before
+abbrev pub wait_to_send : Option ℕ → List Queued → (now wait : ℕ) → ℕ
+wait_to_send last [] now wait = wait
+wait_to_send None (q ∷ rest) now wait = now
+wait_to_send (Some last) (q ∷ rest) now wait = min wait (moment_after last cadence)
 
 -- ---- the agent
 
@@ -99,7 +100,7 @@ pub record IsTicked (old : Protocol) (now : ℕ) (ret : TurnPollRet) (new : Prot
   pub agent : agents.Agent
   pub is_ticked : agents.IsPolled old.agent now ticked agent
   pub outcome : IsPolledIn old.phase (ended_of ticked)
-      (wait_of (wait_to_send old.last_send old.queue (moment_after now longest_pause)) ticked)
+      (wait_of (wait_to_send old.last_send old.queue now (moment_after now longest_pause)) ticked)
       (record old { agent = agent }) now ret new
 
 -- the events come first

@@ -10,6 +10,7 @@ pub mod beginning;
 pub mod calls;
 pub mod drawing;
 pub mod ending;
+pub mod laws;
 pub mod number;
 pub mod polling;
 pub mod protocol;

@@ -118,12 +118,13 @@ impl Protocol {
     }
 
     /// A wait that ends where the first message of the queue may be sent.
-    fn wait_to_send(&self, wait: Instant) -> Instant
-        ensures { result ≡ wait_to_send self.now.last_send self.now.queue wait }
+    fn wait_to_send(&self, now: Instant, wait: Instant) -> Instant
+        ensures { result ≡ wait_to_send self.now.last_send self.now.queue now wait }
     {
-        match (self.last_send, self.queue.front()) {
-            (Some(last), Some(_)) => wait.min(next_send(last)),
-            _ => wait,
+        match (self.queue.front(), self.last_send) {
+            (None, _) => wait,
+            (Some(_), None) => now,
+            (Some(_), Some(last)) => wait.min(next_send(last)),
         }
     }
 
@@ -144,7 +145,7 @@ impl Protocol {
         ensures named { IfOk result (λ answer. answer ≢ TurnPollRet.NoMemory) }
         ensures err { OnErr result (IsUnderWay self.old self.new) }
     {
-        let wait = self.wait_to_send(longest_wait(now));
+        let wait = self.wait_to_send(now, longest_wait(now));
         let ticked = self.agent.poll(now);
         let ended = ended_of(&ticked);
         self.follow(&ended, wait_of(wait, &ticked), now)

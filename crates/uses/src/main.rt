@@ -3,12 +3,14 @@
 #![tactic(auto)]
 
 mod answers;
+mod client;
 mod message;
 mod samples;
 mod served;
 mod validating;
 
 use crate::answers::{redirect, reject};
+use crate::client::{begin, hear};
 use crate::message::{Looked, lifetime, look, sign};
 use crate::samples::{PASSWORD, SAMPLE, UNSIGNED};
 use crate::served::{allocate, serve};
@@ -34,7 +36,8 @@ fn main(rt: HostRuntime) -> anyhow::Result<()> {
     validate_sample(&rt, rt.alloc())?;
     answer_sample(&rt, rt.alloc())?;
     serve_user(&rt, rt.alloc())?;
-    challenge_client(&rt, rt.alloc())
+    challenge_client(&rt, rt.alloc())?;
+    begin_client(&rt, rt.alloc())
 }
 
 /// Looks into the sample, and into bytes that are no message.
@@ -156,6 +159,20 @@ fn challenge_client(rt: &impl Print, alloc: Global) -> anyhow::Result<()> {
             None => println!(rt; "allocate: no reply")?,
         }
     }
+    Ok(())
+}
+
+/// Makes a client, and hands it a datagram that isn't the server's.
+fn begin_client(rt: &impl Print, alloc: Global) -> anyhow::Result<()> {
+    let local = SocketAddr::new(IpAddr::V4(Ipv4Addr::new(192, 168, 0, 1)), 1000);
+    let server = SocketAddr::new(IpAddr::V4(Ipv4Addr::new(10, 0, 0, 2)), 2000);
+    let (mut client, first) = begin(alloc, local, server, "user", "pass", [0; 32])?;
+    match first {
+        Some(sent) => print_hex(rt, "begin", sent.bytes.as_slice())?,
+        None => println!(rt; "begin: nothing is sent")?,
+    }
+    let is_heard = hear(&mut client, UNSIGNED, local, Instant::ZERO)?;
+    println!(rt; "hear: {is_heard}")?;
     Ok(())
 }
 

@@ -7,5 +7,5 @@ pub returns-clause-ok : goal.returns-clause-ok
 returns-clause-ok c =
     let old = c.args.self.now in
     let ticked = c.poll-ticked.result in
-    let wait = c.wait_of.ensures ∙ ap (λ w. wait_of w ticked) (c.wait_to_send-wait.ensures ∙ ap (wait_to_send old.last_send old.queue) c.longest_wait.ensures) in
+    let wait = c.wait_of.ensures ∙ ap (λ w. wait_of w ticked) (c.wait_to_send-wait.ensures ∙ ap (wait_to_send old.last_send old.queue c.args.now) c.longest_wait.ensures) in
     if_ok c.follow.result (λ answer is. ticked_by old c.args.now ticked c.poll-ticked.new.self c.ended_of-ended.result c.wait_of.result answer c.follow.new.self c.poll-ticked.ensures c.ended_of-ended.ensures wait is) c.follow.ensures.ok
