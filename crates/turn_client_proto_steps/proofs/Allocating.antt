@@ -1,0 +1,203 @@
+-- A success response to an ALLOCATE is a step of a run: the addresses that it brings are gained.
+use Rattle.std.proofs.Common.{◌≡◌, ℕ, true, List, [], ◌∷◌, ◌++◌, map, Option, Some, None, Ok, refl, sym, ap, ◌∙◌, subst, arith, inl, inr}
+use Rattle.std.specs.FinMap as finite
+use Rattle.std.specs.List.{filter}
+use Rattle.std.specs.Prelude.{is_some}
+use Rattle.std.specs.declared.net.socket_addr.SocketAddr.{SocketAddr}
+use Rattle.stun_types.specs.Attributes.{kind_at}
+use Rattle.stun_types.specs.Credentials.{Key, NameAndPassword}
+use Rattle.stun_types.specs.Grammar.{number_at, refusal}
+use Rattle.stun_types.specs.Headers.{AreBytes}
+use Rattle.stun_types.specs.IntegrityAlgorithms.{IntegrityAlgorithm}
+use Rattle.stun_types.specs.MessageClasses.{Success}
+use Rattle.stun_types.specs.Types.{class_of}
+use Rattle.stun_types.specs.declared.transport.TransportType.{TransportType}
+use Rattle.stun_proto.specs.Agents.{Transaction}
+use Rattle.stun_proto.specs.Client as signers
+use Rattle.stun_proto.specs.ClientValidations.{Validated}
+use Rattle.stun_proto.specs.Handling.{after_message, ends_one, is_awaited}
+use Rattle.stun_proto.specs.Numbers.{IsWithout, ShowsNumbers}
+use Rattle.stun_proto.specs.State.{Agent}
+use Rattle.stun_proto_agent.proofs.Numbers.{answered_without, handled_new, still_shows}
+use Rattle.stun_proto_client.proofs.Stepping.{step_of}
+use Rattle.turn_types.specs.TurnRegistry.{allocate_method}
+use Rattle.turn_runs.specs.Members.{IsIn}
+use Rattle.turn_runs.specs.Messages as run
+use Rattle.turn_runs.specs.Steps.{ClientStep, IsAnswered, IsOwnKey, Told, WasKnown}
+use Rattle.turn_runs_stun.specs.StunWire.{AreValid, stun_wire, told_by}
+use Rattle.turn_client_proto_api.specs.declared.event.TurnEvent.TheVariants.{AllocationCreateFailed}
+use Rattle.turn_client_proto_request.specs.Judging.{IsJudged}
+use Rattle.turn_client_proto_response.specs.Granting.{are_of_one_family, families_without, first_of_each, is_wanted}
+use Rattle.turn_client_proto_response.specs.Telling.{created}
+use Rattle.turn_client_proto_response.specs.Told.{relayed_told}
+use Rattle.turn_client_proto_core.specs.Allocating.{allocated, brought, phase_by}
+use Rattle.turn_client_proto_core.specs.Authenticating.{numbers_sent}
+use Rattle.turn_client_proto_core.specs.Responding.{accepted, judged}
+use Rattle.turn_client_proto_core.specs.declared.protocol.Phase.{Phase}
+use Rattle.turn_client_proto_core.specs.declared.protocol.Protocol.{Protocol}
+use Rattle.turn_client_proto_steps.specs.ClientWords.{IsTaken, Outstanding, Allocating, Pending, client_words}
+use Rattle.turn_client_proto_steps.specs.Held.{Allocation}
+use Rattle.turn_client_proto_steps.specs.RunClient.{Client, moved, parts_of}
+use Rattle.turn_client_proto_steps.specs.RunSteps.{IsRunStep, call_of}
+use Rattle.turn_client_proto_steps.specs.Sound.{AreAllocates, IsOrderly}
+use Rattle.turn_client_proto_steps.proofs.Agents.{has_other, message_shown, outstanding_before}
+use Rattle.turn_client_proto_steps.proofs.Asking.{IsUnderWay}
+use Rattle.turn_client_proto_steps.proofs.Lists.{in_filter, in_map}
+use Rattle.turn_client_proto_steps.proofs.Gaining.{anything, fresh, in_firsts, kept_gained, none_attempted, none_pending, none_sent, none_short, none_twice, none_waits, relayed_shown, told_created, told_of}
+use Rattle.turn_client_proto_steps.proofs.Orderly.{until_all}
+use Rattle.turn_client_proto_steps.proofs.Plain.{failures_tell_nothing, held_is_kept, joined, none_told, notices}
+
+-- ---- the key
+
+-- bytes validate under a key of an account
+pub record IsOwn (account : NameAndPassword) (bytes : List ℕ) : Type 0 where
+  pub key : List ℕ
+  pub own : IsOwnKey stun_wire account key
+  pub algorithm : IntegrityAlgorithm
+  pub text : List ℕ
+  pub valid : AreValid bytes key algorithm text
+
+inside : {A : Type 0} {a b : A} → Some a ≡ Some b → a ≡ b
+inside p = Prim.cc p
+
+pub validated_own : (old new : signers.Client) (bytes : List ℕ) (algorithm : IntegrityAlgorithm) (account : NameAndPassword) → AreBytes bytes → old.account ≡ Some account → IsJudged old bytes (Ok (Validated algorithm)) new → IsOwn account bytes
+validated_own old new bytes algorithm account are_bytes has is =
+    let from = (step_of old new bytes (Ok (Validated algorithm)) is).from_server in
+    let same : from.own.account ≡ account = inside (sym from.own.own ∙ has) in
+    record {
+      key = from.key.bytes;
+      own = subst (λ (a : NameAndPassword). IsOwnKey stun_wire a from.key.bytes) same (from.own.realm, from.own.algorithm, ap (λ (k : Key). k.bytes) from.own.is);
+      algorithm = from.key.algorithm;
+      text = from.right.text;
+      valid = record { are_bytes = are_bytes; validates = from.right.validates };
+    }
+
+-- ---- the request
+
+-- the request under a number is an ALLOCATE for the client's transport
+pub record IsAllocateSent (c : Client) (number : ℕ) : Type 0 where
+  pub transaction : Transaction
+  pub there : finite.get c.core.agent.outstanding number ≡ Some transaction
+  pub method : (told_by transaction.bytes).method ≡ allocate_method
+  pub transport : (told_by transaction.bytes).transport ≡ Some c.core.allocates
+
+sent_by : (c : Client) (number : ℕ) (found : Option Transaction) → AreAllocates c.core.allocates c.core.agent → finite.get c.core.agent.outstanding number ≡ found → is_some found ≡ true → IsAllocateSent c number
+sent_by c number None are there h = absurd (Prim.cc h)
+sent_by c number (Some t) are there h = record { transaction = t; there = there; method = (are number t there).0; transport = (are number t there).1 }
+
+pub allocate_sent : (c : Client) (bytes : List ℕ) → AreAllocates c.core.allocates c.core.agent → is_awaited c.core.agent bytes ≡ true → IsAllocateSent c (number_at bytes)
+allocate_sent c bytes are h = sent_by c (number_at bytes) (finite.get c.core.agent.outstanding (number_at bytes)) are refl h
+
+-- ---- the step
+
+module _ (c : Client) (signer : signers.Client) (bytes : List ℕ) (lifetime now : ℕ) (message : refusal bytes ≡ None) (success : class_of (kind_at bytes) ≡ Success) (ends : ends_one c.core.agent bytes ≡ true)
+    (own : IsOwn c.credentials bytes) (sent : IsAllocateSent c (number_at bytes)) (orderly : IsOrderly (parts_of c.core)) (under_way : IsUnderWay c (accepted bytes (judged signer c.core))) where
+  abbrev number : ℕ
+  number = number_at bytes
+
+  abbrev transport : TransportType
+  transport = c.core.allocates
+
+  -- the addresses that count
+  abbrev all : List SocketAddr
+  all = first_of_each are_of_one_family (filter (is_wanted c.core.families) (relayed_told bytes))
+
+  abbrev gained : List Told
+  gained = map (told_of transport number) all
+
+  abbrev agent : Agent
+  agent = after_message c.core.agent bytes c.core.server
+
+  abbrev core : Protocol
+  core = allocated (brought (accepted bytes (judged signer c.core)) bytes lifetime now) (accepted bytes (judged signer c.core))
+
+  without : IsWithout c.core.agent number agent
+  without = answered_without c.core.agent bytes c.core.server ends
+
+  shows_numbers : ShowsNumbers agent
+  shows_numbers = still_shows c.core.agent agent (handled_new c.core.agent bytes c.core.server) orderly.numbers
+
+  -- each thing gained is one of the addresses
+  by_address : (P : Told → Type 0) → ((x : SocketAddr) → IsIn x all → P (told_of transport number x)) → (t : Told) → IsIn t gained → P t
+  by_address P f t listed =
+      let image = in_map (told_of transport number) t all listed in
+      subst P (sym image.is) (f image.source image.listed)
+
+  taken : (phase : Phase) → phase ≡ phase_by (map (fresh transport number lifetime now) all) → (n : ℕ)
+      → IsTaken (record { agent = agent; phase = phase; allocates = transport; allocations = map (fresh transport number lifetime now) all; queue = c.core.queue }) n → IsTaken (parts_of c.core) n
+  taken phase is n (Outstanding t there) = let was = handled_new c.core.agent bytes c.core.server n t there in Outstanding was.before was.there
+  taken phase is n (Allocating listed) = none_sent n (map (fresh transport number lifetime now) all) (subst (λ (f : Phase). IsIn n (numbers_sent f)) is listed)
+  taken phase is n (Pending a listed pending) = none_pending transport number lifetime now all n a listed pending
+
+  answers : (t : Told) → IsIn t gained → IsAnswered client_words (call_of c (bytes ∷ []) None [] (moved c c.drawn core)) [] (run.Holds t.held) t.number
+  answers = by_address (λ (t : Told). IsAnswered client_words (call_of c (bytes ∷ []) None [] (moved c c.drawn core)) [] (run.Holds t.held) t.number) (λ x listed. record {
+    bytes = bytes;
+    response = told_by bytes;
+    arrives = record { handled = inl refl; shows = message_shown bytes message; key = own.key; own = own.own; algorithm = own.algorithm; text = own.text; valid = own.valid };
+    number_is = refl;
+    request = told_by sent.transaction.bytes;
+    waited = inl (record { number = number; transaction = sent.transaction; there = sent.there; shows = message_shown sent.transaction.bytes (orderly.messages number sent.transaction sent.there) });
+    request_is = orderly.numbers number sent.transaction sent.there;
+    asks = (sent.method, sent.transport);
+    brings = (success, relayed_shown bytes x (in_filter (is_wanted c.core.families) x (relayed_told bytes) (in_firsts x (filter (is_wanted c.core.families) (relayed_told bytes)) listed)).0);
+  })
+
+  -- so many events tell of what was gained
+  told : notices core.events ≡ notices c.core.events ++ map (λ (t : Told). t.notice) gained
+  unfolding allocated accepted
+  told =
+      let allocations : List Allocation = map (fresh transport number lifetime now) all in
+      none_told (c.core.events ++ map created allocations) (map AllocationCreateFailed (families_without c.core.families allocations)) (failures_tell_nothing (families_without c.core.families allocations))
+      ∙ joined c.core.events (map created allocations)
+      ∙ ap (λ (l : List run.Notice). notices c.core.events ++ l) (told_created transport number lifetime now all)
+
+  step : ClientStep client_words (call_of c (bytes ∷ []) None [] (moved c c.drawn core))
+  unfolding allocated accepted
+  step = record {
+    account = refl;
+    seed = refl;
+    begun = [];
+    requests = λ m h. absurd h;
+    numbered = omega arith;
+    outstanding = λ m h. inl (outstanding_before c.core.agent agent (handled_new c.core.agent bytes c.core.server) m h);
+    queued = λ m h. inl h;
+    taken = λ n h. inl (taken (phase_by (map (fresh transport number lifetime now) all)) refl n h);
+    draws = λ drawn m h shows. absurd (Prim.cc h);
+    handles = λ x h. inl h;
+    buffers = λ x h. inr h;
+    gained = gained;
+    gains = λ h k. inr (kept_gained transport number lifetime now all h k);
+    answers = answers;
+    once = none_twice transport number (filter (is_wanted c.core.families) (relayed_told bytes));
+    spent = λ t m listed h same. absurd (has_other c.core.agent agent number m shows_numbers without h (same ∙ by_address (λ (x : Told). x.number ≡ number) (λ x there. refl) t listed));
+    known = by_address (λ (t : Told). WasKnown client_words c t.held) (λ x listed. tt);
+    is_of = by_address (λ (t : Told). run.IsOf t.notice t.held) (λ x listed. refl);
+    tells = told;
+    shows = λ h k. held_is_kept core.allocations h k;
+    waits = λ n peer w. none_waits transport number lifetime now all n peer w;
+    attempted = λ n h. inl (none_attempted transport number lifetime now all c.core.allocations c.core.queue n h);
+    names = λ p h. absurd h;
+  }
+
+  pub allocated_step : IsRunStep c (bytes ∷ []) None [] core
+  unfolding allocated accepted
+  allocated_step = record {
+    after = moved c c.drawn core;
+    core_is = refl;
+    step = step;
+    sound = record {
+      orderly = record {
+        numbers = shows_numbers;
+        messages = under_way.orderly.messages;
+        allocates = anything _ (map (fresh transport number lifetime now) all);
+        queued = orderly.queued;
+        lifetimes = λ a listed. none_short transport number lifetime now all a listed;
+      };
+      can_ask = until_all (phase_by (map (fresh transport number lifetime now) all)) (record {
+        account = under_way.can_ask.account;
+        texts = under_way.can_ask.texts;
+        families = under_way.can_ask.families;
+        words = under_way.can_ask.words;
+      });
+    };
+  }

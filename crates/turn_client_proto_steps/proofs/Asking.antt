@@ -1,0 +1,185 @@
+-- Requests that a client makes.
+use Rattle.std.proofs.Common.{◌≡◌, ◌≢◌, ℕ, ◌+◌, ◌<◌, ◌≤◌, List, [], ◌∷◌, length, Option, Some, None, Result, refl, sym, ap, ◌∙◌, subst, arith, inl, inr}
+use Rattle.stun_types.specs.Grammar.{number_at, refusal}
+use Rattle.stun_types.specs.MessageClasses.{Request}
+use Rattle.stun_proto.specs.Client as signers
+use Rattle.stun_proto.specs.ClientAuthErrors.{LongTermClientAuthError}
+use Rattle.stun_proto.specs.ClientValidations.{LongTermClientValidation}
+use Rattle.stun_proto.specs.Handling.{after_message}
+use Rattle.stun_proto.specs.Sending.{with_request}
+use Rattle.stun_proto_agent.proofs.Numbers.{handled_new}
+use Rattle.stun_proto_client.proofs.Stepping.{step_of}
+use Rattle.turn_types.specs.TurnRegistry.{connection_attempt_method}
+use Rattle.turn_runs.specs.Members.{IsIn}
+use Rattle.turn_runs.specs.Messages as run
+use Rattle.turn_runs.specs.Steps.{AreNumbered, IsNumberAt, MayDraw}
+use Rattle.turn_runs_stun.specs.StunWire.{stun_wire, told_by}
+use Rattle.turn_client_proto_request.specs.Judging.{IsJudged}
+use Rattle.turn_client_proto_request.specs.Requests.{request_text}
+use Rattle.turn_client_proto_request.specs.ShortTexts.{HasShortTexts}
+use Rattle.turn_client_proto_request.specs.ToldRequests.{CanBeRead, IsLawfulRequest, told_request}
+use Rattle.turn_client_proto_request.specs.declared.request.TurnRequest.{TurnRequest}
+use Rattle.turn_client_proto_request.specs.declared.request.TurnRequest.TheVariants.{FirstAllocate}
+use Rattle.turn_client_proto_request.proofs.Reading.{message_law, number_law, told_law}
+use Rattle.turn_client_proto_request.proofs.Short.{stay_short}
+use Rattle.turn_client_proto_core.specs.Asking.{asked, queued_request}
+use Rattle.turn_client_proto_core.specs.Drawing.{sent_at_once}
+use Rattle.turn_client_proto_core.specs.Numbering.{IsNextNumber, after_draw, after_number}
+use Rattle.turn_client_proto_core.specs.Responding.{accepted, answered, judged}
+use Rattle.turn_client_proto_core.specs.declared.protocol.Protocol.{Protocol}
+use Rattle.turn_client_proto_steps.specs.ClientWords.{client_words}
+use Rattle.turn_client_proto_steps.specs.RunClient.{Client, Parts, moved, parts_of}
+use Rattle.turn_client_proto_steps.specs.RunSteps.{IsRunStep}
+use Rattle.turn_client_proto_steps.specs.Sound.{BeforeAllocated, CanAsk, IsOrderly, stream_from}
+use Rattle.turn_client_proto_steps.proofs.Adding.{Adds, adds_both, adds_none, agent_less, agent_more, queue_more, widened}
+use Rattle.turn_client_proto_steps.proofs.Numbers.{IsAtPlace, number_at_place, number_small, words_after}
+use Rattle.turn_client_proto_steps.proofs.Orderly.{IsAllocate, agent_orderly, queue_orderly, request_orderly, until_all}
+use Rattle.turn_client_proto_steps.proofs.Plain.{notices, run_step}
+
+-- ---- a call under way
+
+-- so far nothing was asked for or gained, but perhaps a response was taken up or judged
+pub record IsUnderWay (c : Client) (mid : Protocol) : Type 0 where
+  pub adds : Adds [] (parts_of c.core) (parts_of mid)
+  pub orderly : IsOrderly (parts_of mid)
+  pub can_ask : CanAsk (moved c c.drawn mid)
+  pub told : notices mid.events ≡ notices c.core.events
+
+pub at_first : (c : Client) → IsOrderly (parts_of c.core) → CanAsk c → IsUnderWay c c.core
+at_first c orderly can = record {
+  adds = adds_none [] (parts_of c.core);
+  orderly = orderly;
+  can_ask = record { account = can.account; texts = can.texts; families = can.families; words = can.words };
+  told = refl;
+}
+
+pub once_judged : (c : Client) (bytes : List ℕ) (verdict : Result LongTermClientValidation LongTermClientAuthError) (signer : signers.Client) → IsOrderly (parts_of c.core) → CanAsk c → IsJudged c.core.auth bytes verdict signer
+    → IsUnderWay c (judged signer c.core)
+once_judged c bytes verdict signer orderly can is = record {
+  adds = adds_none [] (parts_of c.core);
+  orderly = orderly;
+  can_ask = record {
+    account = (step_of c.core.auth signer bytes verdict is).account ∙ can.account;
+    texts = stay_short c.core.auth signer bytes verdict is can.texts;
+    families = can.families;
+    words = can.words;
+  };
+  told = refl;
+}
+
+pub once_answered : (c : Client) (mid : Protocol) (bytes : List ℕ) → IsUnderWay c mid → IsUnderWay c (answered bytes mid)
+unfolding answered
+once_answered c mid bytes is = record {
+  adds = adds_both [] (parts_of c.core) (parts_of mid) _ is.adds (agent_less [] (parts_of mid) (after_message mid.agent bytes mid.server) (handled_new mid.agent bytes mid.server));
+  orderly = agent_orderly (parts_of mid) (after_message mid.agent bytes mid.server) (handled_new mid.agent bytes mid.server) is.orderly;
+  can_ask = record { account = is.can_ask.account; texts = is.can_ask.texts; families = is.can_ask.families; words = is.can_ask.words };
+  told = is.told;
+}
+
+pub once_accepted : (c : Client) (mid : Protocol) (bytes : List ℕ) → IsUnderWay c mid → IsUnderWay c (accepted bytes mid)
+unfolding accepted
+once_accepted c mid bytes is = record {
+  adds = adds_both [] (parts_of c.core) (parts_of mid) _ is.adds (agent_less [] (parts_of mid) (after_message mid.agent bytes mid.server) (handled_new mid.agent bytes mid.server));
+  orderly = agent_orderly (parts_of mid) (after_message mid.agent bytes mid.server) (handled_new mid.agent bytes mid.server) is.orderly;
+  can_ask = record { account = is.can_ask.account; texts = is.can_ask.texts; families = is.can_ask.families; words = is.can_ask.words };
+  told = is.told;
+}
+
+-- ---- what a request tells
+
+told_class : (request : TurnRequest) (number : ℕ) → (told_request request number).class ≡ Request
+told_class (FirstAllocate transport families) number = refl
+told_class _ number = refl
+
+told_method : (request : TurnRequest) (number : ℕ) → (told_request request number).method ≢ connection_attempt_method
+told_method (FirstAllocate transport families) number = λ e. omega (arith, e)
+told_method _ number = λ e. omega (arith, e)
+
+-- a request is written under the next number, and is read back
+pub record IsMade (mid : Protocol) (request : TurnRequest) (number : ℕ) : Type 0 where
+  pub is_next : IsNextNumber mid number
+  pub message : refusal (request_text mid.auth request number) ≡ None
+  pub number_is : number_at (request_text mid.auth request number) ≡ number
+  pub told : told_by (request_text mid.auth request number) ≡ told_request request number
+
+pub made : (c : Client) (mid : Protocol) (request : TurnRequest) (number : ℕ) → IsUnderWay c mid → IsLawfulRequest request → CanBeRead request number → IsNextNumber mid number → IsMade mid request number
+made c mid request number is lawful read next =
+    let texts : HasShortTexts mid.auth = is.can_ask.texts in
+    let small = number_small mid number next in
+    record {
+      is_next = next;
+      message = message_law mid.auth request number texts lawful small;
+      number_is = number_law mid.auth request number texts lawful small;
+      told = told_law mid.auth request number texts lawful small read;
+    }
+
+module _ (c : Client) (mid : Protocol) (request : TurnRequest) (number : ℕ) (under_way : IsUnderWay c mid) (is : IsMade mid request number) where
+  abbrev text : List ℕ
+  text = request_text mid.auth request number
+
+  requests : (x : run.Message) → IsIn x (told_by text ∷ []) → (x.class ≡ Request) × (x.method ≢ connection_attempt_method)
+  requests x h = elim h [
+    | inl own ↦
+        let told : x ≡ told_request request number = sym own ∙ is.told in
+        (ap (λ (m : run.Message). m.class) told ∙ told_class request number, λ e. told_method request number (sym (ap (λ (m : run.Message). m.method) told) ∙ e))
+    | inr none ↦ absurd none
+  ]
+
+  at_place : IsAtPlace mid c.seed c.drawn number → IsNumberAt client_words c [] c.drawn number
+  at_place (inl here) = inl here
+  at_place (inr taken) = elim (under_way.adds.taken _ taken) [ inl was ↦ inr (inl was) | inr now ↦ absurd now.listed ]
+
+  numbered : AreNumbered client_words c [] c.drawn (c.drawn + 1) (told_by text ∷ [])
+  numbered =
+      let from : c.drawn ≤ c.drawn = omega arith in
+      let below : c.drawn < c.drawn + 1 = omega arith in
+      let to : c.drawn + 1 ≤ c.drawn + 1 = omega arith in
+      let here : IsNumberAt client_words c [] c.drawn number = at_place (number_at_place mid c.seed c.drawn number under_way.can_ask.words is.is_next) in
+      (c.drawn, from, below, subst (λ (n : ℕ). IsNumberAt client_words c [] c.drawn n) (sym is.number_is) here, to)
+
+  -- the client that has made it
+  pub asks : (came : List (List ℕ)) (drawn : Option (List ℕ)) (core : Protocol) → Adds (told_by text ∷ []) (parts_of mid) (parts_of core) → IsOrderly (parts_of core)
+      → core.auth ≡ mid.auth → length core.families ≤ 2 → core.rng ≡ after_draw mid.rng → notices core.events ≡ notices mid.events
+      → ((bytes : List ℕ) (m : run.Message) → drawn ≡ Some bytes → stun_wire.shown bytes ≡ Some m → MayDraw client_words c (told_by text ∷ []) m)
+      → IsRunStep c came drawn [] core
+  asks came drawn core adds orderly same_auth families rng told draws =
+      run_step (told_by text ∷ []) came drawn [] c (c.drawn + 1) core (record {
+        requests = requests;
+        numbered = numbered;
+        adds = adds_both (told_by text ∷ []) (parts_of c.core) (parts_of mid) (parts_of core) (widened (told_by text ∷ []) (parts_of c.core) (parts_of mid) under_way.adds) adds;
+        draws = draws;
+        told = told ∙ under_way.told;
+      }) orderly (until_all core.phase (record {
+        account = ap (λ (a : signers.Client). a.account) same_auth ∙ under_way.can_ask.account;
+        texts = subst HasShortTexts (sym same_auth) under_way.can_ask.texts;
+        families = families;
+        words = ap stream_from rng ∙ words_after mid.rng c.drawn c.seed under_way.can_ask.words;
+      }))
+
+-- ---- a request that is outstanding, and waits
+
+pub asked_adds : (mid : Protocol) (request : TurnRequest) (number now : ℕ) → Adds (told_by (request_text mid.auth request number) ∷ []) (parts_of mid) (parts_of (asked (after_number mid) request number now))
+unfolding asked
+asked_adds mid request number now =
+    let text = request_text mid.auth request number in
+    let sent : Parts = record (parts_of mid) { agent = with_request mid.agent text mid.server now } in
+    adds_both (told_by text ∷ []) (parts_of mid) sent _ (agent_more (parts_of mid) text mid.server now) (queue_more sent (queued_request mid text) refl)
+
+pub asked_orderly : (mid : Protocol) (request : TurnRequest) (number now : ℕ) → IsMade mid request number → BeforeAllocated mid.phase (IsAllocate (parts_of mid) (request_text mid.auth request number)) → IsOrderly (parts_of mid)
+    → IsOrderly (parts_of (asked (after_number mid) request number now))
+unfolding asked
+asked_orderly mid request number now is allocates orderly =
+    let text = request_text mid.auth request number in
+    let sent : Parts = record (parts_of mid) { agent = with_request mid.agent text mid.server now } in
+    queue_orderly sent (queued_request mid text) refl (request_orderly (parts_of mid) text mid.server now is.message allocates orderly)
+
+-- ---- a request that is outstanding, and sent at once
+
+pub sent_adds : (mid : Protocol) (request : TurnRequest) (number now : ℕ) → Adds (told_by (request_text mid.auth request number) ∷ []) (parts_of mid) (parts_of (sent_at_once (after_number mid) request number now))
+unfolding sent_at_once
+sent_adds mid request number now = agent_more (parts_of mid) (request_text mid.auth request number) mid.server now
+
+pub sent_orderly : (mid : Protocol) (request : TurnRequest) (number now : ℕ) → IsMade mid request number → BeforeAllocated mid.phase (IsAllocate (parts_of mid) (request_text mid.auth request number)) → IsOrderly (parts_of mid)
+    → IsOrderly (parts_of (sent_at_once (after_number mid) request number now))
+unfolding sent_at_once
+sent_orderly mid request number now is allocates orderly = request_orderly (parts_of mid) (request_text mid.auth request number) mid.server now is.message allocates orderly

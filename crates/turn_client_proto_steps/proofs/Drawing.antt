@@ -1,0 +1,166 @@
+-- What is drawn to be sent is a step of a run.
+use Rattle.std.proofs.Common.{◌≡◌, ℕ, true, false, List, [], ◌∷◌, Option, Some, None, refl, sym, ap, ◌∙◌, subst, arith, inl, inr}
+use Rattle.std.specs.Option.{option_map}
+use Rattle.std.specs.List.{list_any}
+use Rattle.stun_proto.specs.Sending.{kept_under}
+use Rattle.stun_proto.specs.Agents.{transmitted}
+use Rattle.stun_proto.specs.Numbers.{NothingNew}
+use Rattle.stun_proto.specs.State.{Agent, is_tcp}
+use Rattle.stun_proto_agent.proofs.Numbers.{transmitted_new}
+use Rattle.turn_runs.specs.Members.{IsIn}
+use Rattle.turn_runs.specs.Messages as run
+use Rattle.turn_runs.specs.Steps.{MayDraw}
+use Rattle.turn_runs_stun.specs.StunWire.{stun_wire, told_by}
+use Rattle.turn_client_proto_allocation.specs.Listed.{refreshed_first}
+use Rattle.turn_client_proto_allocation.specs.Refreshing.{refreshing, wants_refresh}
+use Rattle.turn_client_proto_request.specs.Requests.{allocation_lifetime, request_text}
+use Rattle.turn_client_proto_request.specs.declared.request.TurnRequest.{TurnRequest}
+use Rattle.turn_client_proto_request.specs.declared.request.TurnRequest.TheVariants.{FirstAllocate, Refresh}
+use Rattle.turn_client_proto_core.specs.Drawing.{Again, Fresh, IsBegun, IsDrawn, IsFirstSent, IsNextSent, IsQueuedSent, IsRefreshSent, IsRepeated, IsStill, Sends, Sent, after_sending, first_allocated, first_refreshed, is_resting, sent_at_once}
+use Rattle.turn_client_proto_core.specs.Numbering.{after_number}
+use Rattle.turn_client_proto_core.specs.Waiting.{Queued}
+use Rattle.turn_client_proto_core.specs.declared.protocol.Phase.{Phase}
+use Rattle.turn_client_proto_core.specs.declared.protocol.Phase.TheVariants.{Initial, InitialSent, Authenticating, Authenticated, Ended}
+use Rattle.turn_client_proto_core.specs.declared.protocol.Protocol.{Protocol}
+use Rattle.turn_client_proto_steps.specs.ClientWords.{client_words}
+use Rattle.turn_client_proto_steps.specs.RunClient.{Client, Parts, parts_of}
+use Rattle.turn_client_proto_steps.specs.RunSteps.{IsRunStep}
+use Rattle.turn_client_proto_steps.specs.Sound.{AreAllocates, BeforeAllocated, CanAsk, IsSound, UntilEnded}
+use Rattle.turn_client_proto_steps.proofs.Adding.{AreLess, HasNumber, adds_both, agent_less, allocations_less, phase_moved, queue_less}
+use Rattle.turn_client_proto_steps.proofs.Agents.{message_read}
+use Rattle.turn_client_proto_steps.proofs.Asking.{asks, at_first, made, sent_adds, sent_orderly}
+use Rattle.turn_client_proto_steps.proofs.Ending.{still, still_can}
+use Rattle.turn_client_proto_steps.proofs.Lessening.{first_less, one_awaited}
+use Rattle.turn_client_proto_steps.proofs.Orderly.{IsAllocate, agent_orderly, allocations_orderly, before_all, drawn_orderly, phase_orderly, until_map}
+use Rattle.turn_client_proto_steps.proofs.Plain.{quiet, run_step}
+use Rattle.turn_client_proto_steps.proofs.Polling.{by_test}
+use Rattle.turn_client_proto_steps.proofs.Refreshing.{allocated, refresh_made, refresh_of, refresh_short}
+
+-- the bytes that are sent
+abbrev pub bytes_of : Option Sent → Option (List ℕ)
+bytes_of answer = option_map (λ s. s.bytes) answer
+
+shows_own : (own bytes : List ℕ) (m : run.Message) → Some own ≡ Some bytes → stun_wire.shown bytes ≡ Some m → stun_wire.shown own ≡ Some m
+shows_own own bytes m same shows = subst (λ (b : List ℕ). stun_wire.shown b ≡ Some m) (sym (Prim.cc same)) shows
+
+-- ---- a request that is sent again
+
+repeats : (c : Client) (now : ℕ) (sent : Sent) (new : Protocol) → IsSound c → IsRepeated c.core now sent new → IsRunStep c [] (Some sent.bytes) [] new
+repeats c now sent new sound is =
+    let agent : Agent = kept_under c.core.agent is.number (transmitted (is_tcp c.core.agent.transport) is.transaction) in
+    let core : Protocol = after_sending now (record c.core { agent = agent }) in
+    let none : NothingNew c.core.agent agent = transmitted_new c.core.agent agent now (inr (record { number = is.number; transaction = is.transaction; least = is.least; after = refl })) in
+    let own : sent.bytes ≡ is.transaction.bytes = ap (λ (s : Sent). s.bytes) is.is_sent in
+    subst (λ (p : Protocol). IsRunStep c [] (Some sent.bytes) [] p) (sym is.after)
+    (run_step [] [] (Some sent.bytes) [] c c.drawn core
+    (quiet (Some sent.bytes) [] c c.drawn core (omega arith) (agent_less [] (parts_of c.core) agent none)
+    (λ bytes m same shows. inl (inr (inl (record {
+      number = is.number;
+      transaction = is.transaction;
+      there = is.least.present;
+      shows = ap (λ (b : List ℕ). stun_wire.shown b) (sym own) ∙ shows_own sent.bytes bytes m same shows;
+    })))) refl)
+    (agent_orderly (parts_of c.core) agent none sound.orderly) (until_map c.core.phase (still_can c core refl refl refl) sound.can_ask))
+
+-- ---- a request that waits
+
+queued_drawn : (c : Client) (now : ℕ) (q : Queued) (rest : List Queued) (sent : Sent) (new : Protocol) → IsSound c → c.core.queue ≡ q ∷ rest → IsQueuedSent c.core now q rest sent new
+    → IsRunStep c [] (Some sent.bytes) [] new
+queued_drawn c now q rest sent new sound waits is =
+    let core : Protocol = after_sending now (record c.core { queue = rest }) in
+    let own : sent.bytes ≡ q.bytes = ap (λ (s : Sent). s.bytes) is.is_sent in
+    let listed : IsIn q c.core.queue = subst (λ (l : List Queued). IsIn q l) (sym waits) (inl refl) in
+    subst (λ (p : Protocol). IsRunStep c [] (Some sent.bytes) [] p) (sym is.after)
+    (run_step [] [] (Some sent.bytes) [] c c.drawn core
+    (quiet (Some sent.bytes) [] c c.drawn core (omega arith) (queue_less (parts_of c.core) q rest waits)
+    (λ bytes m same shows. inl (inl (record {
+      queued = q;
+      listed = listed;
+      is_request = sound.orderly.queued q listed;
+      shows = ap (λ (b : List ℕ). stun_wire.shown b) (sym own) ∙ shows_own sent.bytes bytes m same shows;
+    }))) refl)
+    (drawn_orderly (parts_of c.core) q rest waits sound.orderly) (until_map c.core.phase (still_can c core refl refl refl) sound.can_ask))
+
+-- ---- a request that is made now
+
+-- the number of one request
+pub one_number : (n number : ℕ) (m : run.Message) → m.number ≡ number → IsIn n (number ∷ []) → HasNumber n (m ∷ [])
+one_number n number m is h = elim h [
+  | inl own ↦ record { one = m; listed = inl refl; is = is ∙ own }
+  | inr none ↦ absurd none
+]
+
+-- what is drawn is that request
+draws_own : (c : Client) (text sent : List ℕ) → sent ≡ text → (bytes : List ℕ) (m : run.Message) → Some sent ≡ Some bytes → stun_wire.shown bytes ≡ Some m → MayDraw client_words c (told_by text ∷ []) m
+draws_own c text sent own bytes m same shows =
+    inl (inr (inr (inl (message_read _ (told_by text) m (ap (λ (b : List ℕ). stun_wire.shown b) (sym own) ∙ shows_own sent bytes m same shows)))))
+
+first_sent : (c : Client) (now : ℕ) (sent : Sent) (new : Protocol) → IsSound c → c.core.phase ≡ Initial → IsFirstSent c.core now sent new → IsRunStep c [] (Some sent.bytes) [] new
+unfolding first_allocated sent_at_once
+first_sent c now sent new sound at is =
+    let can : CanAsk c = subst (λ (f : Phase). UntilEnded f (CanAsk c)) at sound.can_ask in
+    let request : TurnRequest = FirstAllocate c.core.allocates c.core.families in
+    let under_way = at_first c sound.orderly can in
+    let written = made c c.core request is.number under_way can.families tt is.made.is_next in
+    let text = request_text c.core.auth request is.number in
+    let own : sent.bytes ≡ text = ap (λ (s : Sent). s.bytes) is.made.is_sent in
+    let allocate : IsAllocate (parts_of c.core) text = (ap (λ (m : run.Message). m.method) written.told, ap (λ (m : run.Message). m.transport) written.told) in
+    let mid : Parts = parts_of (sent_at_once (after_number c.core) request is.number now) in
+    let orderly = sent_orderly c.core request is.number now written (before_all c.core.phase allocate) sound.orderly in
+    let alone : AreAllocates c.core.allocates mid.agent = subst (λ (f : Phase). BeforeAllocated f (AreAllocates c.core.allocates mid.agent)) at orderly.allocates in
+    let core : Protocol = after_sending now (first_allocated is.number now c.core) in
+    let adds = adds_both (told_by text ∷ []) (parts_of c.core) mid (parts_of core) (sent_adds c.core request is.number now)
+    (phase_moved (told_by text ∷ []) mid (InitialSent (is.number ∷ [])) (λ n h. inr (one_number n is.number (told_by text) written.number_is h))) in
+    subst (λ (p : Protocol). IsRunStep c [] (Some sent.bytes) [] p) (sym is.after)
+    (asks c c.core request is.number under_way written [] (Some sent.bytes) core adds
+    (phase_orderly mid (InitialSent (is.number ∷ [])) alone orderly) refl can.families refl refl (draws_own c text sent.bytes own))
+
+refresh_sent : (c : Client) (now : ℕ) (sent : Sent) (new : Protocol) → IsSound c → c.core.phase ≡ Authenticated → IsRefreshSent c.core now sent new → IsRunStep c [] (Some sent.bytes) [] new
+unfolding first_refreshed sent_at_once
+refresh_sent c now sent new sound at is =
+    let can : CanAsk c = subst (λ (f : Phase). UntilEnded f (CanAsk c)) at sound.can_ask in
+    let under_way = at_first c sound.orderly can in
+    let written = made c c.core (Refresh allocation_lifetime) is.number under_way (omega arith) tt is.made.is_next in
+    let text = request_text c.core.auth (Refresh allocation_lifetime) is.number in
+    let own : sent.bytes ≡ text = ap (λ (s : Sent). s.bytes) is.made.is_sent in
+    let refresh = refresh_of is.number allocation_lifetime in
+    let mid : Parts = parts_of (sent_at_once (after_number c.core) (Refresh allocation_lifetime) is.number now) in
+    let left = refreshed_first now refresh c.core.allocations in
+    let less : AreLess (refresh ∷ []) c.core.allocations left = first_less (refresh ∷ []) (refreshing refresh) (one_awaited refresh) (wants_refresh now) c.core.allocations in
+    let core : Protocol = after_sending now (first_refreshed is.number now c.core) in
+    let adds = adds_both (told_by text ∷ []) (parts_of c.core) mid (parts_of core) (sent_adds c.core (Refresh allocation_lifetime) is.number now)
+    (allocations_less (told_by text ∷ []) (refresh ∷ []) mid left less (refresh_made c.core is.number allocation_lifetime written)) in
+    let orderly = allocations_orderly (refresh ∷ []) mid left less (refresh_short is.number allocation_lifetime (omega arith))
+    (sent_orderly c.core (Refresh allocation_lifetime) is.number now written (allocated _ c.core.phase at) sound.orderly) in
+    subst (λ (p : Protocol). IsRunStep c [] (Some sent.bytes) [] p) (sym is.after)
+    (asks c c.core (Refresh allocation_lifetime) is.number under_way written [] (Some sent.bytes) core adds orderly refl can.families refl refl (draws_own c text sent.bytes own))
+
+-- ---- all of it
+
+rests : (c : Client) (answer : Option Sent) (new : Protocol) → IsSound c → IsStill c.core answer new → IsRunStep c [] (bytes_of answer) [] new
+rests c answer new sound is = subst (λ (o : Option Sent). IsRunStep c [] (bytes_of o) [] new) (sym is.0) (still c [] new sound is.1)
+
+sends : (c : Client) (Is : Sent → Type 0) (answer : Option Sent) (new : Protocol) → ((sent : Sent) → Is sent → IsRunStep c [] (Some sent.bytes) [] new) → Sends answer Is → IsRunStep c [] (bytes_of answer) [] new
+sends c Is None new f h = absurd h
+sends c Is (Some sent) new f h = f sent h
+
+begun : (c : Client) (phase : Phase) (now : ℕ) (answer : Option Sent) (new : Protocol) → IsSound c → c.core.phase ≡ phase → IsBegun phase c.core now answer new → IsRunStep c [] (bytes_of answer) [] new
+begun c Initial now answer new sound at h = sends c (λ s. IsFirstSent c.core now s new) answer new (λ s is. first_sent c now s new sound at is) h
+begun c (InitialSent numbers) now answer new sound at h = rests c answer new sound h
+begun c (Authenticating numbers) now answer new sound at h = rests c answer new sound h
+begun c Ended now answer new sound at h = rests c answer new sound h
+begun c Authenticated now answer new sound at h =
+    by_test (list_any (wants_refresh now) c.core.allocations)
+    (λ (_ : list_any (wants_refresh now) c.core.allocations ≡ true) is. sends c (λ s. IsRefreshSent c.core now s new) answer new (λ s one. refresh_sent c now s new sound at one) is)
+    (λ (_ : list_any (wants_refresh now) c.core.allocations ≡ false) is. rests c answer new sound is) h
+
+next_sent : (c : Client) (queue : List Queued) (now : ℕ) (answer : Option Sent) (new : Protocol) → IsSound c → c.core.queue ≡ queue → IsNextSent queue c.core now answer new → IsRunStep c [] (bytes_of answer) [] new
+next_sent c (q ∷ rest) now answer new sound waits h = sends c (λ s. IsQueuedSent c.core now q rest s new) answer new (λ s is. queued_drawn c now q rest s new sound waits is) h
+next_sent c [] now answer new sound waits h = begun c c.core.phase now answer new sound refl h
+
+pub draw_step : (c : Client) (now : ℕ) (answer : Option Sent) (new : Protocol) → IsSound c → IsDrawn c.core now answer new → IsRunStep c [] (bytes_of answer) [] new
+draw_step c now answer new sound (Again sent is repeated) = subst (λ (o : Option Sent). IsRunStep c [] (bytes_of o) [] new) (sym is) (repeats c now sent new sound repeated)
+draw_step c now answer new sound (Fresh none h) =
+    by_test (is_resting c.core.last_send now)
+    (λ (_ : is_resting c.core.last_send now ≡ true) is. rests c answer new sound is)
+    (λ (_ : is_resting c.core.last_send now ≡ false) is. next_sent c c.core.queue now answer new sound refl is) h

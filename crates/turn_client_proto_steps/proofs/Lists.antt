@@ -1,0 +1,81 @@
+-- Members of lists.
+use Rattle.std.proofs.Common.{◌≡◌, Bool, true, false, List, [], ◌∷◌, ◌++◌, ◌||◌, refl, sym, ap, ◌∙◌, subst, ◌⊎◌, inl, inr}
+use Rattle.std.proofs.lemmas.Bool.{cases_Bool}
+use Rattle.std.specs.Prelude.{map}
+use Rattle.std.specs.List.{filter, list_any}
+use Rattle.turn_runs.specs.Members.{IsIn}
+use Rattle.turn_client_proto_allocation.specs.Changes.{change_first}
+
+pub nothing_behind : {X : Type 0} (all : List X) → all ≡ all ++ []
+nothing_behind [] = refl
+nothing_behind (x ∷ all) = ap (λ l. x ∷ l) (nothing_behind all)
+
+pub in_either : {X : Type 0} (x : X) (front behind : List X) → IsIn x (front ++ behind) → IsIn x front ⊎ IsIn x behind
+in_either x [] behind h = inr h
+in_either x (y ∷ front) behind (inl is) = inl (inl is)
+in_either x (y ∷ front) behind (inr h) = elim (in_either x front behind h) [ inl a ↦ inl (inr a) | inr b ↦ inr b ]
+
+-- an element of a list, of which another is the image
+pub record IsImage {X Y : Type 0} (f : X → Y) (y : Y) (xs : List X) : Type 0 where
+  pub source : X
+  pub listed : IsIn source xs
+  pub is : y ≡ f source
+
+pub in_map : {X Y : Type 0} (f : X → Y) (y : Y) (xs : List X) → IsIn y (map f xs) → IsImage f y xs
+in_map f y [] h = absurd h
+in_map f y (x ∷ xs) (inl is) = record { source = x; listed = inl refl; is = sym is }
+in_map f y (x ∷ xs) (inr h) =
+    let rest = in_map f y xs h in
+    record { source = rest.source; listed = inr rest.listed; is = rest.is }
+
+pub in_filter : {X : Type 0} (p : X → Bool) (x : X) (xs : List X) → IsIn x (filter p xs) → IsIn x xs × (p x ≡ true)
+in_filter p x [] h = absurd h
+in_filter {X = X} p x (y ∷ ys) h = elim (cases_Bool (p y)) [
+  | inl is ↦
+      let here : filter p (y ∷ ys) ≡ y ∷ filter p ys = rw is refl in
+      elim (subst (λ (l : List X). IsIn x l) here h) [
+        | inl same ↦ (inl same, sym (ap p same) ∙ is)
+        | inr rest ↦ let more = in_filter p x ys rest in (inr more.0, more.1)
+      ]
+  | inr differs ↦
+      let here : filter p (y ∷ ys) ≡ filter p ys = rw differs refl in
+      let more = in_filter p x ys (subst (λ (l : List X). IsIn x l) here h) in
+      (inr more.0, more.1)
+]
+
+pub in_changed : {X : Type 0} (p : X → Bool) (f : X → X) (x : X) (xs : List X) → IsIn x (change_first p f xs) → IsIn x xs ⊎ IsImage f x xs
+in_changed p f x [] h = absurd h
+in_changed {X = X} p f x (y ∷ ys) h = elim (cases_Bool (p y)) [
+  | inl is ↦
+      let here : change_first p f (y ∷ ys) ≡ f y ∷ ys = rw is refl in
+      elim (subst (λ (l : List X). IsIn x l) here h) [
+        | inl same ↦ inr (record { source = y; listed = inl refl; is = sym same })
+        | inr rest ↦ inl (inr rest)
+      ]
+  | inr differs ↦
+      let here : change_first p f (y ∷ ys) ≡ y ∷ change_first p f ys = rw differs refl in
+      elim (subst (λ (l : List X). IsIn x l) here h) [
+        | inl same ↦ inl (inl same)
+        | inr rest ↦ elim (in_changed p f x ys rest) [
+          | inl old ↦ inl (inr old)
+          | inr new ↦ inr (record { source = new.source; listed = inr new.listed; is = new.is })
+        ]
+      ]
+]
+
+pub either : (x y : Bool) → (x || y) ≡ true → (x ≡ true) ⊎ (y ≡ true)
+either true y h = inl refl
+either false y h = inr h
+
+-- an element that passes a test
+pub record Passes {X : Type 0} (p : X → Bool) (xs : List X) : Type 0 where
+  pub one : X
+  pub listed : IsIn one xs
+  pub passes : p one ≡ true
+
+pub passes_one : {X : Type 0} (p : X → Bool) (xs : List X) → list_any p xs ≡ true → Passes p xs
+passes_one p [] h = absurd (Prim.cc h)
+passes_one p (x ∷ xs) h = elim (either (p x) (list_any p xs) h) [
+  | inl is ↦ record { one = x; listed = inl refl; passes = is }
+  | inr later ↦ let rest = passes_one p xs later in record { one = rest.one; listed = inr rest.listed; passes = rest.passes }
+]

@@ -1,0 +1,122 @@
+-- What stays true of the parts of a client that a run tells of.
+use Rattle.std.proofs.Common.{◌≡◌, ℕ, true, List, [], ◌∷◌, ◌++◌, Some, None, sym, ap, ◌∙◌, subst, inl, inr}
+use Rattle.std.specs.declared.net.socket_addr.SocketAddr.{SocketAddr}
+use Rattle.stun_types.specs.Grammar.{refusal}
+use Rattle.stun_proto.specs.Numbers.{NothingNew}
+use Rattle.stun_proto.specs.Sending.{with_request}
+use Rattle.stun_proto.specs.State.{Agent}
+use Rattle.stun_proto_agent.proofs.Numbers.{sent_shows, still_shows}
+use Rattle.turn_types.specs.TurnRegistry.{allocate_method}
+use Rattle.turn_runs.specs.Members.{IsIn}
+use Rattle.turn_runs_stun.specs.StunWire.{told_by}
+use Rattle.turn_client_proto_core.specs.Waiting.{Queued}
+use Rattle.turn_client_proto_core.specs.declared.protocol.Phase.{Phase}
+use Rattle.turn_client_proto_core.specs.declared.protocol.Phase.TheVariants.{Initial, InitialSent, Authenticating, Authenticated, Ended}
+use Rattle.turn_client_proto_steps.specs.Held.{Allocation, PendingRefresh}
+use Rattle.turn_client_proto_steps.specs.RunClient.{Parts}
+use Rattle.turn_client_proto_steps.specs.Sound.{AreAllocates, AreShort, BeforeAllocated, IsOrderly, UntilEnded}
+use Rattle.turn_client_proto_steps.proofs.Adding.{AreLess}
+use Rattle.turn_client_proto_steps.proofs.Agents.{allocates_sent, messages_sent, still_allocates, still_messages}
+use Rattle.turn_client_proto_steps.proofs.Lessening.{still_short}
+use Rattle.turn_client_proto_steps.proofs.Lists.{in_either}
+
+-- ---- by how far the client is
+
+pub before_all : {A : Type 0} (phase : Phase) → A → BeforeAllocated phase A
+before_all Initial is = is
+before_all (InitialSent numbers) is = is
+before_all (Authenticating numbers) is = is
+before_all Authenticated is = tt
+before_all Ended is = tt
+
+before_map : {A B : Type 0} (phase : Phase) → (A → B) → BeforeAllocated phase A → BeforeAllocated phase B
+before_map Initial f is = f is
+before_map (InitialSent numbers) f is = f is
+before_map (Authenticating numbers) f is = f is
+before_map Authenticated f is = tt
+before_map Ended f is = tt
+
+before_both : {A B C : Type 0} (phase : Phase) → (A → B → C) → BeforeAllocated phase A → BeforeAllocated phase B → BeforeAllocated phase C
+before_both Initial f a b = f a b
+before_both (InitialSent numbers) f a b = f a b
+before_both (Authenticating numbers) f a b = f a b
+before_both Authenticated f a b = tt
+before_both Ended f a b = tt
+
+pub until_all : {A : Type 0} (phase : Phase) → A → UntilEnded phase A
+until_all Initial is = is
+until_all (InitialSent numbers) is = is
+until_all (Authenticating numbers) is = is
+until_all Authenticated is = is
+until_all Ended is = tt
+
+pub until_map : {A B : Type 0} (phase : Phase) → (A → B) → UntilEnded phase A → UntilEnded phase B
+until_map Initial f is = f is
+until_map (InitialSent numbers) f is = f is
+until_map (Authenticating numbers) f is = f is
+until_map Authenticated f is = f is
+until_map Ended f is = tt
+
+-- ---- the parts
+
+pub agent_orderly : (p : Parts) (agent : Agent) → NothingNew p.agent agent → IsOrderly p → IsOrderly (record p { agent = agent })
+agent_orderly p agent none is = record {
+  numbers = still_shows p.agent agent none is.numbers;
+  messages = still_messages p.agent agent none is.messages;
+  allocates = before_map p.phase (λ h. still_allocates p.agent agent none p.allocates h) is.allocates;
+  queued = is.queued;
+  lifetimes = is.lifetimes;
+}
+
+-- the bytes are an ALLOCATE for a client's transport
+abbrev pub IsAllocate : Parts → List ℕ → Type 0
+IsAllocate p bytes = ((told_by bytes).method ≡ allocate_method) × ((told_by bytes).transport ≡ Some p.allocates)
+
+pub request_orderly : (p : Parts) (bytes : List ℕ) (to : SocketAddr) (now : ℕ) → refusal bytes ≡ None → BeforeAllocated p.phase (IsAllocate p bytes) → IsOrderly p
+    → IsOrderly (record p { agent = with_request p.agent bytes to now })
+request_orderly p bytes to now message allocate is = record {
+  numbers = sent_shows p.agent bytes to now is.numbers;
+  messages = messages_sent p.agent bytes to now message is.messages;
+  allocates = before_both p.phase (λ (own : IsAllocate p bytes) h. allocates_sent p.agent bytes to now p.allocates own.0 own.1 h) allocate is.allocates;
+  queued = is.queued;
+  lifetimes = is.lifetimes;
+}
+
+pub queue_orderly : (p : Parts) (q : Queued) → q.is_request ≡ true → IsOrderly p → IsOrderly (record p { queue = p.queue ++ q ∷ [] })
+queue_orderly p q request is = record {
+  numbers = is.numbers;
+  messages = is.messages;
+  allocates = is.allocates;
+  queued = λ x h. elim (in_either x p.queue (q ∷ []) h) [
+    | inl was ↦ is.queued x was
+    | inr own ↦ elim own [ inl same ↦ ap (λ (y : Queued). y.is_request) (sym same) ∙ request | inr none ↦ absurd none ]
+  ];
+  lifetimes = is.lifetimes;
+}
+
+pub drawn_orderly : (p : Parts) (q : Queued) (rest : List Queued) → p.queue ≡ q ∷ rest → IsOrderly p → IsOrderly (record p { queue = rest })
+drawn_orderly p q rest same is = record {
+  numbers = is.numbers;
+  messages = is.messages;
+  allocates = is.allocates;
+  queued = λ x h. is.queued x (subst (λ (l : List Queued). IsIn x l) (sym same) (inr h));
+  lifetimes = is.lifetimes;
+}
+
+pub phase_orderly : (p : Parts) (phase : Phase) → BeforeAllocated phase (AreAllocates p.allocates p.agent) → IsOrderly p → IsOrderly (record p { phase = phase })
+phase_orderly p phase allocates is = record {
+  numbers = is.numbers;
+  messages = is.messages;
+  allocates = allocates;
+  queued = is.queued;
+  lifetimes = is.lifetimes;
+}
+
+pub allocations_orderly : (more : List PendingRefresh) (p : Parts) (new : List Allocation) → AreLess more p.allocations new → AreShort more → IsOrderly p → IsOrderly (record p { allocations = new })
+allocations_orderly more p new less short is = record {
+  numbers = is.numbers;
+  messages = is.messages;
+  allocates = is.allocates;
+  queued = is.queued;
+  lifetimes = still_short more p.allocations new less short is.lifetimes;
+}

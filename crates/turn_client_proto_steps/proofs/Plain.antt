@@ -1,0 +1,108 @@
+-- A call in which nothing is gained is a step of a run.
+use Rattle.std.proofs.Common.{◌≡◌, ◌≢◌, ℕ, ◌≤◌, List, [], ◌∷◌, ◌++◌, map, Option, Some, None, refl, sym, ap, ◌∙◌, inl, inr}
+use Rattle.std.specs.List.{filter_map}
+use Rattle.stun_types.specs.MessageClasses.{Request}
+use Rattle.stun_types.specs.declared.family.AddressFamily.{AddressFamily}
+use Rattle.turn_types.specs.TurnRegistry.{connection_attempt_method}
+use Rattle.turn_runs.specs.Members.{IsIn}
+use Rattle.turn_runs.specs.Messages as run
+use Rattle.turn_runs.specs.Steps.{AreNumbered, ClientStep, MayDraw}
+use Rattle.turn_runs_stun.specs.StunWire.{stun_wire}
+use Rattle.turn_client_proto_api.specs.declared.event.TurnEvent.{TurnEvent}
+use Rattle.turn_client_proto_api.specs.declared.event.TurnEvent.TheVariants.{AllocationCreateFailed}
+use Rattle.turn_client_proto_core.specs.declared.protocol.Protocol.{Protocol}
+use Rattle.turn_client_proto_steps.specs.ClientWords.{IsHeld, IsKept, client_words, notice_of}
+use Rattle.turn_client_proto_steps.specs.Held.{Allocation}
+use Rattle.turn_client_proto_steps.specs.RunClient.{Client, moved, parts_of}
+use Rattle.turn_client_proto_steps.specs.RunSteps.{IsRunStep, call_of}
+use Rattle.turn_client_proto_steps.specs.Sound.{CanAsk, IsOrderly, UntilEnded}
+use Rattle.turn_client_proto_steps.proofs.Adding.{Adds}
+use Rattle.turn_client_proto_steps.proofs.Lists.{nothing_behind}
+
+-- ---- what is told
+
+abbrev pub notices : List TurnEvent → List run.Notice
+notices events = filter_map notice_of events
+
+joined_by : (e : TurnEvent) (one two : List TurnEvent) (n : Option run.Notice) → notice_of e ≡ n → notices (one ++ two) ≡ notices one ++ notices two → notices (e ∷ (one ++ two)) ≡ notices (e ∷ one) ++ notices two
+joined_by e one two None is rest = rw (is, rest) refl
+joined_by e one two (Some n) is rest = rw (is, rest) refl
+
+pub joined : (one two : List TurnEvent) → notices (one ++ two) ≡ notices one ++ notices two
+joined [] two = refl
+joined (e ∷ one) two = joined_by e one two (notice_of e) refl (joined one two)
+
+-- events that tell of nothing that was created
+pub none_told : (events more : List TurnEvent) → notices more ≡ [] → notices (events ++ more) ≡ notices events
+none_told events more none = joined events more ∙ ap (λ l. notices events ++ l) none ∙ sym (nothing_behind (notices events))
+
+pub failures_tell_nothing : (families : List AddressFamily) → notices (map AllocationCreateFailed families) ≡ []
+failures_tell_nothing [] = refl
+failures_tell_nothing (f ∷ families) = failures_tell_nothing families
+
+-- ---- the step
+
+-- what getters show is kept
+pub held_is_kept : (allocations : List Allocation) (h : run.Held) → IsHeld allocations h → IsKept allocations h
+held_is_kept allocations h is = record { allocation = is.allocation; listed = is.listed; has = is.has }
+
+-- these requests were made, so many numbers are drawn then, and nothing is gained
+pub record IsPlain (begun : List run.Message) (drawn : Option (List ℕ)) (answered : List run.Notice) (c : Client) (count : ℕ) (core : Protocol) : Type 0 where
+  pub requests : (m : run.Message) → IsIn m begun → (m.class ≡ Request) × (m.method ≢ connection_attempt_method)
+  pub numbered : AreNumbered client_words c [] c.drawn count begun
+  pub adds : Adds begun (parts_of c.core) (parts_of core)
+  pub draws : (bytes : List ℕ) (m : run.Message) → drawn ≡ Some bytes → stun_wire.shown bytes ≡ Some m → MayDraw client_words c begun m
+  pub told : answered ++ notices core.events ≡ notices c.core.events
+
+plain_step : (begun : List run.Message) (came : List (List ℕ)) (drawn : Option (List ℕ)) (answered : List run.Notice) (c : Client) (count : ℕ) (core : Protocol) → IsPlain begun drawn answered c count core
+    → ClientStep client_words (call_of c came drawn answered (moved c count core))
+plain_step begun came drawn answered c count core is = record {
+  account = refl;
+  seed = refl;
+  begun = begun;
+  requests = is.requests;
+  numbered = is.numbered;
+  outstanding = is.adds.outstanding;
+  queued = is.adds.queued;
+  taken = λ n h. elim (is.adds.taken n h) [ inl was ↦ inl was | inr now ↦ inr (inl (now.one, now.listed, now.is)) ];
+  draws = is.draws;
+  handles = λ bytes h. inl h;
+  buffers = λ bytes h. inr h;
+  gained = [];
+  gains = λ h k. inl (is.adds.kept h k);
+  answers = λ t h. absurd h;
+  once = tt;
+  spent = λ t m h. absurd h;
+  known = λ t h. absurd h;
+  is_of = λ t h. absurd h;
+  tells = is.told ∙ nothing_behind (notices c.core.events);
+  shows = λ h k. held_is_kept core.allocations h k;
+  waits = λ n peer h. inl (is.adds.waits n peer h);
+  attempted = λ n h. inl (is.adds.attempted n h);
+  names = λ p h. absurd h;
+}
+
+pub run_step : (begun : List run.Message) (came : List (List ℕ)) (drawn : Option (List ℕ)) (answered : List run.Notice) (c : Client) (count : ℕ) (core : Protocol) → IsPlain begun drawn answered c count core
+    → IsOrderly (parts_of core) → UntilEnded core.phase (CanAsk (moved c count core)) → IsRunStep c came drawn answered core
+run_step begun came drawn answered c count core plain orderly can_ask = record {
+  after = moved c count core;
+  core_is = refl;
+  step = plain_step begun came drawn answered c count core plain;
+  sound = record { orderly = orderly; can_ask = can_ask };
+}
+
+-- ---- nothing is asked for
+
+pub nothing_drawn : (begun : List run.Message) (c : Client) (bytes : List ℕ) (m : run.Message) → None ≡ Some bytes → stun_wire.shown bytes ≡ Some m → MayDraw client_words c begun m
+nothing_drawn begun c bytes m h shows = absurd (Prim.cc h)
+
+pub quiet : (drawn : Option (List ℕ)) (answered : List run.Notice) (c : Client) (count : ℕ) (core : Protocol) → c.drawn ≤ count → Adds [] (parts_of c.core) (parts_of core)
+    → ((bytes : List ℕ) (m : run.Message) → drawn ≡ Some bytes → stun_wire.shown bytes ≡ Some m → MayDraw client_words c [] m)
+    → answered ++ notices core.events ≡ notices c.core.events → IsPlain [] drawn answered c count core
+quiet drawn answered c count core more adds draws told = record {
+  requests = λ m h. absurd h;
+  numbered = more;
+  adds = adds;
+  draws = draws;
+  told = told;
+}

@@ -1,0 +1,114 @@
+-- A number that a request is not given is taken.
+use Rattle.std.proofs.Common.{◌≡◌, ℕ, true, List, eqb, Option, Some, None, refl, ap, subst, inl, inr}
+use Rattle.std.proofs.lemmas.Bool.{eqb-true}
+use Rattle.std.specs.Prelude.{is_some}
+use Rattle.std.specs.FinMap as map
+use Rattle.std.specs.List.{list_any}
+use Rattle.stun_proto.specs.Agents.{Transaction}
+use Rattle.turn_runs.specs.Members.{IsIn}
+use Rattle.turn_client_proto_allocation.specs.Awaited.{asks_for_channel, asks_for_permission, has_number, is_attempt, is_awaited, is_binding, is_bound_by, is_connecting, is_number, is_refresh, renews_channel, renews_permission}
+use Rattle.turn_client_proto_core.specs.Authenticating.{numbers_sent}
+use Rattle.turn_client_proto_core.specs.Numbering.{awaits, is_taken}
+use Rattle.turn_client_proto_core.specs.declared.protocol.Phase.{Phase}
+use Rattle.turn_client_proto_core.specs.declared.protocol.Phase.TheVariants.{Initial, InitialSent, Authenticating, Authenticated, Ended}
+use Rattle.turn_client_proto_core.specs.declared.protocol.Protocol.{Protocol}
+use Rattle.turn_client_proto_steps.specs.ClientWords.{IsPending, OfPermission, OfChannel, OfNewPermission, OfNewChannel, OfRefresh, OfConnect, OfAttempt, OfBinding, IsTaken, Outstanding, Allocating, Pending}
+use Rattle.turn_client_proto_steps.specs.Held.{Allocation, Binding}
+use Rattle.turn_client_proto_steps.specs.RunClient.{parts_of}
+use Rattle.turn_client_proto_steps.proofs.Lists.{either, passes_one}
+
+pub among : (number : ℕ) (numbers : List ℕ) → has_number number numbers ≡ true → IsIn number numbers
+among number numbers h =
+    let found = passes_one (λ n. eqb n number) numbers h in
+    subst (λ n. IsIn n numbers) (eqb-true found.one number found.passes) found.listed
+
+number_is : (number : ℕ) (o : Option ℕ) → is_number number o ≡ true → o ≡ Some number
+number_is number None h = absurd (Prim.cc h)
+number_is number (Some n) h = ap Some (eqb-true n number h)
+
+-- the CONNECTION_BIND that is awaited, and its number
+record IsBoundBy (number : ℕ) (o : Option Binding) : Type 0 where
+  binding : Binding
+  is : o ≡ Some binding
+  number_is : binding.number ≡ number
+
+bound_by : (number : ℕ) (o : Option Binding) → is_bound_by number o ≡ true → IsBoundBy number o
+bound_by number None h = absurd (Prim.cc h)
+bound_by number (Some b) h = record { binding = b; is = refl; number_is = eqb-true b.number number h }
+
+module _ (number : ℕ) (a : Allocation) where
+  by_permission : list_any (renews_permission number) a.permissions ≡ true → IsPending number a
+  by_permission h = let f = passes_one (renews_permission number) a.permissions h in OfPermission f.one f.listed (among number f.one.renewals f.passes)
+
+  by_channel : list_any (renews_channel number) a.channels ≡ true → IsPending number a
+  by_channel h = let f = passes_one (renews_channel number) a.channels h in OfChannel f.one f.listed (among number f.one.renewals f.passes)
+
+  by_new_permission : list_any (asks_for_permission number) a.pending_permissions ≡ true → IsPending number a
+  by_new_permission h = let f = passes_one (asks_for_permission number) a.pending_permissions h in OfNewPermission f.one f.listed (among number f.one.numbers f.passes)
+
+  by_new_channel : list_any (asks_for_channel number) a.pending_channels ≡ true → IsPending number a
+  by_new_channel h = let f = passes_one (asks_for_channel number) a.pending_channels h in OfNewChannel f.one f.listed (among number f.one.numbers f.passes)
+
+  by_refresh : list_any (is_refresh number) a.pending_refreshes ≡ true → IsPending number a
+  by_refresh h = let f = passes_one (is_refresh number) a.pending_refreshes h in OfRefresh f.one f.listed (eqb-true f.one.number number f.passes)
+
+  by_connect : list_any (is_connecting number) a.connecting ≡ true → IsPending number a
+  by_connect h = let f = passes_one (is_connecting number) a.connecting h in OfConnect f.one f.listed (eqb-true f.one.number number f.passes)
+
+  by_attempt : list_any (is_attempt number) a.waiting ≡ true → IsPending number a
+  by_attempt h = let f = passes_one (is_attempt number) a.waiting h in OfAttempt f.one f.listed (number_is number f.one.attempt f.passes)
+
+  by_binding : list_any (is_binding number) a.connections ≡ true → IsPending number a
+  by_binding h =
+      let f = passes_one (is_binding number) a.connections h in
+      let b = bound_by number f.one.awaited f.passes in
+      OfBinding f.one f.listed b.binding b.is b.number_is
+
+  pending : is_awaited number a ≡ true → IsPending number a
+  unfolding is_awaited
+  pending h = elim (either _ _ h) [
+    | inl is ↦ by_permission is
+    | inr h1 ↦ elim (either _ _ h1) [
+      | inl is ↦ by_channel is
+      | inr h2 ↦ elim (either _ _ h2) [
+        | inl is ↦ by_new_permission is
+        | inr h3 ↦ elim (either _ _ h3) [
+          | inl is ↦ by_new_channel is
+          | inr h4 ↦ elim (either _ _ h4) [
+            | inl is ↦ by_refresh is
+            | inr h5 ↦ elim (either _ _ h5) [
+              | inl is ↦ by_connect is
+              | inr h6 ↦ elim (either _ _ h6) [
+                | inl is ↦ by_attempt is
+                | inr h7 ↦ by_binding h7
+              ]
+            ]
+          ]
+        ]
+      ]
+    ]
+  ]
+
+sent_by : (number : ℕ) (phase : Phase) → awaits number phase ≡ true → IsIn number (numbers_sent phase)
+unfolding awaits
+sent_by number Initial h = absurd (Prim.cc h)
+sent_by number (InitialSent numbers) h = among number numbers h
+sent_by number (Authenticating numbers) h = among number numbers h
+sent_by number Authenticated h = absurd (Prim.cc h)
+sent_by number Ended h = absurd (Prim.cc h)
+
+outstanding_by : (p : Protocol) (number : ℕ) (found : Option Transaction) → map.get p.agent.outstanding number ≡ found → is_some found ≡ true → IsTaken (parts_of p) number
+outstanding_by p number None there h = absurd (Prim.cc h)
+outstanding_by p number (Some t) there h = Outstanding t there
+
+pub taken_by : (p : Protocol) (number : ℕ) → is_taken p number ≡ true → IsTaken (parts_of p) number
+unfolding is_taken
+taken_by p number h = elim (either _ _ h) [
+  | inl is ↦ outstanding_by p number (map.get p.agent.outstanding number) refl is
+  | inr others ↦ elim (either _ _ others) [
+    | inl is ↦ Allocating (sent_by number p.phase is)
+    | inr listed ↦
+        let f = passes_one (is_awaited number) p.allocations listed in
+        Pending f.one f.listed (pending number f.one f.passes)
+  ]
+]

@@ -1,0 +1,35 @@
+-- A call of a client as a step of a run.
+use Rattle.std.specs.Prelude.{◌≡◌, ℕ, List, [], ◌∷◌, Option, None}
+use Rattle.turn_runs.specs.Messages.{Notice}
+use Rattle.turn_runs.specs.Steps.{Call, ClientStep}
+use Rattle.turn_client_proto_core.specs.declared.protocol.Protocol.{Protocol}
+use Rattle.turn_client_proto_steps.specs.ClientWords.{client_words}
+use Rattle.turn_client_proto_steps.specs.RunClient.{Client}
+use Rattle.turn_client_proto_steps.specs.Sound.{IsSound}
+
+-- a call in which messages came and were taken up at once, bytes were drawn, or things answered as created
+abbrev pub call_of : Client → (came : List (List ℕ)) → (drawn : Option (List ℕ)) → List Notice → Client → Call Client
+call_of before came drawn answered after = record {
+  before = before;
+  came = came;
+  handled = came;
+  drawn = drawn;
+  answered = answered;
+  payloads = [];
+  after = after;
+}
+
+-- such a call leaves the client with this core: it is a step of a run, and the client is sound again
+pub record IsRunStep (before : Client) (came : List (List ℕ)) (drawn : Option (List ℕ)) (answered : List Notice) (core : Protocol) : Type 0 where
+  pub after : Client
+  pub core_is : after.core ≡ core
+  pub step : ClientStep client_words (call_of before came drawn answered after)
+  pub sound : IsSound after
+
+-- a message came, and nothing was drawn or answered
+abbrev pub IsReceiving : Client → List ℕ → Protocol → Type 0
+IsReceiving before bytes core = IsRunStep before (bytes ∷ []) None [] core
+
+-- nothing came, and nothing was drawn or answered
+abbrev pub IsSilent : Client → Protocol → Type 0
+IsSilent before core = IsRunStep before [] None [] core

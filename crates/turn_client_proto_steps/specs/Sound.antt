@@ -1,0 +1,80 @@
+-- What is always true of a client (RFC 8489, sections 5, 6 and 9.2; RFC 8656, sections 7 and 8).
+use Rattle.std.specs.Prelude.{◌≡◌, ℕ, ◌*◌, ◌<◌, ◌≤◌, ◌^◌, List, true, length, Some, None}
+use Rattle.std.specs.FinMap as map
+use Rattle.rand_chacha.specs.ChaCha.{ChaCha, next_word}
+use Rattle.rand_core.specs.Steps.{steps_u32, stream_of}
+use Rattle.rand_core.specs.Stream.{Stream}
+use Rattle.stun_types.specs.Generated.{number_words}
+use Rattle.stun_types.specs.GeneratorWords.{stream_after}
+use Rattle.stun_types.specs.Grammar.{refusal}
+use Rattle.stun_types.specs.declared.transport.TransportType.{TransportType}
+use Rattle.stun_proto.specs.Agents.{Transaction}
+use Rattle.stun_proto.specs.Numbers.{ShowsNumbers}
+use Rattle.stun_proto.specs.State.{Agent}
+use Rattle.turn_types.specs.TurnRegistry.{allocate_method}
+use Rattle.turn_runs.specs.Members.{IsIn}
+use Rattle.turn_runs_stun.specs.StunWire.{told_by}
+use Rattle.turn_client_proto_core.specs.Waiting.{Queued}
+use Rattle.turn_client_proto_core.specs.declared.protocol.Phase.{Phase}
+use Rattle.turn_client_proto_core.specs.declared.protocol.Phase.TheVariants.{Initial, InitialSent, Authenticating, Authenticated, Ended}
+use Rattle.turn_client_proto_request.specs.ShortTexts.{HasShortTexts}
+use Rattle.turn_client_proto_steps.specs.Held.{Allocation, PendingRefresh}
+use Rattle.turn_client_proto_steps.specs.RunClient.{Client, Parts, parts_of}
+
+-- ---- what is outstanding
+
+-- each outstanding request is a message
+abbrev pub AreMessages : Agent → Type 0
+AreMessages agent = (number : ℕ) (t : Transaction) → map.get agent.outstanding number ≡ Some t → refusal t.bytes ≡ None
+
+-- each outstanding request is an ALLOCATE for this transport
+abbrev pub AreAllocates : TransportType → Agent → Type 0
+AreAllocates transport agent = (number : ℕ) (t : Transaction) → map.get agent.outstanding number ≡ Some t
+    → ((told_by t.bytes).method ≡ allocate_method) × ((told_by t.bytes).transport ≡ Some transport)
+
+-- until the server has allocated
+abbrev pub BeforeAllocated : Phase → Type 0 → Type 0
+BeforeAllocated Initial Is = Is
+BeforeAllocated (InitialSent numbers) Is = Is
+BeforeAllocated (Authenticating numbers) Is = Is
+BeforeAllocated Authenticated Is = Unit {0}
+BeforeAllocated Ended Is = Unit {0}
+
+-- a lifetime that was asked for has four bytes
+abbrev pub AreShort : List PendingRefresh → Type 0
+AreShort refreshes = (r : PendingRefresh) → IsIn r refreshes → r.lifetime < 2 ^ 32
+
+-- each outstanding request is a message, kept under its own number; until the server has allocated it is an
+-- ALLOCATE for the client's transport; and what waits to be sent is requests
+pub record IsOrderly (p : Parts) : Type 0 where
+  pub numbers : ShowsNumbers p.agent
+  pub messages : AreMessages p.agent
+  pub allocates : BeforeAllocated p.phase (AreAllocates p.allocates p.agent)
+  pub queued : (q : Queued) → IsIn q p.queue → q.is_request ≡ true
+  pub lifetimes : (a : Allocation) → IsIn a p.allocations → AreShort a.pending_refreshes
+
+-- ---- what a client needs to ask for something
+
+-- the words that a generator will give
+abbrev pub stream_from : ChaCha → Stream
+stream_from rng = stream_of (steps_u32 (next_word 10)) rng
+
+-- the client signs under its own name and password, its texts have room in a request, and its next number is that
+-- at its place of the stream
+pub record CanAsk (c : Client) : Type 0 where
+  pub account : c.core.auth.account ≡ Some c.credentials
+  pub texts : HasShortTexts c.core.auth
+  pub families : length c.core.families ≤ 2
+  pub words : stream_from c.core.rng ≡ stream_after (number_words * c.drawn) c.seed
+
+-- a client that has ended asks for nothing any more
+abbrev pub UntilEnded : Phase → Type 0 → Type 0
+UntilEnded Initial Is = Is
+UntilEnded (InitialSent numbers) Is = Is
+UntilEnded (Authenticating numbers) Is = Is
+UntilEnded Authenticated Is = Is
+UntilEnded Ended Is = Unit {0}
+
+pub record IsSound (c : Client) : Type 0 where
+  pub orderly : IsOrderly (parts_of c.core)
+  pub can_ask : UntilEnded c.core.phase (CanAsk c)

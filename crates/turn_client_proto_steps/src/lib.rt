@@ -1,0 +1,133 @@
+//! The calls of a TURN client as steps of a run of a client and a server (RFC 8489, RFC 8656).
+//!
+//! `specs/ClientWords.antt` says what a client is in the words of a run: what is outstanding, which
+//! numbers are taken, what is held. `specs/Sound.antt` has what is always true of a client. The
+//! functions here do nothing; each contract is a law: a call that meets its contract is a step of a
+//! run, and leaves a sound client sound. A getter is no step, for nothing changes; nor are bytes that
+//! are no message, or that did not come from the server.
+#![tactic(auto)]
+
+ghost use Rattle.std.specs.Prelude.{◌≤◌, ℕ, List, length, ◌≡◌, ◌++◌, Bool, [], Option, None, Result, option_to_list};
+ghost use Rattle.std.specs.declared.net.socket_addr.SocketAddr.{SocketAddr};
+ghost use Rattle.stun_types.specs.Registry.{longest_username};
+ghost use Rattle.stun_types.specs.declared.transport.TransportType.{TransportType};
+ghost use Rattle.turn_runs.specs.Members.{IsIn};
+ghost use Rattle.turn_runs.specs.Messages.{Allocation};
+ghost use Rattle.turn_runs.specs.Runs.{IsNew as IsNewInRun};
+ghost use Rattle.turn_runs.specs.Words.{DeskWords};
+ghost use Rattle.turn_client_proto_allocation.specs.Listed.{relayed_shown};
+ghost use Rattle.turn_client_proto_api.specs.Config.{Config};
+ghost use Rattle.turn_client_proto_core.specs.Beginning.{IsNew};
+ghost use Rattle.turn_client_proto_core.specs.declared.protocol.Protocol.{Protocol};
+ghost use Rattle.turn_client_proto_steps.specs.Beginning.{first_client};
+ghost use Rattle.turn_client_proto_steps.specs.ClientWords.{client_words, run_words, notice_of};
+ghost use Rattle.turn_client_proto_steps.specs.RunClient.{Client};
+ghost use Rattle.turn_client_proto_steps.specs.Sound.{IsSound};
+ghost use Rattle.std.specs.List.{filter_map};
+ghost use Rattle.std.specs.Option.{option_map};
+ghost use Rattle.stun_types.specs.Grammar.{refusal};
+ghost use Rattle.stun_types.specs.Headers.{AreBytes};
+ghost use Rattle.turn_client_proto_api.specs.declared.answer.TurnPollRet.{TurnPollRet};
+ghost use Rattle.turn_client_proto_api.specs.declared.error.DeleteError.{DeleteError};
+ghost use Rattle.turn_client_proto_api.specs.declared.event.TurnEvent.{TurnEvent};
+ghost use Rattle.turn_client_proto_core.specs.Deleting.{IsDeleteAnswered};
+ghost use Rattle.turn_client_proto_core.specs.Drawing.{IsDrawn, Sent};
+ghost use Rattle.turn_client_proto_core.specs.Ending.{HasFailed, ended};
+ghost use Rattle.turn_client_proto_core.specs.Polling.{IsPolled};
+ghost use Rattle.turn_client_proto_core.specs.Receiving.{IsHeard};
+ghost use Rattle.turn_client_proto_steps.specs.RunSteps.{IsReceiving, IsRunStep, IsSilent};
+
+/// What a run tells of a desk. It has no code; the law of new clients holds for every one.
+pub trait Desk {
+    ghost State: { Type 0 };
+
+    ghost words: { DeskWords State };
+}
+
+/// A new client is sound, where the name of its user has room in a message (RFC 8489, section 14.3)
+/// and there are two families of addresses at most.
+pub fn new_clients_are_sound()
+    ensures { (transport : TransportType) (here server : SocketAddr) (config : Config)
+        (seed : List ℕ) (core : Protocol)
+        → IsNew transport here server config seed core
+        → length config.credentials.username ≤ longest_username
+        → length config.families ≤ 2
+        → IsSound (first_client config.credentials seed core) }
+{}
+
+/// Of a new client nothing was asked, in the words of a run with any desk: nothing is outstanding,
+/// waits or is held, and no number is taken.
+pub fn new_clients_are_new<D: Desk>()
+    ensures { (transport : TransportType) (here server : SocketAddr) (config : Config)
+        (seed : List ℕ) (core : Protocol)
+        → IsNew transport here server config seed core
+        → IsNewInRun (run_words D.words) (first_client config.credentials seed core) }
+{}
+
+/// The relayed addresses that a client shows are held, in the words of a run: each is that of an
+/// allocation which is not marked as expired. A getter changes nothing, and is no step.
+pub fn shown_addresses_are_held()
+    ensures { (c : Client) (transport : TransportType) (address : SocketAddr)
+        → IsIn (transport, address) (relayed_shown c.core.allocations)
+        → client_words.IsHeld c (Allocation transport address) }
+{}
+
+/// `poll_event` is a step in which what an event tells as created is answered.
+pub fn events_are_steps()
+    ensures { (c : Client) (event : Option TurnEvent) (new : Protocol)
+        → IsSound c
+        → c.core.events ≡ option_to_list event ++ new.events
+        → new ≡ record c.core { events = new.events }
+        → IsRunStep c [] None (filter_map notice_of (option_to_list event)) new }
+{}
+
+/// `protocol_error` is a step in which nothing is asked for and nothing gained.
+pub fn ends_are_steps()
+    ensures { (c : Client) → IsSound c → IsSilent c (ended c.core) }
+{}
+
+/// A call that is refused memory, after which the client has failed, is such a step, too.
+pub fn failures_are_steps()
+    ensures { (c : Client) (new : Protocol) → HasFailed c.core new → IsSilent c new }
+{}
+
+/// `delete` is a step in which a REFRESH is made, where it is answered so. Refused with
+/// `NoAllocation` it changes nothing; where memory is refused, the number that was drawn counts,
+/// and nothing else changes.
+pub fn deletions_are_steps()
+    ensures { (c : Client) (now : ℕ) (answer : Result (Unit {0}) DeleteError) (new : Protocol)
+        → IsSound c
+        → IsDeleteAnswered c.core now answer new
+        → IsSilent c new }
+{}
+
+/// `poll` is a step in which nothing is asked for and nothing gained: requests and allocations may
+/// go.
+pub fn polls_are_steps()
+    ensures { (c : Client) (now : ℕ) (answer : TurnPollRet) (new : Protocol)
+        → IsSound c
+        → IsPolled c.core now answer new
+        → IsSilent c new }
+{}
+
+/// `poll_transmit` is a step in which a request is drawn: one that is outstanding, one that waits,
+/// or one that is made now, under the number at the next place of the client's stream.
+pub fn draws_are_steps()
+    ensures { (c : Client) (now : ℕ) (answer : Option Sent) (new : Protocol)
+        → IsSound c
+        → IsDrawn c.core now answer new
+        → IsRunStep c [] (option_map (λ sent. sent.bytes) answer) [] new }
+{}
+
+/// A message that came is a step. What the client then holds in addition was brought by that
+/// message: it validates under a key of the client's, answers an ALLOCATE that was outstanding, and
+/// is outstanding no more (RFC 8656, section 7.3). A challenge may make a request (RFC 8489,
+/// section 9.2.5).
+pub fn messages_are_steps()
+    ensures { (c : Client) (bytes : List ℕ) (now : ℕ) (handled : Bool) (new : Protocol)
+        → IsSound c
+        → AreBytes bytes
+        → refusal bytes ≡ None
+        → IsHeard c.core bytes now handled new
+        → IsReceiving c bytes new }
+{}
