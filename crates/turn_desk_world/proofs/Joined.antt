@@ -19,6 +19,11 @@ unfolding IsRun
 run_joined [] second w v u one two = subst (λ (x : World). IsRun x second u) one two
 run_joined (pair ∷ first) second w v u one two = (one.0, one.1, run_joined first second one.0 v u one.2 two)
 
+pub run_parted : (first second : List (Event × Answer)) (w u : World) → IsRun w (first ++ second) u → (v : World) × IsRun w first v × IsRun v second u
+unfolding IsRun
+run_parted [] second w u run = (w, refl, run)
+run_parted (pair ∷ first) second w u run = let rest = run_parted first second run.0 u run.2 in (rest.0, (run.0, run.1, rest.1), rest.2)
+
 zip_joined : (es fs : List Event) (ans bns : List Answer) → length ans ≡ length es → zip (es ++ fs) (ans ++ bns) ≡ zip es ans ++ zip fs bns
 zip_joined [] fs [] bns same = refl
 zip_joined [] fs (a ∷ ans) bns same = absurd (Prim.cc same)

@@ -1,2 +1,8 @@
+pub mod AtClient
+pub mod AtDesk
+pub mod Chain
 pub mod Joined
+pub mod Safe
+pub mod Shown
 pub mod Sides
+pub mod Telling

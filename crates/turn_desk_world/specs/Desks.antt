@@ -1,7 +1,7 @@
 -- What a desk answers in a world.
 use Rattle.std.specs.Prelude.{◌≡◌, ◌≢◌, ◌++◌, [], ◌∷◌, ◌↔◌, ℕ, List}
 use Rattle.std.specs.declared.net.socket_addr.SocketAddr.{SocketAddr}
-use Rattle.rand_chacha.specs.ChaCha.{ChaCha, next_word, of_seed}
+use Rattle.rand_chacha.specs.ChaCha.{next_word, of_seed}
 use Rattle.rand_core.specs.Steps.{steps_u32, stream_of}
 use Rattle.rand_core.specs.Stream.{Stream}
 use Rattle.stun_proto.specs.Server.{SameFor}

@@ -3,6 +3,8 @@ pub mod Calls
 pub mod Desks
 pub mod Model
 pub mod Runs
+pub mod Safety
+pub mod Told
 pub use Rattle.turn_client_proto.specs.Beginning
 pub use Rattle.turn_client_proto.specs.Clients
 pub use Rattle.turn_client_proto.specs.Config

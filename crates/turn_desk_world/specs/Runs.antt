@@ -64,3 +64,8 @@ IsDeskRun old pairs new = IsRun old (filter is_at_desk pairs) (record new { clie
 -- and the client's events alone
 abbrev pub IsClientRun : World → List (Event × Answer) → World → Type 0
 IsClientRun old pairs new = IsRun old (filter (λ pair. not (is_at_desk pair)) pairs) (record new { desk = old.desk })
+
+-- each side is answered so by its own events alone
+pub record IsRunOfEach (old : World) (pairs : List (Event × Answer)) (new : World) : Type 0 where
+  pub desk : IsDeskRun old pairs new
+  pub client : IsClientRun old pairs new

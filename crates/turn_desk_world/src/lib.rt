@@ -4,6 +4,7 @@
 
 mod desk;
 mod driven;
+pub mod laws;
 pub mod world;
 
 // What stands above this crate has the client through it.

@@ -4,7 +4,8 @@ ghost use Rattle.std.specs.Prelude.{◌≡◌, IfOk, OnErr, OnOk, false, length,
 ghost use Rattle.std.specs.List.{zip};
 ghost use Rattle.std.specs.Option.{option_map};
 ghost use Rattle.turn_client_proto.specs.Clients.{protocol_of};
-ghost use Rattle.turn_desk_world.specs.Runs.{IsClientRun, IsDeskRun, IsRun, IsStep};
+ghost use Rattle.turn_desk_world.specs.Runs.{IsRun, IsRunOfEach, IsStep};
+ghost use Rattle.turn_desk_world.specs.Safety.{IsSafeRun};
 
 use crate::desk::ask;
 use crate::driven::Driven;
@@ -78,10 +79,12 @@ impl World {
         ensures run { IfOk result (λ answers.
             IsRun self.old (zip events.now answers.items) self.new) }
         // The desk's answers are those to its events alone, and the client's those to the others.
-        ensures desk { IfOk result (λ answers.
-            IsDeskRun self.old (zip events.now answers.items) self.new) }
-        ensures client { IfOk result (λ answers.
-            IsClientRun self.old (zip events.now answers.items) self.new) }
+        ensures sides { IfOk result (λ answers.
+            IsRunOfEach self.old (zip events.now answers.items) self.new) }
+        // Where the client was new and nothing was forged, all that it holds was granted in answer to
+        // that very request.
+        ensures safe { IfOk result (λ answers.
+            IsSafeRun self.old (zip events.now answers.items) self.new) }
         ensures err { OnErr result (self.new.is_failed ≡ true) }
         ensures failed { OnOk result (self.old.is_failed ≡ false) }
     {

@@ -1,8 +1,12 @@
+use Rattle.turn_desk_world.proofs.Safe.{run_is_safe}
 use Rattle.turn_desk_world.proofs.Sides.{client_run, desk_run}
 use Rattle.turn_desk_world.proofs.world.World.run.Goals as goal
 
-pub returns-in-Ok-clause-desk : goal.returns-in-Ok-clause-desk
-returns-in-Ok-clause-desk c = desk_run _ c.args.self.now c.run_each.new.self c.in-Ok.ensures.run
+pub returns-in-Ok-clause-sides : goal.returns-in-Ok-clause-sides
+returns-in-Ok-clause-sides c = record {
+  desk = desk_run _ c.args.self.now c.run_each.new.self c.in-Ok.ensures.run;
+  client = client_run _ c.args.self.now c.run_each.new.self c.in-Ok.ensures.run;
+}
 
-pub returns-in-Ok-clause-client : goal.returns-in-Ok-clause-client
-returns-in-Ok-clause-client c = client_run _ c.args.self.now c.run_each.new.self c.in-Ok.ensures.run
+pub returns-in-Ok-clause-safe : goal.returns-in-Ok-clause-safe
+returns-in-Ok-clause-safe c = run_is_safe _ c.args.self.now c.run_each.new.self c.in-Ok.ensures.run

@@ -1,0 +1,149 @@
+-- What the client of a world answers is a step of a run.
+use Rattle.std.proofs.Common.{◌≡◌, ℕ, Bool, true, false, List, [], ◌∷◌, Option, Some, None, Ok, Err, refl, sym, ap, ◌∙◌, subst}
+use Rattle.std.specs.Borrow.{Bor}
+use Rattle.std.specs.declared.net.socket_addr.SocketAddr.{SocketAddr}
+use Rattle.stun_types.specs.Grammar.{refusal}
+use Rattle.stun_types.specs.Headers.{AreBytes}
+use Rattle.stun_types.specs.ParseErrors.{StunParseError}
+use Rattle.stun_types.specs.declared.transmit.Transmit.{Transmit}
+use Rattle.turn_runs.specs.Messages.{Notice}
+use Rattle.turn_client_proto_allocation.specs.Listed.{relayed_shown}
+use Rattle.turn_client_proto_api.specs.declared.answer.TurnPollRet.TheVariants as poll
+use Rattle.turn_client_proto_api.specs.declared.answer.TurnRecvRet.{TurnRecvRet}
+use Rattle.turn_client_proto_api.specs.declared.answer.TurnRecvRet.TheVariants as recv
+use Rattle.turn_client_proto.specs.Drawing.{sent_of}
+use Rattle.turn_client_proto.specs.Kept.{Protocol}
+use Rattle.turn_client_proto.specs.Receipts.{Foreign, Heard, IsGivenBack, IsHandledAs, IsMessageTaken, IsRead, IsReceived, Lost, Own}
+use Rattle.turn_client_proto_steps.specs.RunClient.{Client}
+use Rattle.turn_client_proto_steps.specs.RunSteps.{IsRunStep}
+use Rattle.turn_client_proto_steps.specs.Sound.{IsSound}
+use Rattle.turn_client_proto_steps.proofs.Drawing.{draw_step}
+use Rattle.turn_client_proto_steps.proofs.Ending.{ended_step, event_step, failed_step, still}
+use Rattle.turn_client_proto_steps.proofs.Polling.{poll_step}
+use Rattle.turn_client_proto_steps.proofs.Receiving.{receive_step}
+use Rattle.turn_client_proto_steps.proofs.Refreshing.{delete_step}
+use Rattle.turn_desk_event.specs.declared.answer.Answer.{Answer}
+use Rattle.turn_desk_event.specs.declared.answer.Answer.TheVariants as answer
+use Rattle.turn_desk_event.specs.declared.answer.Refusal.TheVariants.{Delete as DeleteRefused}
+use Rattle.turn_desk_event.specs.declared.event.ClientCall.{ClientCall}
+use Rattle.turn_desk_event.specs.declared.event.ClientCall.TheVariants.{Poll, PollEvent, Delete, ProtocolError, RelayedAddresses}
+use Rattle.turn_desk_world.specs.Calls.{IsCalled, IsDeleteTold, IsDrawnAs, IsEndTold, IsEventTold, IsFed, IsPolledAs, IsRelayedTold, IsTold}
+use Rattle.turn_desk_world.specs.Told.{bytes_sent, notices_in, payloads_in}
+use Rattle.turn_desk_world.proofs.Shown.{ShowsOf}
+
+-- a call that is answered so
+pub record IsAnswered (c : Client) (came : List (List ℕ)) (ret : Answer) (core : Protocol) : Type 0 where
+  pub step : IsRunStep c came (bytes_sent ret) (notices_in ret) core
+  pub no_payload : payloads_in ret ≡ []
+  pub shows : ShowsOf ret core
+
+module _ (c : Client) (sound : IsSound c) (now : ℕ) (new : Protocol) where
+  polled : (ret : Answer) → IsPolledAs ret c.core now new → IsAnswered c [] ret new
+  polled (answer.Wait moment) is = record { step = poll_step c now (poll.WaitUntil moment) new sound is; no_payload = refl; shows = tt }
+  polled (answer.Socket id socket peer) is = record { step = poll_step c now (poll.AllocateTcpSocket id socket peer) new sound is; no_payload = refl; shows = tt }
+  polled (answer.Close local remote) is = record { step = poll_step c now (poll.TcpClose local remote) new sound is; no_payload = refl; shows = tt }
+  polled answer.Closed is = record { step = poll_step c now poll.Closed new sound is; no_payload = refl; shows = tt }
+  polled _ is = absurd is
+
+  event_told : (ret : Answer) → IsEventTold ret c.core new → IsAnswered c [] ret new
+  event_told (answer.Event event) is = record { step = event_step c (Some event) new sound is.0 is.1; no_payload = refl; shows = tt }
+  event_told answer.Nothing is = record { step = still c [] new sound is.1; no_payload = refl; shows = tt }
+  event_told _ is = absurd is
+
+  delete_told : (ret : Answer) → IsDeleteTold ret c.core now new → IsAnswered c [] ret new
+  delete_told answer.Done is = record { step = delete_step c now (Ok tt) new sound is; no_payload = refl; shows = tt }
+  delete_told (answer.Refused (DeleteRefused error)) is = record { step = delete_step c now (Err error) new sound is; no_payload = refl; shows = tt }
+  delete_told _ is = absurd is
+
+  end_told : (ret : Answer) → IsEndTold ret c.core new → IsAnswered c [] ret new
+  end_told answer.Done is = record { step = subst (λ (p : Protocol). IsRunStep c [] None [] p) (sym is) (ended_step c sound); no_payload = refl; shows = tt }
+  end_told _ is = absurd is
+
+  relayed_told : (ret : Answer) → IsRelayedTold ret c.core new → IsAnswered c [] ret new
+  relayed_told (answer.Relayed list) is = record { step = still c [] new sound is.1; no_payload = refl; shows = is.0 ∙ ap (λ (p : Protocol). relayed_shown p.allocations) (sym is.1) }
+  relayed_told _ is = absurd is
+
+  pub called : (call : ClientCall) (ret : Answer) → IsCalled call ret c.core now new → IsAnswered c [] ret new
+  unfolding IsCalled
+  called Poll ret is = polled ret is
+  called PollEvent ret is = event_told ret is
+  called Delete ret is = delete_told ret is
+  called ProtocolError ret is = end_told ret is
+  called RelayedAddresses ret is = relayed_told ret is
+
+  pub drawn : (ret : Answer) → IsDrawnAs ret c.core now new → IsAnswered c [] ret new
+  unfolding IsDrawnAs
+  drawn (answer.Transmit transmit) is = record { step = draw_step c now (Some (sent_of transmit)) new sound is; no_payload = refl; shows = tt }
+  drawn answer.Nothing is = record { step = draw_step c now None new sound is; no_payload = refl; shows = tt }
+  drawn _ is = absurd is
+
+-- ---- what came
+
+-- bytes that came were taken up, or given back; or memory was refused
+pub data IsPlain {T : Type 0} (came : Transmit T) (took : TurnRecvRet T) : Type 0 where
+  Took : took ≡ recv.Handled → IsPlain came took
+  Gave : took ≡ recv.Ignored came → IsPlain came took
+  Failed : took ≡ recv.NoMemory came → IsPlain came took
+
+-- the answer to them draws, tells and hands over nothing
+record IsQuiet (ret : Answer) : Type 0 where
+  draws : bytes_sent ret ≡ None
+  tells : notices_in ret ≡ []
+  hands : payloads_in ret ≡ []
+  shows : (core : Protocol) → ShowsOf ret core
+
+took_told : (ret : Answer) → IsTold recv.Handled ret → IsQuiet ret
+took_told answer.Handled is = record { draws = refl; tells = refl; hands = refl; shows = λ core. tt }
+took_told _ is = absurd is
+
+gave_told : (came : Transmit (Bor (List ℕ))) (ret : Answer) → IsTold (recv.Ignored came) ret → IsQuiet ret
+gave_told came answer.Ignored is = record { draws = refl; tells = refl; hands = refl; shows = λ core. tt }
+gave_told came _ is = absurd is
+
+quiet : (came : Transmit (Bor (List ℕ))) (took : TurnRecvRet (Bor (List ℕ))) (ret : Answer) → IsPlain came took → IsTold took ret → IsQuiet ret
+quiet came took ret (Took is) told = took_told ret (subst (λ (r : TurnRecvRet (Bor (List ℕ))). IsTold r ret) is told)
+quiet came took ret (Gave is) told = gave_told came ret (subst (λ (r : TurnRecvRet (Bor (List ℕ))). IsTold r ret) is told)
+quiet came took ret (Failed is) told = absurd (subst (λ (r : TurnRecvRet (Bor (List ℕ))). IsTold r ret) is told)
+
+-- what became of the client by them
+pub record IsTakenUp {T : Type 0} (c : Client) (bytes : List ℕ) (came : Transmit T) (took : TurnRecvRet T) (new : Protocol) : Type 0 where
+  pub step : IsRunStep c (bytes ∷ []) None [] new
+  pub plain : IsPlain came took
+
+handled_as : {T : Type 0} (came : Transmit T) (handled : Bool) (took : TurnRecvRet T) → IsHandledAs came handled took → IsPlain came took
+handled_as came true took is = Took is
+handled_as came false took is = Gave is
+
+module _ {T : Type 0} (items : T → List ℕ) (c : Client) (sound : IsSound c) (came : Transmit T) (now : ℕ) (took : TurnRecvRet T) (new : Protocol) where
+  abbrev bytes : List ℕ
+  bytes = items came.bytes
+
+  given_back : IsGivenBack c.core came took new → IsTakenUp c bytes came took new
+  given_back is = record { step = still c (bytes ∷ []) new sound is.1; plain = Gave is.0 }
+
+  message_taken : AreBytes bytes → refusal bytes ≡ None → IsMessageTaken c.core bytes came now took new → IsTakenUp c bytes came took new
+  message_taken are_bytes message (Heard handled heard is) = record { step = receive_step c bytes now handled new sound are_bytes message heard; plain = handled_as came handled took is }
+  message_taken are_bytes message (Lost is failed) = record { step = failed_step c new failed (bytes ∷ []); plain = Failed is }
+
+  read : (refused : Option StunParseError) → refusal bytes ≡ refused → AreBytes bytes → IsRead refused c.core bytes came now took new → IsTakenUp c bytes came took new
+  read None message are_bytes is = message_taken are_bytes message is
+  read (Some error) message are_bytes is = given_back is
+
+  pub received : AreBytes bytes → IsReceived items c.core came now took new → IsTakenUp c bytes came took new
+  received are_bytes (Own of_server is) = read (refusal bytes) refl are_bytes is
+  received are_bytes (Foreign other is) = given_back is
+
+-- an answer that draws and tells nothing
+quiet_answer : (c : Client) (came : List (List ℕ)) (ret : Answer) (new : Protocol) → IsQuiet ret → IsRunStep c came None [] new → IsAnswered c came ret new
+quiet_answer c came ret new is step = record {
+  step = subst (λ (o : Option (List ℕ)). IsRunStep c came o (notices_in ret) new) (sym is.draws) (subst (λ (l : List Notice). IsRunStep c came None l new) (sym is.tells) step);
+  no_payload = is.hands;
+  shows = is.shows new;
+}
+
+pub fed : (c : Client) (sound : IsSound c) (ret : Answer) (bytes : List ℕ) (from to : SocketAddr) (now : ℕ) (new : Protocol) → AreBytes bytes → IsFed ret c.core bytes from to now new → IsAnswered c (bytes ∷ []) ret new
+fed c sound ret bytes from to now new are_bytes is =
+    let came_bytes : AreBytes is.came.bytes.now = subst AreBytes (sym is.bytes_are) are_bytes in
+    let up = received (λ (b : Bor (List ℕ)). b.now) c sound is.came now is.took new came_bytes is.received in
+    quiet_answer c (bytes ∷ []) ret new (quiet is.came is.took ret up.plain is.told)
+    (subst (λ (b : List ℕ). IsRunStep c (b ∷ []) None [] new) is.bytes_are up.step)

@@ -1,0 +1,102 @@
+-- What the events of a world and their answers are in a run of a client and a desk.
+use Rattle.std.specs.Prelude.{◌≡◌, ℕ, ◌++◌, List, [], ◌∷◌, Option, Some, None}
+use Rattle.std.specs.List.{filter_map}
+use Rattle.std.specs.declared.net.socket_addr.SocketAddr.{SocketAddr}
+use Rattle.stun_types.specs.Grammar.{number_at}
+use Rattle.stun_types.specs.Headers.{AreBytes}
+use Rattle.turn_runs.specs.Messages.{Notice, Payload, FromPeer}
+use Rattle.turn_runs.specs.Runs.{Step, AtClient, AtDesk}
+use Rattle.turn_runs.specs.Steps.{Call}
+use Rattle.turn_client_proto.specs.Drawing.{sent_of}
+use Rattle.turn_client_proto_steps.specs.ClientWords.{notice_of}
+use Rattle.turn_client_proto_steps.specs.RunClient.{Client}
+use Rattle.turn_desk_grant.specs.declared.decision.Decision.{Decision}
+use Rattle.turn_desk_event.specs.declared.answer.Answer.{Answer}
+use Rattle.turn_desk_event.specs.declared.answer.Answer.TheVariants as answer
+use Rattle.turn_desk_event.specs.declared.event.Event.{Event}
+use Rattle.turn_desk_event.specs.declared.event.Event.TheVariants as event
+use Rattle.turn_desk_steps.specs.DeskRun.{CanBeTold, DeskCall}
+use Rattle.turn_desk_world.specs.Desks.{words_of}
+use Rattle.turn_desk_world.specs.Model.{World}
+
+-- ---- what an answer tells
+
+-- the bytes that the client sends
+abbrev pub bytes_sent : Answer → Option (List ℕ)
+bytes_sent (answer.Transmit transmit) = Some (sent_of transmit).bytes
+bytes_sent _ = None
+
+-- the desk's reply
+abbrev pub reply_in : Answer → Option (List ℕ)
+reply_in (answer.Reply reply) = Some reply.items
+reply_in _ = None
+
+-- what the client tells as created
+abbrev pub notices_in : Answer → List Notice
+notices_in (answer.Event told) = filter_map notice_of (told ∷ [])
+notices_in _ = []
+
+-- the payloads that the client hands over
+abbrev pub payloads_in : Answer → List Payload
+payloads_in (answer.Peer peer_data) = FromPeer peer_data.transport peer_data.peer ∷ []
+payloads_in (answer.Icmp transport peer kind code report) = FromPeer transport peer ∷ []
+payloads_in _ = []
+
+-- ---- a step
+
+-- a call of the client, to which these bytes came: it draws, tells and hands over what the answer says
+pub record IsCallOf (old new : World) (came : List (List ℕ)) (answer : Answer) (call : Call Client) : Type 0 where
+  pub before : old.client ≡ Some call.before.core
+  pub after : new.client ≡ Some call.after.core
+  pub came_is : call.came ≡ came
+  pub handled_is : call.handled ≡ came
+  pub drawn_is : call.drawn ≡ bytes_sent answer
+  pub answered_is : call.answered ≡ notices_in answer
+  pub payloads_are : call.payloads ≡ payloads_in answer
+
+-- what reached the desk, and what it made of it
+abbrev pub desk_call : World → List ℕ → SocketAddr → ℕ → Decision → List ℕ → Answer → World → DeskCall
+desk_call old bytes from now decision seed answer new = record {
+  before = old.desk;
+  source = from;
+  bytes = bytes;
+  now = now;
+  stream = words_of seed;
+  decision = decision;
+  reply = reply_in answer;
+  after = new.desk;
+}
+
+-- a step of a run is this event with its answer
+abbrev pub IsStepBy : Event → Answer → World → Step Client DeskCall → World → Type 0
+IsStepBy (event.Call call now) answer old (AtClient c) new = IsCallOf old new [] answer c
+IsStepBy (event.Draw now) answer old (AtClient c) new = IsCallOf old new [] answer c
+IsStepBy (event.ToClient bytes from to now) answer old (AtClient c) new = IsCallOf old new (bytes.items ∷ []) answer c
+IsStepBy (event.ToDesk bytes from now decision seed) answer old (AtDesk d) new =
+    d ≡ desk_call old bytes.items from now decision seed answer new
+IsStepBy _ answer old _ new = ⊥
+
+-- ---- a run
+
+-- a step of the run is each event with its answer, the first event's step the last in the list
+unfoldable pub IsToldBy : World → List (Event × Answer) → List (Step Client DeskCall) → World → Type 0
+IsToldBy old [] run new = (run ≡ []) × (new ≡ old)
+IsToldBy old (pair ∷ pairs) run new =
+    (next : World) × (one : Step Client DeskCall) × (later : List (Step Client DeskCall))
+    × (run ≡ later ++ one ∷ []) × IsStepBy pair.0 pair.1 old one next × IsToldBy next pairs later new
+
+-- ---- what is taken for granted of events and answers
+
+-- bytes are bytes, and what the driver decides can be told in a response
+abbrev pub IsFairEvent : Event → Type 0
+IsFairEvent (event.Call call now) = Unit {0}
+IsFairEvent (event.Draw now) = Unit {0}
+IsFairEvent (event.ToClient bytes from to now) = AreBytes bytes.items
+IsFairEvent (event.ToDesk bytes from now decision seed) = AreBytes bytes.items × CanBeTold (number_at bytes.items) decision
+
+abbrev pub IsFairAnswer : Answer → Type 0
+IsFairAnswer (answer.Reply reply) = AreBytes reply.items
+IsFairAnswer _ = Unit {0}
+
+abbrev pub IsFair : Event × Answer → Type 0
+IsFair pair = IsFairEvent pair.0 × IsFairAnswer pair.1
