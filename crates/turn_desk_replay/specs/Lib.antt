@@ -1,12 +1,9 @@
-pub mod Address
-pub mod Answer
-pub mod Bytes
-pub mod Decision
-pub mod Event
-pub mod TraceLines
-pub mod TraceNumbers
+-- The definitions that the contracts of a replay cite, each file under its own name; and those of the crates below.
+pub mod Answers
+pub mod Happenings
+pub mod Progress
 pub mod Replay
-pub mod Setup
+pub mod Settings
 -- What stands above this crate has these through it.
 pub use Rattle.turn_desk_core.specs.AskedFor
 pub use Rattle.turn_desk_core.specs.AuthLending
@@ -20,3 +17,19 @@ pub use Rattle.turn_desk_core.specs.Requests
 pub use Rattle.turn_desk_core.specs.State
 pub use Rattle.turn_desk_core.specs.Steps
 pub use Rattle.turn_desk_core.specs.Verdicts
+pub use Rattle.turn_desk_trace.specs.Address
+pub use Rattle.turn_desk_trace.specs.Answer
+pub use Rattle.turn_desk_trace.specs.Bytes
+pub use Rattle.turn_desk_trace.specs.Decision
+pub use Rattle.turn_desk_trace.specs.Event
+pub use Rattle.turn_desk_trace.specs.Setup
+pub use Rattle.turn_desk_trace.specs.TraceLines
+pub use Rattle.turn_desk_trace.specs.TraceNumbers
+pub use Rattle.turn_desk_world.specs.Beginning
+pub use Rattle.turn_desk_world.specs.Calls
+pub use Rattle.turn_desk_world.specs.Clients
+pub use Rattle.turn_desk_world.specs.Config
+pub use Rattle.turn_desk_world.specs.Desks
+pub use Rattle.turn_desk_world.specs.Kept
+pub use Rattle.turn_desk_world.specs.Model
+pub use Rattle.turn_desk_world.specs.Runs

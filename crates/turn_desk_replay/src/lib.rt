@@ -1,23 +1,14 @@
-//! The trace: a written list of what reaches a desk, one line for each event, and the replay that
-//! prints what each is answered. `docs/TRACE.md` has the language.
+//! The replay of a trace: a written list of what happens to a client and to a desk, one line for each
+//! event, of which it prints what each is answered. `docs/TRACE.md` has the language.
 //!
-//! The words of a line are read as numbers ([`number`]), addresses ([`address`]), bytes
-//! ([`bytes`]), decisions ([`decision`]) and then as a [`line`]. The [`trace`] does
-//! what each line says.
+//! [`progress`] does what a line says, and [`trace`] does so line by line.
 #![tactic(auto)]
 
-pub mod address;
-pub mod answer;
-pub mod bytes;
-pub mod decision;
-pub mod event;
-pub mod line;
-pub mod number;
-pub mod setup;
+mod progress;
+pub mod setting;
 pub mod trace;
 
 // What stands above this crate has these through it.
-pub use turn_desk_core::decision::Decision;
-pub use turn_desk_core::desk::Desk;
-pub use turn_desk_core::grant::Grant;
-pub use turn_desk_core::laws;
+pub use turn_desk_core::{decision, desk, grant, laws};
+pub use turn_desk_event::{answer, event};
+pub use turn_desk_world::{client, world};

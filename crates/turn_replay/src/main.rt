@@ -5,7 +5,7 @@
 
 use std::io;
 use std::process::ExitCode;
-use turn_desk::replay;
+use turn_desk_replay::trace::replay;
 
 fn main(rt: HostRuntime) -> ExitCode {
     let status = replay(rt.alloc(), &mut rt.reader(), &mut io::writer(&rt));

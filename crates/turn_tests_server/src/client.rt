@@ -61,7 +61,7 @@ const STRONGER_REPLY: &str =
     "010300242112a442000000000000000000007392001c0020550a7b75133ca916599014530ef15cd078dbb719f4a9dc72f990ad4bb61066c7";
 
 /// A client with these settings.
-pub(crate) fn client_with(
+fn client_with(
     alloc: Global,
     algorithms: &str,
     anonymity: &str,
@@ -93,10 +93,7 @@ fn answer(
 }
 
 /// What a client answers to a message.
-pub(crate) fn answer_to(
-    client: &mut LongTermClientAuth,
-    bytes: &[u8],
-) -> Result<&'static str, Fail> {
+fn answer_to(client: &mut LongTermClientAuth, bytes: &[u8]) -> Result<&'static str, Fail> {
     let message = Message::from_bytes(bytes)?;
     Ok(match client.validate_incoming_message(&message) {
         Ok(Answer::ResendRequest(IntegrityAlgorithm::Sha1)) => "resend-sha1",
@@ -111,10 +108,7 @@ pub(crate) fn answer_to(
 }
 
 /// The ALLOCATE request that a client signs.
-pub(crate) fn request(
-    alloc: Global,
-    client: &LongTermClientAuth,
-) -> Result<Vec<u8>, StunWriteError> {
+fn request(alloc: Global, client: &LongTermClientAuth) -> Result<Vec<u8>, StunWriteError> {
     let writer = begun(alloc, MessageClass::Request)?;
     let signed = client.sign_outgoing_message(writer)?;
     Ok(signed.finish())

@@ -25,7 +25,7 @@ use stun_types::message::{
 };
 
 /// The first nonce of the zero seed.
-pub(crate) const NONCE: &str = "obMatJos2QAAAgyiDbICXwPDaQ1ha";
+const NONCE: &str = "obMatJos2QAAAgyiDbICXwPDaQ1ha";
 
 /// A request of `MESSAGES` that is validated, and one that is not signed.
 const SIGNED: &str =
@@ -130,10 +130,7 @@ pub(crate) fn answer(
 }
 
 /// What a server answers to a message from the client, in the first moment and with the zero seed.
-pub(crate) fn answer_from_server(
-    server: &mut LongTermServerAuth,
-    bytes: &[u8],
-) -> Result<&'static str, Fail> {
+fn answer_from_server(server: &mut LongTermServerAuth, bytes: &[u8]) -> Result<&'static str, Fail> {
     let message = Message::from_bytes(bytes)?;
     let from = CLIENT.parse::<SocketAddr>()?;
     let mut words = ChaCha20Rng::from_seed([0; 32]);
@@ -223,7 +220,7 @@ pub(crate) fn begun(alloc: Global, class: MessageClass) -> Result<MessageWriteVe
 }
 
 /// What a server makes of a message of a class that goes to an address, by either call.
-pub(crate) fn signed(
+fn signed(
     alloc: Global,
     server: &LongTermServerAuth,
     class: MessageClass,

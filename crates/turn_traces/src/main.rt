@@ -5,7 +5,7 @@
 
 use std::io;
 use std::io::Read;
-use turn_desk::replay;
+use turn_desk_replay::trace::replay;
 
 fn main(rt: HostRuntime) -> io::Result<()> {
     let mut traces = Vec::new(rt.alloc());

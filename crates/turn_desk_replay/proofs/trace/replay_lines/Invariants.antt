@@ -1,15 +1,15 @@
 use Rattle.std.proofs.Common.{length}
-use Rattle.std.specs.List.{AllByRecursion}
+use Rattle.std.specs.Prelude.{◌+◌, ◌≤◌}
 use Rattle.program_lines.specs.Cut.{lines_of}
-use Rattle.turn_desk_replay.specs.TraceLines.{IsReadable}
-use Rattle.turn_desk_replay.specs.Replay.{PrintsAnswers}
+use Rattle.turn_desk_replay.specs.Progress.{progress_of}
+use Rattle.turn_desk_replay.proofs.Replays.{Stands}
 use Rattle.turn_desk_replay.proofs.trace.replay_lines.Given as goal
 
--- the lines so far printed answers alone, and the trace can be read if what is left of it can
+-- what was printed goes on with what is left, and lines are counted by the bytes that were passed at most
 abbrev pub invariant-lines : goal.invariant-lines
 invariant-lines g l =
-    PrintsAnswers (g.O.Write.contents l.fn.output) (g.O.Write.contents l.output)
-    × (AllByRecursion IsReadable (lines_of l.rest) → AllByRecursion IsReadable (lines_of l.trace))
+    Stands (lines_of l.trace) (g.O.Write.contents l.fn.output) (g.O.Write.contents l.output) (progress_of l.progress) l.number (lines_of l.rest)
+    × (l.number + length l.rest ≤ length l.trace + 1)
 
 -- what is left to read grows shorter
 abbrev pub decreases-lines : goal.decreases-lines

@@ -1,0 +1,888 @@
+#!/usr/bin/env python3
+"""Makes traces of a client and a desk, and what their events are answered (`docs/TRACE.md`).
+
+It knows nothing of the repository's code. Messages are written here by RFC 8489 and RFC 8656, signed by
+HMAC, and numbered from ChaCha20 words of a seed of zeros, three a number, the first of them highest. The
+moments were worked out by hand, from the waits that a client is documented to have. It was run once, and
+what it wrote is stored: three examples, and the traces of a client and a desk in the stored run of
+`turn_traces`, behind those of a desk alone.
+"""
+
+import hashlib
+import hmac
+import socket
+import struct
+from pathlib import Path
+
+TOP = Path(__file__).resolve().parent.parent
+MAGIC = 0x2112A442
+# the first nonces that a server draws from a seed of zeros, by its features: the first bit where it knows
+# more than MD5, the second where it takes a hashed name
+NONCES = {bits: b"obMatJos2" + bits + b"gyiDbICXwPDaQ1ha" for bits in (b"AAAA", b"QAAA", b"gAAA", b"wAAA")}
+CLIENT, SERVER, RELAYED = "192.168.0.1:1000", "10.0.0.2:2000", "203.0.113.5:50000"
+OTHER, SIXTH = "10.0.0.4:40000", "[::1]:40000"
+
+ALLOCATE, REFRESH, BINDING, SUCCESS, ERROR, INDICATION = 0x003, 0x004, 0x001, 0x100, 0x110, 0x010
+USERNAME, INTEGRITY, ERROR_CODE, UNKNOWN, LIFETIME, PEER = 0x06, 0x08, 0x09, 0x0A, 0x0D, 0x12
+REALM, NONCE, RELAYED_KIND, FAMILY, TRANSPORT, DONT_FRAGMENT = 0x14, 0x15, 0x16, 0x17, 0x19, 0x1A
+INTEGRITY_SHA256, PASSWORD_ALGORITHM, USERHASH, MAPPED = 0x1C, 0x1D, 0x1E, 0x20
+ADDITIONAL_FAMILY, PASSWORD_ALGORITHMS = 0x8000, 0x8002
+
+MS = 1_000_000
+SECOND = 1000 * MS
+
+
+# ---- ChaCha20 (RFC 8439, section 2.3), of a key of zeros
+
+
+def rotated(x, n):
+    return ((x << n) | (x >> (32 - n))) & 0xFFFFFFFF
+
+
+def quarter(w, a, b, c, d):
+    for one, other, third, by in ((a, b, d, 16), (c, d, b, 12), (a, b, d, 8), (c, d, b, 7)):
+        w[one] = (w[one] + w[other]) & 0xFFFFFFFF
+        w[third] = rotated(w[third] ^ w[one], by)
+
+
+def block(number):
+    start = [0x61707865, 0x3320646E, 0x79622D32, 0x6B206574, *[0] * 8, number, 0, 0, 0]
+    w = start[:]
+    for _ in range(10):
+        for i in range(4):
+            quarter(w, i, i + 4, i + 8, i + 12)
+        for i in range(4):
+            quarter(w, i, 4 + (i + 1) % 4, 8 + (i + 2) % 4, 12 + (i + 3) % 4)
+    return [(a + b) & 0xFFFFFFFF for a, b in zip(w, start)]
+
+
+WORDS = block(0) + block(1) + block(2)
+
+
+def number(k):
+    return struct.pack(">III", *WORDS[3 * k : 3 * k + 3])
+
+
+# ---- messages
+
+
+def attribute(kind, value):
+    return struct.pack(">HH", kind, len(value)) + value + bytes(-len(value) % 4)
+
+
+SHA1, SHA256 = (INTEGRITY, "sha1", "md5"), (INTEGRITY_SHA256, "sha256", "sha256")
+
+
+def message(kind, transaction, attributes, signed=None, realm=b"realm"):
+    """A message, signed by `SHA1` or `SHA256` where it is, under the key of the user in a realm."""
+    body = b"".join(attribute(*it) for it in attributes)
+    if signed is None:
+        return struct.pack(">HHI", kind, len(body), MAGIC) + transaction + body
+    integrity, digest, key = signed
+    size = hashlib.new(digest).digest_size
+    text = struct.pack(">HHI", kind, len(body) + 4 + size, MAGIC) + transaction + body
+    key = hashlib.new(key, b"user:" + realm + b":pass").digest()
+    return text + attribute(integrity, hmac.new(key, text, digest).digest())
+
+
+def xored(address, transaction):
+    host, port = address.rsplit(":", 1)
+    mask = struct.pack(">I", MAGIC) + transaction
+    if host[0] == "[":
+        family, raw = 2, socket.inet_pton(socket.AF_INET6, host[1:-1])
+    else:
+        family, raw = 1, socket.inet_pton(socket.AF_INET, host)
+    hidden = bytes(a ^ b for a, b in zip(raw, mask))
+    return bytes([0, family]) + struct.pack(">H", int(port) ^ (MAGIC >> 16)) + hidden
+
+
+def relayed(address, k):
+    return RELAYED_KIND, xored(address, number(k))
+
+
+def lifetime(seconds):
+    return LIFETIME, struct.pack(">I", seconds)
+
+
+def code(value, reason=b""):
+    return ERROR_CODE, struct.pack(">HBB", 0, value // 100, value % 100) + reason
+
+
+UDP = (TRANSPORT, b"\x11\0\0\0")
+V6 = b"\2\0\0\0"
+NAMED = [(USERNAME, b"user"), (REALM, b"realm"), (NONCE, b"nonce")]
+# a challenge of a server that is no desk of ours, and tells no features
+REFUSED = [(REALM, b"realm"), (NONCE, b"nonce"), code(401)]
+STALE = [code(438), (REALM, b"realm"), (NONCE, b"nonce")]
+
+
+def hashed(bits):
+    name = hashlib.sha256(b"user:realm").digest()
+    return [(USERHASH, name), (REALM, b"realm"), (NONCE, NONCES[bits])]
+
+
+def first(*families):
+    return message(ALLOCATE, number(0), [lifetime(1800), UDP, (DONT_FRAGMENT, b""), *families])
+
+
+def signed_allocate(k, credentials, *families, by=SHA1, realm=b"realm"):
+    return message(ALLOCATE, number(k), [UDP, lifetime(1800), *families, *credentials], by, realm)
+
+
+def refresh(k, seconds, credentials):
+    return message(REFRESH, number(k), [lifetime(seconds), *credentials], SHA1)
+
+
+def challenge(k, bits=b"QAAA", lists=(), reason=code(401, b"Unauthorized")):
+    """The desk's own."""
+    return message(ALLOCATE | ERROR, number(k), [reason, (REALM, b"realm"), (NONCE, NONCES[bits]), *lists])
+
+
+def grant(k, by=SHA1):
+    """The desk's own."""
+    told = [relayed(RELAYED, k), lifetime(600), (MAPPED, xored(CLIENT, number(k)))]
+    return message(ALLOCATE | SUCCESS, number(k), told, by)
+
+
+def success(method, k, *attributes):
+    return message(method | SUCCESS, number(k), attributes, SHA1)
+
+
+def error(method, k, *attributes):
+    return message(method | ERROR, number(k), attributes, SHA1)
+
+
+def unsigned(kind, k, attributes):
+    return message(kind, number(k), attributes)
+
+
+# ---- traces
+
+
+def setup(families="4", algorithms="sha1", anonymity="auto", desk="sha1 auto", rto=""):
+    return (
+        f"desk realm {desk}\nuser user pass\n{rto}"
+        f"client udp {CLIENT} {SERVER} udp {families} {algorithms} {anonymity} user pass 0\n"
+    )
+
+
+class Trace:
+    """Lines, and what each event line is answered."""
+
+    def __init__(self, lines):
+        self.lines, self.answers, self.events = lines, "", 0
+
+    def say(self, line, answer):
+        self.lines += line + "\n"
+        self.answers += answer + "\n"
+        self.events += 1
+        return self.events
+
+    def draw(self, now, text):
+        sent = "none" if text is None else f"transmit {CLIENT} {SERVER} {text.hex()}"
+        return self.say(f"draw {now}", sent)
+
+    def ask(self, now, what, decision, text, seed=0, source=CLIENT):
+        reply = "none" if text is None else f"reply {text.hex()}"
+        return self.say(f"todesk {now} {source} {what} {seed} {decision}", reply)
+
+    def hear(self, now, what, answer="handled", source=SERVER, to=CLIENT):
+        what = what if isinstance(what, str) else what.hex() or "-"
+        return self.say(f"toclient {now} {source} {to} {what}", answer)
+
+    def poll(self, now, answer):
+        return self.say(f"poll {now}", "closed" if answer is None else f"wait {answer}")
+
+    def event(self, what):
+        return self.say("event", what if what == "none" else "event " + what)
+
+    def shows(self, *addresses):
+        return self.say("relayed", " ".join(["relayed", *(f"udp {it}" for it in addresses)]))
+
+    def is_created(self, *addresses):
+        for it in addresses:
+            self.event(f"AllocationCreated udp {it}")
+        return self.shows(*addresses)
+
+    def fails(self, now, family="4"):
+        """It is told that no address is allocated, and the client has ended."""
+        self.event(f"AllocationCreateFailed {family}")
+        self.poll(now, None)
+        return self.shows()
+
+    # ---- with a desk
+
+    def challenged(self):
+        """The first ALLOCATE, and its challenge."""
+        drawn = self.draw(0, first())
+        return self.ask(0, f"@{drawn}", "refuse 400", challenge(0))
+
+    def granted(self):
+        """The same, and the ALLOCATE that is signed, and granted: the number of the reply's line."""
+        self.hear(0, f"@{self.challenged()}")
+        self.poll(0, 50 * MS)
+        drawn = self.draw(50 * MS, signed_allocate(1, hashed(b"QAAA")))
+        return self.ask(50 * MS, f"@{drawn}", f"allocate {RELAYED} 600", grant(1))
+
+    def held(self):
+        """The same, and the client is told."""
+        line = self.granted()
+        self.hear(50 * MS, f"@{line}")
+        self.is_created(RELAYED)
+        return line
+
+    # ---- with a server that is no desk of ours
+
+    def refused(self, *families):
+        """The first ALLOCATE is challenged, and the one that is signed goes out at 50 ms."""
+        self.draw(0, first(*families))
+        self.hear(0, unsigned(ALLOCATE | ERROR, 0, REFUSED))
+        self.poll(0, 50 * MS)
+        self.draw(50 * MS, signed_allocate(1, NAMED, *families))
+
+    def allocated(self):
+        """It is granted for 1000 seconds. The moment at which it is to be renewed, a minute before its end."""
+        self.refused()
+        self.hear(50 * MS, success(ALLOCATE, 1, relayed(OTHER, 1), lifetime(1000)))
+        self.is_created(OTHER)
+        self.poll(50 * MS, 940 * SECOND + 50 * MS)
+        return 940 * SECOND + 50 * MS
+
+    def renews(self):
+        """The same, and the REFRESH goes out."""
+        now = self.allocated()
+        self.draw(now, refresh(2, 1800, NAMED))
+        return now
+
+
+# when an allocation ends that was granted at 50 ms for 1000 seconds
+END = 1000 * SECOND + 50 * MS
+
+
+# ---- a client and a desk
+
+
+def handshake():
+    t = Trace(setup())
+    t.held()
+    return "A client is challenged, and granted", t
+
+
+def forged_grant():
+    t = Trace(setup())
+    line = t.granted()
+    size = len(grant(1))
+    t.hear(50 * MS, f"@{line}:0:27+43+@{line}:28:{size}")
+    t.shows()
+    t.poll(50 * MS, 50 * MS)
+    t.fails(50 * MS)
+    return "A byte of the relayed address is changed on the way: the client ends", t
+
+
+def repeated_grant():
+    t = Trace(setup())
+    line = t.held()
+    t.hear(50 * MS, f"@{line}", "ignored")
+    t.event("none")
+    t.shows(RELAYED)
+    return "A success comes twice: it counts once", t
+
+
+def reflected_request():
+    t = Trace(setup())
+    line = t.granted()
+    size = len(grant(1))
+    t.hear(50 * MS, f"@{line - 1}", "ignored")
+    t.hear(50 * MS, f"01030020+@{line}:4:{size - 24}", "ignored")
+    t.shows()
+    t.hear(50 * MS, f"@{line}")
+    t.is_created(RELAYED)
+    return "The client's own request comes back, and a success that isn't signed: neither counts, the true one does", t
+
+
+def address_behind_the_signature():
+    t = Trace(setup())
+    line = t.granted()
+    size = len(grant(1))
+    t.hear(50 * MS, f"01030044+@{line}:4:{size}+001600080001e242ea12d546")
+    t.is_created(RELAYED)
+    t.event("none")
+    return "An address stands behind the signature of a success: it doesn't count", t
+
+
+def added_signature():
+    t = Trace(setup())
+    line = t.granted()
+    size = len(grant(1))
+    t.hear(50 * MS, f"0103005c+@{line}:4:{size}+001c0020{'00' * 32}")
+    t.fails(50 * MS)
+    return "A second signature is added to a success, and it is wrong: the client ends", t
+
+
+def foreign_datagrams():
+    t = Trace(setup())
+    line = t.challenged()
+    t.hear(0, f"@{line}", "ignored", source="10.0.0.3:2000")
+    t.hear(0, f"@{line}", "ignored", to="192.168.0.2:1000")
+    t.hear(0, "00", "ignored")
+    t.hear(0, "-", "ignored")
+    return "From another address, to another one, and what is no message", t
+
+
+def forged_challenge():
+    t = Trace(setup())
+    t.draw(0, first())
+    told = [code(401, b"Unauthorized"), (REALM, b"evil"), (NONCE, b"n")]
+    t.hear(0, unsigned(ALLOCATE | ERROR, 0, told))
+    named = [(USERNAME, b"user"), (REALM, b"evil"), (NONCE, b"n")]
+    drawn = t.draw(50 * MS, signed_allocate(1, named, realm=b"evil"))
+    stale = t.ask(50 * MS, f"@{drawn}", "refuse 400", challenge(1, reason=code(438, b"Stale Nonce")))
+    t.hear(50 * MS, f"@{stale}")
+    t.poll(50 * MS, 100 * MS)
+    drawn = t.draw(100 * MS, signed_allocate(2, hashed(b"QAAA")))
+    line = t.ask(100 * MS, f"@{drawn}", f"allocate {RELAYED} 600", grant(2))
+    t.hear(100 * MS, f"@{line}")
+    t.is_created(RELAYED)
+    return "A forged challenge of another realm: the desk's own one mends it", t
+
+
+def repeated_challenge():
+    t = Trace(setup())
+    line = t.challenged()
+    t.hear(0, f"@{line}")
+    t.hear(0, f"@{line}", "ignored")
+    t.draw(50 * MS, signed_allocate(1, hashed(b"QAAA")))
+    t.draw(100 * MS, None)
+    return "A challenge comes twice: the request is signed anew once", t
+
+
+def ten_challenges():
+    t = Trace(setup())
+    t.draw(0, first())
+    for k in range(9):
+        t.hear(50 * MS * k, unsigned(ALLOCATE | ERROR, k, REFUSED))
+        t.draw(50 * MS * (k + 1), signed_allocate(k + 1, NAMED))
+    t.hear(450 * MS, unsigned(ALLOCATE | ERROR, 9, REFUSED))
+    t.fails(450 * MS)
+    return "Ten challenges, one behind the other: nine are answered, and the tenth ends the client", t
+
+
+def what_a_desk_passes_by():
+    t = Trace(setup())
+    line = t.challenged()
+    t.ask(0, f"@{line}", "grant", None)
+    t.ask(0, unsigned(BINDING | INDICATION, 5, []).hex(), "grant", None)
+    t.ask(0, unsigned(ALLOCATE | SUCCESS, 5, []).hex(), "grant", None)
+    t.ask(0, f"@{line}:0:19", "grant", None)
+    return "A desk's own reply, an indication, a response, and nineteen bytes: it answers none of them", t
+
+
+def both_algorithms():
+    t = Trace(setup(algorithms="sha1,sha256", desk="sha1,sha256 auto"))
+    drawn = t.draw(0, first())
+    offered = (PASSWORD_ALGORITHMS, b"\0\1\0\0\0\2\0\0")
+    line = t.ask(0, f"@{drawn}", "refuse 400", challenge(0, b"wAAA", [offered]))
+    t.hear(0, f"@{line}")
+    chosen = [*hashed(b"wAAA"), offered, (PASSWORD_ALGORITHM, b"\0\2\0\0")]
+    drawn = t.draw(50 * MS, signed_allocate(1, chosen, by=SHA256))
+    line = t.ask(50 * MS, f"@{drawn}", f"allocate {RELAYED} 600", grant(1, SHA256))
+    t.hear(50 * MS, f"@{line}")
+    t.is_created(RELAYED)
+    return "Both sides know SHA-256: it is taken", t
+
+
+def the_weaker_algorithm():
+    t = Trace(setup(desk="sha1,sha256 auto"))
+    drawn = t.draw(0, first())
+    offered = (PASSWORD_ALGORITHMS, b"\0\1\0\0\0\2\0\0")
+    line = t.ask(0, f"@{drawn}", "refuse 400", challenge(0, b"wAAA", [offered]))
+    t.hear(0, f"@{line}")
+    chosen = [*hashed(b"wAAA"), offered, (PASSWORD_ALGORITHM, b"\0\1\0\0")]
+    drawn = t.draw(50 * MS, signed_allocate(1, chosen))
+    line = t.ask(50 * MS, f"@{drawn}", f"allocate {RELAYED} 600", grant(1))
+    t.hear(50 * MS, f"@{line}")
+    t.is_created(RELAYED)
+    return "The client knows SHA-1 alone: that is taken", t
+
+
+def no_common_algorithm():
+    t = Trace(setup(desk="sha256 auto"))
+    drawn = t.draw(0, first())
+    offered = (PASSWORD_ALGORITHMS, b"\0\2\0\0")
+    line = t.ask(0, f"@{drawn}", "refuse 400", challenge(0, b"wAAA", [offered]))
+    t.hear(0, f"@{line}")
+    t.fails(0)
+    return "The two sides have no algorithm in common: the client ends", t
+
+
+def no_hashed_names():
+    t = Trace(setup(anonymity="required", desk="sha1 disabled"))
+    drawn = t.draw(0, first())
+    line = t.ask(0, f"@{drawn}", "refuse 400", challenge(0, b"AAAA"))
+    t.hear(0, f"@{line}")
+    t.fails(0)
+    return "The client wants its name to be hashed, and the desk takes no such name: the client ends", t
+
+
+def lost_replies():
+    t = Trace(setup())
+    t.challenged()
+    t.poll(0, 500 * MS)
+    t.draw(500 * MS - 1, None)
+    drawn = t.draw(500 * MS, first())
+    line = t.ask(500 * MS, f"@{drawn}", "refuse 400", challenge(0))
+    t.hear(500 * MS, f"@{line}")
+    t.poll(500 * MS, 550 * MS)
+    drawn = t.draw(550 * MS, signed_allocate(1, hashed(b"QAAA")))
+    t.ask(550 * MS, f"@{drawn}", f"allocate {RELAYED} 600", grant(1))
+    # the waits of a request begin when it is made, which is when the challenge comes
+    t.poll(550 * MS, 1000 * MS)
+    drawn = t.draw(1000 * MS, signed_allocate(1, hashed(b"QAAA")))
+    line = t.ask(1000 * MS, f"@{drawn}", f"allocate {RELAYED} 600", grant(1))
+    t.hear(1000 * MS, f"@{line}")
+    t.is_created(RELAYED)
+    return "The first reply is lost, and so is the grant: each request goes out again, and the client is granted", t
+
+
+def lost_reply():
+    t = Trace(setup())
+    t.challenged()
+    t.poll(0, 500 * MS)
+    t.draw(500 * MS - 1, None)
+    drawn = t.draw(500 * MS, first())
+    line = t.ask(500 * MS, f"@{drawn}", "refuse 400", challenge(0))
+    t.poll(500 * MS, 1500 * MS)
+    t.draw(1500 * MS, first())
+    t.hear(1500 * MS, f"@{line}")
+    t.poll(1500 * MS, 1550 * MS)
+    t.draw(1550 * MS, signed_allocate(1, hashed(b"QAAA")))
+    return "A reply is lost: the request goes out again, with the same bytes, until one comes", t
+
+
+def nobody_answers():
+    t = Trace(setup(rto="rto 600 1000 3 3000\n"))
+    for now, until in ((0, 600), (600, 1600), (1600, 4600)):
+        t.draw(now * MS, first())
+        t.draw(now * MS, None)
+        t.poll(now * MS, until * MS)
+    t.poll(4600 * MS - 1, 4600 * MS)
+    t.poll(4600 * MS, None)
+    t.fails(4600 * MS)
+    return "Nobody answers: three transmissions, and the end", t
+
+
+def deleted():
+    t = Trace(setup())
+    t.say("delete 0", "refused NoAllocation")
+    t.held()
+    t.say("delete 100000000", "ok")
+    t.shows()
+    drawn = t.draw(100 * MS, refresh(2, 0, hashed(b"QAAA")))
+    mismatch = error(REFRESH, 2, code(437, b"Allocation Mismatch"))
+    line = t.ask(100 * MS, f"@{drawn}", "refuse 437", mismatch)
+    t.hear(100 * MS, f"@{line}")
+    t.poll(100 * MS, None)
+    t.say("delete 100000000", "refused NoAllocation")
+    return "The allocation is deleted: a REFRESH of no time, answered by an error that there is none", t
+
+
+def renewed():
+    t = Trace(setup())
+    t.held()
+    t.poll(50 * MS, 540 * SECOND + 50 * MS)
+    now = 540 * SECOND + 50 * MS
+    t.draw(now - 1, None)
+    drawn = t.draw(now, refresh(2, 1800, hashed(b"QAAA")))
+    line = t.ask(now, f"@{drawn}", "refresh 600", success(REFRESH, 2, lifetime(600)))
+    t.hear(now, f"@{line}")
+    t.poll(600 * SECOND + 50 * MS, 1080 * SECOND + 50 * MS)
+    t.shows(RELAYED)
+    return "The allocation is renewed a minute before its end", t
+
+
+def repeated_renewal():
+    t = Trace(setup())
+    t.held()
+    first_renewal = 540 * SECOND + 50 * MS
+    second_renewal = first_renewal + 540 * SECOND
+    t.poll(50 * MS, first_renewal)
+    drawn = t.draw(first_renewal, refresh(2, 1800, hashed(b"QAAA")))
+    line = t.ask(first_renewal, f"@{drawn}", "refresh 600", success(REFRESH, 2, lifetime(600)))
+    t.hear(first_renewal, f"@{line}")
+    t.poll(first_renewal, second_renewal)
+    t.draw(second_renewal, refresh(3, 1800, hashed(b"QAAA")))
+    t.hear(second_renewal, f"@{line}", "ignored")
+    t.poll(second_renewal, second_renewal + 500 * MS)
+    t.poll(first_renewal + 600 * SECOND, None)
+    t.shows()
+    return "The grant of one REFRESH comes again where another is awaited: it doesn't count, and the time is over", t
+
+
+def error_above():
+    t = Trace(setup())
+    t.say("error", "ok")
+    t.poll(0, 0)
+    t.fails(0)
+    t.draw(0, None)
+    return "A layer above met an error", t
+
+
+def last_moment():
+    t = Trace(setup())
+    last = 2**62
+    t.poll(last, last)
+    t.draw(last, first())
+    t.say(f"draw {last + 1}", "out of range")
+    t.hear(last + 1, "00", "out of range")
+    t.say("poll 18446744073709551615", "out of range")
+    t.say(f"delete {last + 1}", "out of range")
+    return "The last moment at which something happens to a client, and the one behind it", t
+
+
+# ---- a client, and a server that is no desk of ours
+
+
+def nothing_yet():
+    t = Trace(setup())
+    t.poll(0, 0)
+    t.event("none")
+    t.shows()
+    return "A client of which nothing was asked", t
+
+
+def first_refused(name, kind, attributes):
+    t = Trace(setup())
+    t.draw(0, first())
+    t.hear(0, unsigned(kind, 0, attributes))
+    t.fails(0)
+    return name, t
+
+
+def first_answered():
+    realm, nonce = (REALM, b"realm"), (NONCE, b"nonce")
+    yield first_refused("The first ALLOCATE is a bad request", ALLOCATE | ERROR, [code(400, b"Bad Request")])
+    yield first_refused("No capacity, and a nonce without a realm", ALLOCATE | ERROR, [nonce, code(508)])
+    yield first_refused("No capacity, and a realm without a nonce", ALLOCATE | ERROR, [realm, code(508)])
+    yield first_refused("Realm and nonce, and no code", ALLOCATE | ERROR, [realm, nonce])
+    yield first_refused("No capacity, with realm and nonce", ALLOCATE | ERROR, [realm, nonce, code(508)])
+    yield first_refused("The first ALLOCATE is a success at once", ALLOCATE | SUCCESS, [realm, nonce])
+
+
+def request_for_a_response():
+    t = Trace(setup())
+    t.draw(0, first())
+    t.hear(0, unsigned(ALLOCATE, 9, []), "ignored")
+    return "A request comes where a response is awaited", t
+
+
+def default_timeout():
+    t = Trace(setup())
+    slots = [0, 500, 1500, 3500, 7500, 15500, 31500, 39500]
+    for now, until in zip(slots, slots[1:]):
+        t.draw(now * MS, first())
+        t.poll(now * MS, until * MS)
+    t.poll(39500 * MS, None)
+    t.fails(39500 * MS)
+    return "Nobody answers, with the waits of RFC 8489: seven transmissions, and the end", t
+
+
+def signed_refused(name, text):
+    t = Trace(setup())
+    t.refused()
+    t.hear(50 * MS, text)
+    t.fails(50 * MS)
+    return name, t
+
+
+def signed_answered():
+    yield signed_refused("The signed ALLOCATE is a bad request", error(ALLOCATE, 1, code(400, b"Bad Request")))
+    yield signed_refused("The signed ALLOCATE is refused without a code", error(ALLOCATE, 1))
+    yield signed_refused("A success without an address", success(ALLOCATE, 1, lifetime(1000)))
+    yield signed_refused("A success without a lifetime", success(ALLOCATE, 1, relayed(OTHER, 1)))
+
+
+def signed_request():
+    t = Trace(setup())
+    t.refused()
+    t.hear(50 * MS, message(ALLOCATE, number(9), [], SHA1), "ignored")
+    return "A signed request comes where a response is awaited", t
+
+
+def expired():
+    t = Trace(setup())
+    now = t.allocated()
+    t.poll(now + 61 * SECOND, None)
+    t.shows()
+    return "An allocation's time is over", t
+
+
+def stale_allocate():
+    t = Trace(setup())
+    t.refused()
+    t.hear(50 * MS, unsigned(ALLOCATE | ERROR, 1, STALE))
+    t.poll(50 * MS, 100 * MS)
+    t.draw(100 * MS, signed_allocate(2, NAMED))
+    t.hear(100 * MS, success(ALLOCATE, 2, relayed(OTHER, 2), lifetime(1000)))
+    t.is_created(OTHER)
+    return "The nonce of the signed ALLOCATE is stale: it is signed anew", t
+
+
+def half_stale():
+    t = Trace(setup())
+    t.refused()
+    t.hear(50 * MS, unsigned(ALLOCATE | ERROR, 1, [code(438), (NONCE, b"nonce")]), "ignored")
+    t.hear(50 * MS, unsigned(ALLOCATE | ERROR, 1, [code(438), (REALM, b"realm")]), "ignored")
+    t.hear(50 * MS, unsigned(ALLOCATE | ERROR, 1, [(REALM, b"realm"), (NONCE, b"nonce")]), "ignored")
+    t.hear(50 * MS, success(ALLOCATE, 1, relayed(OTHER, 1), lifetime(1000)))
+    t.is_created(OTHER)
+    return "Half a challenge, three times: none counts, and the success behind them does", t
+
+
+def family_unknown():
+    t = Trace(setup(families="6"))
+    t.refused((FAMILY, V6))
+    unknown = error(ALLOCATE, 1, code(420), (UNKNOWN, b"\0\x17"))
+    t.hear(50 * MS, unknown)
+    t.fails(50 * MS, "6")
+    return "The server knows no REQUESTED-ADDRESS-FAMILY", t
+
+
+def family_not_supported():
+    t = Trace(setup(families="4,6"))
+    t.refused((ADDITIONAL_FAMILY, V6))
+    t.hear(50 * MS, error(ALLOCATE, 1, code(440)))
+    t.event("AllocationCreateFailed 4")
+    t.shows()
+    t.poll(50 * MS, 100 * MS)
+    t.draw(100 * MS, signed_allocate(2, NAMED, (FAMILY, V6)))
+    t.hear(100 * MS, success(ALLOCATE, 2, relayed(SIXTH, 2), lifetime(1000)))
+    t.is_created(SIXTH)
+    return "The server has no addresses of IPv4: the client asks for IPv6 alone", t
+
+
+def both_families():
+    t = Trace(setup(families="4,6"))
+    t.refused((ADDITIONAL_FAMILY, V6))
+    t.hear(50 * MS, success(ALLOCATE, 1, relayed(SIXTH, 1), relayed(OTHER, 1), lifetime(1000)))
+    t.is_created(SIXTH, OTHER)
+    return "An address of each family", t
+
+
+def refresh_times_out():
+    t = Trace(setup())
+    now = t.renews()
+    slots = [0, 500, 1500, 3500, 7500, 15500, 31500, 39500]
+    for at, until in zip(slots, slots[1:]):
+        if at:
+            t.draw(now + at * MS, refresh(2, 1800, NAMED))
+        t.poll(now + at * MS, now + until * MS)
+    over = now + 39500 * MS
+    t.poll(over, over)
+    for at, until in zip(slots, slots[1:6]):
+        t.draw(over + at * MS, refresh(3, 1800, NAMED))
+        t.poll(over + at * MS, over + until * MS)
+    t.draw(over + 15500 * MS, refresh(3, 1800, NAMED))
+    t.poll(over + 15500 * MS, END)
+    t.poll(END, None)
+    t.shows()
+    t.poll(END + 60 * SECOND, None)
+    return "A REFRESH is not answered, nor is the next one: the allocation's time is over", t
+
+
+def refresh_answered(name, text):
+    """The REFRESH is answered by what renews nothing."""
+    t = Trace(setup())
+    now = t.renews()
+    t.hear(now, text)
+    t.poll(now, END)
+    t.shows(OTHER)
+    t.poll(now + 61 * SECOND, None)
+    t.shows()
+    return name, t
+
+
+def refreshes_answered():
+    yield refresh_answered("A REFRESH is granted without a lifetime: it renews nothing", success(REFRESH, 2))
+    yield refresh_answered("A REFRESH is refused: it renews nothing", error(REFRESH, 2))
+    for seconds in (0, 1, 599):
+        yield refresh_answered(
+            f"A REFRESH is granted for {seconds} seconds: it renews nothing", success(REFRESH, 2, lifetime(seconds))
+        )
+
+
+def stale_refresh():
+    t = Trace(setup())
+    now = t.renews()
+    t.hear(now, unsigned(REFRESH | ERROR, 2, STALE))
+    t.poll(now, now + 50 * MS)
+    now += 50 * MS
+    t.draw(now, refresh(3, 1800, NAMED))
+    t.hear(now, success(REFRESH, 3, lifetime(1000)))
+    t.poll(now + 61 * SECOND, now + 940 * SECOND)
+    t.shows(OTHER)
+    return "The nonce of a REFRESH is stale: it is signed anew, and granted", t
+
+
+def stale_refresh_lost():
+    t = Trace(setup())
+    now = t.renews()
+    t.hear(now, unsigned(REFRESH | ERROR, 2, STALE))
+    t.poll(now, now + 50 * MS)
+    t.draw(now + 50 * MS, refresh(3, 1800, NAMED))
+    t.poll(now + 61 * SECOND + 50 * MS, None)
+    t.shows()
+    return "The same, and the REFRESH that is signed anew is lost", t
+
+
+def stale_deletion():
+    t = Trace(setup())
+    t.allocated()
+    t.say("delete 50000000", "ok")
+    t.poll(50 * MS, 100 * MS)
+    t.draw(100 * MS, refresh(2, 0, NAMED))
+    t.hear(100 * MS, unsigned(REFRESH | ERROR, 2, STALE))
+    t.poll(100 * MS, 150 * MS)
+    t.draw(150 * MS, refresh(3, 0, NAMED))
+    t.hear(150 * MS, success(REFRESH, 3, lifetime(0)))
+    t.poll(150 * MS, None)
+    t.shows()
+    return "The nonce of a deletion is stale: it is signed anew, and granted", t
+
+
+def mismatched_deletion():
+    t = Trace(setup())
+    now = t.allocated()
+    t.say(f"delete {now}", "ok")
+    t.draw(now, refresh(2, 0, NAMED))
+    t.hear(now, error(REFRESH, 2, code(437)))
+    t.poll(now, None)
+    t.shows()
+    return "A deletion, answered by the error that there is no allocation", t
+
+# ---- settings of both sides
+
+
+def features(desk_algorithms, desk_anonymity):
+    """The four characters of a nonce: a list of algorithms is shown but where SHA-1 is the only one."""
+    has_list, hashes = desk_algorithms != ["sha1"], desk_anonymity != "disabled"
+    return {(False, False): b"AAAA", (False, True): b"QAAA", (True, False): b"gAAA", (True, True): b"wAAA"}[
+        has_list, hashes
+    ]
+
+
+def settings(algorithms, anonymity, desk_algorithms, desk_anonymity):
+    """A client and a desk of these settings: granted by the strongest algorithm that they have in common."""
+    t = Trace(
+        setup(
+            algorithms=",".join(algorithms),
+            anonymity=anonymity,
+            desk=f"{','.join(desk_algorithms)} {desk_anonymity}",
+        )
+    )
+    bits = features(desk_algorithms, desk_anonymity)
+    values = {"sha1": b"\0\1\0\0", "sha256": b"\0\2\0\0"}
+    offered = (PASSWORD_ALGORITHMS, b"".join(values[it] for it in desk_algorithms))
+    has_list, hashes = bits in (b"gAAA", b"wAAA"), bits in (b"QAAA", b"wAAA")
+    drawn = t.draw(0, first())
+    line = t.ask(0, f"@{drawn}", "refuse 400", challenge(0, bits, [offered] if has_list else []))
+    t.hear(0, f"@{line}")
+    common = [it for it in ("sha256", "sha1") if it in algorithms and it in desk_algorithms]
+    name = (
+        f"The client has {' and '.join(algorithms)}, {anonymity}; "
+        f"the desk has {' and '.join(desk_algorithms)}, {desk_anonymity}"
+    )
+    if not common or (anonymity == "required" and not hashes):
+        t.fails(0)
+        return name, t
+    is_hashed = hashes and anonymity != "disabled"
+    who = (USERHASH, hashlib.sha256(b"user:realm").digest()) if is_hashed else (USERNAME, b"user")
+    told = [who, (REALM, b"realm"), (NONCE, NONCES[bits])]
+    if has_list:
+        told += [offered, (PASSWORD_ALGORITHM, values[common[0]])]
+    by = SHA256 if common[0] == "sha256" else SHA1
+    drawn = t.draw(50 * MS, signed_allocate(1, told, by=by))
+    line = t.ask(50 * MS, f"@{drawn}", f"allocate {RELAYED} 600", grant(1, by))
+    t.hear(50 * MS, f"@{line}")
+    t.is_created(RELAYED)
+    return name, t
+
+
+def each_setting():
+    both = ["sha1", "sha256"]
+    for algorithms in (["sha1"], ["sha256"], both):
+        for desk_algorithms in (["sha1"], ["sha256"], both, both[::-1]):
+            for anonymity in ("auto", "required", "disabled"):
+                for desk_anonymity in ("auto", "disabled"):
+                    yield settings(algorithms, anonymity, desk_algorithms, desk_anonymity)
+
+
+def good_traces():
+    yield from (
+        handshake(), forged_grant(), repeated_grant(), reflected_request(),
+        address_behind_the_signature(), added_signature(), foreign_datagrams(), forged_challenge(),
+        repeated_challenge(), ten_challenges(), what_a_desk_passes_by(), both_algorithms(),
+        the_weaker_algorithm(), no_common_algorithm(), no_hashed_names(), lost_replies(), lost_reply(),
+        nobody_answers(), deleted(), renewed(), repeated_renewal(), error_above(), last_moment(),
+        nothing_yet(), *first_answered(), request_for_a_response(), default_timeout(),
+        *signed_answered(), signed_request(), expired(), stale_allocate(), half_stale(),
+        family_unknown(), family_not_supported(), both_families(), refresh_times_out(),
+        *refreshes_answered(), stale_refresh(), stale_refresh_lost(), stale_deletion(),
+        mismatched_deletion(), *each_setting(),
+    )
+
+
+DESK = "desk realm sha1 auto\nuser user pass\n"
+BOTH = setup()
+MADE = BOTH[len(DESK) :]
+
+
+def bad_traces():
+    """A remark, lines, what is printed before the bad one, and its number."""
+    rto = "rto 600 1000 3 3000\n"
+    yield "An event of the client, and no client", "desk realm sha1 auto\ndraw 0\n", "", 3
+    yield "An event, and no desk", MADE + "draw 0\n", "", 3
+    yield "Two clients", MADE + MADE, "", 3
+    yield "How long is waited, behind the client", MADE + rto, "", 3
+    yield "The same twice", rto + rto, "", 3
+    yield "A client over TCP", MADE.replace("udp 192", "tcp 192"), "", 2
+    yield "An allocation over TCP", MADE.replace("udp 4", "tcp 4"), "", 2
+    yield "One family twice", MADE.replace("udp 4", "udp 4,4"), "", 2
+    yield "Behind an event", BOTH + "relayed\n" + rto, "relayed\n", 6
+    yield "A moment too much", BOTH + "event 0\n", "", 5
+
+
+def all_traces():
+    """Each as its lines, and what is printed, with the status."""
+    for name, t in good_traces():
+        yield f"# {name}\n{t.lines}", t.answers + "status 0\n"
+    for name, lines, front, at in bad_traces():
+        yield f"# {name}\n{lines}", f"{front}bad trace: line {at}\nstatus 1\n"
+
+
+def store_examples():
+    for name, (remark, t) in (("handshake", handshake()), ("forged", forged_challenge()), ("lost", lost_replies())):
+        (TOP / f"examples/{name}.trace").write_text(f"# {remark}\n{t.lines}")
+        (TOP / f"examples/{name}.out").write_text(t.answers)
+
+
+def store_traces():
+    """Puts the traces in the place of those that stand there from the first of them on, or behind all."""
+    given, printed = (TOP / f"crates/turn_traces/{it}" for it in ("stdin", "stdout"))
+    before = given.read_bytes().split(b"%")
+    mark = b"# " + handshake()[0].encode()
+    names = [it.split(b"\n")[0] for it in before]
+    if mark in names:
+        del before[names.index(mark) :]
+    left, front = len(before), []
+    for line in printed.read_bytes().splitlines(keepends=True):
+        if left:
+            front.append(line)
+            left -= line.startswith(b"status ")
+    made = list(all_traces())
+    given.write_bytes(b"%".join(before + [it.encode() for it, _ in made]))
+    printed.write_bytes(b"".join(front + [it.encode() for _, it in made]))
+
+
+if __name__ == "__main__":
+    store_examples()
+    store_traces()

@@ -1,0 +1,27 @@
+use Rattle.std.proofs.Common.{ℕ, ◌≡◌, List, Err, refl, sym, ap, ◌∙◌, subst}
+use Rattle.program_lines.specs.declared.refusal.LineError.TheVariants as error
+use Rattle.turn_desk_trace.specs.TraceLines.{IsLine}
+use Rattle.turn_desk_trace.specs.declared.line.Line.{Line}
+use Rattle.turn_desk_trace.specs.declared.line.Line.TheVariants.{Setup, Event}
+use Rattle.turn_desk_replay.specs.Replay.{Answered, SetUp}
+use Rattle.turn_desk_replay.proofs.Standing.{unspelled}
+use Rattle.turn_desk_replay.proofs.progress.Progress.take_line.Goals as goal
+
+pub returns-in-Ok-clause-done : goal.returns-in-Ok-clause-done
+returns-in-Ok-clause-done c =
+    let read = subst (λ (answers : List (List ℕ)). IsLine answers c.args.line.now c.in-Ok-Setup.field-0) c.as_slice.ensures.value c.in-Ok-Setup.ensures.ok in
+    let spelled = subst (λ (line : Line). IsLine c.args.self.now.named.items c.args.line.now line) c.in-Ok-Setup.field-0-is read in
+    SetUp c.in-Ok-Setup.setup spelled c.in-Ok.ensures.ok.0 c.in-Ok.ensures.ok.1 refl
+
+pub returns-in-Ok-tell-clause-done : goal.returns-in-Ok-tell-clause-done
+returns-in-Ok-tell-clause-done c =
+    let read = subst (λ (answers : List (List ℕ)). IsLine answers c.args.line.now c.in-Ok-Event.field-0) c.as_slice.ensures.value c.in-Ok-Event.ensures.ok in
+    let spelled = subst (λ (line : Line). IsLine c.args.self.now.named.items c.args.line.now line) c.in-Ok-Event.field-0-is read in
+    Answered c.in-Ok-Event.event spelled c.in-Ok-tell.ensures.ok
+
+pub returns-clause-bad : goal.returns-clause-bad
+returns-clause-bad c = λ e.
+    let bad : c.in-Err.error ≡ error.Bad = cc in
+    unspelled _ c.args.line.now (sym c.is_skipped.ensures ∙ c.if-is_skipped.false) (λ line spelled.
+    c.in-Err.ensures.bad (ap Err bad) line
+    (subst (λ (answers : List (List ℕ)). IsLine answers c.args.line.now line) (sym c.as_slice.ensures.value) spelled))

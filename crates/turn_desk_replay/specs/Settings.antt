@@ -1,0 +1,51 @@
+-- What the setup lines of a trace make.
+use Rattle.std.specs.Prelude.{ℕ, List, [], Option, Some, None}
+use Rattle.std.specs.Duration.{as_nanos}
+use Rattle.std.specs.FinMap as map
+use Rattle.turn_desk_core.specs.Features.{Feature}
+use Rattle.turn_desk_core.specs.State.{State}
+use Rattle.turn_desk_world.specs.Config.{Config, default_config}
+use Rattle.turn_desk_trace.specs.Setup.{algorithms_in_order, families_in_order}
+use Rattle.turn_desk_trace.specs.declared.setup.Algorithms.{Algorithms}
+use Rattle.turn_desk_trace.specs.declared.setup.Client.{Client}
+use Rattle.turn_desk_replay.specs.declared.setting.Rto.{Rto}
+
+-- a desk of a realm, which knows no user, has heard of no client and has granted nothing; its nonces stand for an hour
+abbrev pub desk_of : List ℕ → Algorithms → Feature → State
+desk_of realm algorithms anonymity = record {
+  auth = record {
+    realm = realm;
+    users = map.empty;
+    clients = map.empty;
+    nonce_expiry = 3_600_000_000_000;
+    algorithms = algorithms_in_order algorithms;
+    anonymous_username = anonymity;
+  };
+  grants = [];
+}
+
+-- the same desk, which knows a user more
+abbrev pub with_user : State → List ℕ → List ℕ → State
+with_user desk name password = record desk {
+  auth = record desk.auth { users = map.insert desk.auth.users name password };
+}
+
+-- settings by which each request waits as was said, or as those of a new client do
+abbrev pub waiting : Option Rto → Config → Config
+waiting None config = config
+waiting (Some rto) config = record config {
+  waits = record {
+    initial = as_nanos rto.initial;
+    most = Some (as_nanos rto.max);
+    retransmits = rto.retransmits;
+    final = as_nanos rto.last;
+  };
+}
+
+-- the settings of a client that asks for an allocation over UDP
+abbrev pub config_of : Client → Option Rto → Config
+config_of client rto = waiting rto (record (default_config (record { username = client.name.now; password = client.password.now })) {
+  families = families_in_order client.families;
+  algorithms = algorithms_in_order client.algorithms;
+  anonymous_username = client.anonymity;
+})

@@ -1,0 +1,164 @@
+//! What the setup lines of a trace make: a desk and a client.
+
+ghost use Rattle.std.specs.Prelude.{◌≡◌, ◌≤◌, IfOk, OnErr, OnOk, length};
+ghost use Rattle.stun_types.specs.declared.transport.TransportType.TheVariants.{Udp};
+ghost use Rattle.turn_desk_world.specs.Clients.{protocol_of};
+ghost use Rattle.turn_desk_world.specs.Beginning.{IsNew};
+ghost use Rattle.turn_desk_replay.specs.Settings.{config_of, desk_of, waiting, with_user};
+ghost use Rattle.turn_desk_trace.specs.Setup.{algorithms_in_order, families_in_order};
+
+use std::alloc::Global;
+use std::time::Duration;
+use stun_types::message::{IntegrityAlgorithm, LongTermCredentials};
+use stun_types::{AddressFamily, NoMemory};
+use turn_desk_core::desk::Desk;
+use turn_desk_core::proto::auth::{Feature, LongTermServerAuth};
+use turn_desk_trace::setup::{Algorithms, Client, Families, MAX_REALM, MAX_USERNAME};
+use turn_desk_world::client::api::TurnConfig;
+use turn_desk_world::client::client::TurnClient;
+use turn_desk_world::client::types::TurnCredentials;
+use turn_desk_world::client::udp::TurnClientUdp;
+
+/// How long each request of a client waits for its response.
+#[derive(Clone, Copy, Debug)]
+pub struct Rto {
+    /// The wait behind the first transmission.
+    pub initial: Duration,
+    /// The longest wait but the last.
+    pub max: Duration,
+    /// How often a request is sent in all.
+    pub retransmits: u32,
+    /// The wait behind the last transmission.
+    pub last: Duration,
+}
+
+/// A desk of a realm, which knows no user and has granted nothing. It supports the algorithms that
+/// were named, in their order.
+pub(crate) fn new_desk(
+    alloc: Global,
+    realm: &str,
+    algorithms: Algorithms,
+    anonymity: Feature,
+) -> Result<Desk, NoMemory>
+    requires { length realm.now ≤ MAX_REALM }
+    ensures { IfOk result (λ desk. desk ≡ desk_of realm.now algorithms anonymity) }
+{
+    let realm = String::from_str(alloc, realm)?;
+    let mut auth = LongTermServerAuth::new(alloc, realm);
+    support(&mut auth, algorithms);
+    auth.set_anonymous_username(anonymity);
+    Ok(Desk::new(alloc, auth))
+}
+
+/// Has a server support these algorithms in their order, and no other.
+fn support(auth: &mut LongTermServerAuth, algorithms: Algorithms)
+    ensures { auth.new ≡ record auth.old { algorithms = algorithms_in_order algorithms } }
+{
+    match algorithms {
+        Algorithms::Sha1 => auth.set_supported_integrity(IntegrityAlgorithm::Sha1),
+        Algorithms::Sha256 => auth.set_supported_integrity(IntegrityAlgorithm::Sha256),
+        Algorithms::Sha1AndSha256 => {
+            auth.set_supported_integrity(IntegrityAlgorithm::Sha1);
+            auth.add_supported_integrity(IntegrityAlgorithm::Sha256);
+        }
+        Algorithms::Sha256AndSha1 => {
+            auth.set_supported_integrity(IntegrityAlgorithm::Sha256);
+            auth.add_supported_integrity(IntegrityAlgorithm::Sha1);
+        }
+    }
+}
+
+/// Makes a user known to a desk. Where memory is refused, nothing changes.
+pub(crate) fn add_user(
+    alloc: Global,
+    desk: &mut Desk,
+    name: &str,
+    password: &str,
+) -> Result<(), NoMemory>
+    ensures ok { OnOk result (desk.new ≡ with_user desk.old name.now password.now) }
+    ensures err { OnErr result (desk.new ≡ desk.old) }
+{
+    let name = String::from_str(alloc, name)?;
+    let password = String::from_str(alloc, password)?;
+    let user = LongTermCredentials::new(name, password);
+    desk.auth_mut().add_user(user)
+}
+
+/// A client of these settings, whose requests wait so, or as those of a new client do.
+pub(crate) fn new_client(
+    alloc: Global,
+    settings: &Client<'_>,
+    rto: Option<Rto>,
+) -> Result<TurnClient, NoMemory>
+    requires { length settings.now.name.now ≤ MAX_USERNAME }
+    ensures { IfOk result (λ client. IsNew Udp settings.now.local settings.now.remote
+        (config_of settings.now rto) settings.now.seed (protocol_of client)) }
+{
+    let config = config_of(alloc, settings, rto)?;
+    let client = TurnClientUdp::allocate(
+        alloc,
+        settings.local,
+        settings.remote,
+        config,
+        settings.seed,
+    )?;
+    Ok(TurnClient::Udp(client))
+}
+
+/// The settings of a client, whose requests wait so, or as those of a new client do.
+fn config_of(alloc: Global, settings: &Client<'_>, rto: Option<Rto>) -> Result<TurnConfig, NoMemory>
+    ensures { IfOk result (λ config. config ≡ config_of settings.now rto) }
+{
+    let credentials = TurnCredentials::new(alloc, settings.name, settings.password)?;
+    let mut config = TurnConfig::new(credentials);
+    ask_for(&mut config, settings.families);
+    offer(&mut config, settings.algorithms);
+    config.set_anonymous_username(settings.anonymity);
+    wait(&mut config, rto);
+    Ok(config)
+}
+
+/// Has the requests of a client wait so, where that was said.
+fn wait(config: &mut TurnConfig, rto: Option<Rto>)
+    ensures { config.new ≡ waiting rto config.old }
+{
+    if let Some(rto) = rto {
+        config.set_request_retransmits(rto.initial, rto.max, rto.retransmits, rto.last);
+    }
+}
+
+/// Has a client ask for addresses of these families in their order, and of no other.
+fn ask_for(config: &mut TurnConfig, families: Families)
+    ensures { config.new ≡ record config.old { families = families_in_order families } }
+{
+    match families {
+        Families::V4 => config.set_address_family(AddressFamily::IPV4),
+        Families::V6 => config.set_address_family(AddressFamily::IPV6),
+        Families::V4AndV6 => {
+            config.set_address_family(AddressFamily::IPV4);
+            config.add_address_family(AddressFamily::IPV6);
+        }
+        Families::V6AndV4 => {
+            config.set_address_family(AddressFamily::IPV6);
+            config.add_address_family(AddressFamily::IPV4);
+        }
+    }
+}
+
+/// Has a client support these algorithms in their order, and no other.
+fn offer(config: &mut TurnConfig, algorithms: Algorithms)
+    ensures { config.new ≡ record config.old { algorithms = algorithms_in_order algorithms } }
+{
+    match algorithms {
+        Algorithms::Sha1 => config.set_supported_integrity(IntegrityAlgorithm::Sha1),
+        Algorithms::Sha256 => config.set_supported_integrity(IntegrityAlgorithm::Sha256),
+        Algorithms::Sha1AndSha256 => {
+            config.set_supported_integrity(IntegrityAlgorithm::Sha1);
+            config.add_supported_integrity(IntegrityAlgorithm::Sha256);
+        }
+        Algorithms::Sha256AndSha1 => {
+            config.set_supported_integrity(IntegrityAlgorithm::Sha256);
+            config.add_supported_integrity(IntegrityAlgorithm::Sha1);
+        }
+    }
+}
