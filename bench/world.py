@@ -22,7 +22,8 @@ NONCES = {bits: b"obMatJos2" + bits + b"gyiDbICXwPDaQ1ha" for bits in (b"AAAA", 
 CLIENT, SERVER, RELAYED = "192.168.0.1:1000", "10.0.0.2:2000", "203.0.113.5:50000"
 OTHER, SIXTH = "10.0.0.4:40000", "[::1]:40000"
 
-ALLOCATE, REFRESH, BINDING, SUCCESS, ERROR, INDICATION = 0x003, 0x004, 0x001, 0x100, 0x110, 0x010
+BINDING, ALLOCATE, REFRESH, CREATE_PERMISSION = 0x001, 0x003, 0x004, 0x008
+SUCCESS, ERROR, INDICATION = 0x100, 0x110, 0x010
 USERNAME, INTEGRITY, ERROR_CODE, UNKNOWN, LIFETIME, PEER = 0x06, 0x08, 0x09, 0x0A, 0x0D, 0x12
 REALM, NONCE, RELAYED_KIND, FAMILY, TRANSPORT, DONT_FRAGMENT = 0x14, 0x15, 0x16, 0x17, 0x19, 0x1A
 INTEGRITY_SHA256, PASSWORD_ALGORITHM, USERHASH, MAPPED = 0x1C, 0x1D, 0x1E, 0x20
@@ -131,6 +132,10 @@ def signed_allocate(k, credentials, *families, by=SHA1, realm=b"realm"):
 
 def refresh(k, seconds, credentials):
     return message(REFRESH, number(k), [lifetime(seconds), *credentials], SHA1)
+
+
+def permission(k, peer, credentials):
+    return message(CREATE_PERMISSION, number(k), [(PEER, xored(peer, number(k))), *credentials], SHA1)
 
 
 def challenge(k, bits=b"QAAA", lists=(), reason=code(401, b"Unauthorized")):
@@ -518,6 +523,20 @@ def repeated_renewal():
     return "The grant of one REFRESH comes again where another is awaited: it doesn't count, and the time is over", t
 
 
+def repeated_permission():
+    t = Trace(setup())
+    t.held()
+    now, name = 100 * MS, hashed(b"QAAA")
+    asked = permission(2, "10.0.0.1:0", name)
+    line = t.ask(now, asked.hex(), "grant", success(CREATE_PERMISSION, 2))
+    t.hear(now, f"@{line}", "ignored")
+    t.ask(now, permission(3, "10.0.0.3:0", name).hex(), "grant", success(CREATE_PERMISSION, 3))
+    t.hear(now, f"@{line}", "ignored")
+    t.event("none")
+    t.shows(RELAYED)
+    return "The grant of one permission comes again behind another that was asked for: it doesn't count", t
+
+
 def error_above():
     t = Trace(setup())
     t.say("error", "ok")
@@ -822,8 +841,8 @@ def good_traces():
         address_behind_the_signature(), added_signature(), foreign_datagrams(), forged_challenge(),
         repeated_challenge(), ten_challenges(), what_a_desk_passes_by(), both_algorithms(),
         the_weaker_algorithm(), no_common_algorithm(), no_hashed_names(), lost_replies(), lost_reply(),
-        nobody_answers(), deleted(), renewed(), repeated_renewal(), error_above(), last_moment(),
-        nothing_yet(), *first_answered(), request_for_a_response(), default_timeout(),
+        nobody_answers(), deleted(), renewed(), repeated_renewal(), repeated_permission(), error_above(),
+        last_moment(), nothing_yet(), *first_answered(), request_for_a_response(), default_timeout(),
         *signed_answered(), signed_request(), expired(), stale_allocate(), half_stale(),
         family_unknown(), family_not_supported(), both_families(), refresh_times_out(),
         *refreshes_answered(), stale_refresh(), stale_refresh_lost(), stale_deletion(),
