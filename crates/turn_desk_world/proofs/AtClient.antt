@@ -141,9 +141,9 @@ quiet_answer c came ret new is step = record {
   shows = is.shows new;
 }
 
-pub fed : (c : Client) (sound : IsSound c) (ret : Answer) (bytes : List ℕ) (from to : SocketAddr) (now : ℕ) (new : Protocol) → AreBytes bytes → IsFed ret c.core bytes from to now new → IsAnswered c (bytes ∷ []) ret new
-fed c sound ret bytes from to now new are_bytes is =
-    let came_bytes : AreBytes is.came.bytes.now = subst AreBytes (sym is.bytes_are) are_bytes in
+pub fed : (c : Client) (sound : IsSound c) (ret : Answer) (bytes : List ℕ) (from to : SocketAddr) (now : ℕ) (new : Protocol) → IsFed ret c.core bytes from to now new → IsAnswered c (bytes ∷ []) ret new
+fed c sound ret bytes from to now new is =
+    let came_bytes : AreBytes is.came.bytes.now = subst AreBytes (sym is.bytes_are) is.are_bytes in
     let up = received (λ (b : Bor (List ℕ)). b.now) c sound is.came now is.took new came_bytes is.received in
     quiet_answer c (bytes ∷ []) ret new (quiet is.came is.took ret up.plain is.told)
     (subst (λ (b : List ℕ). IsRunStep c (b ∷ []) None [] new) is.bytes_are up.step)

@@ -1,5 +1,6 @@
 pub mod AtClient
 pub mod AtDesk
+pub mod Bytes
 pub mod Chain
 pub mod Joined
 pub mod Safe

@@ -16,7 +16,7 @@ use Rattle.turn_desk_steps.specs.DeskRun.{DeskCall}
 use Rattle.turn_desk_world.specs.Model.{World}
 use Rattle.turn_desk_world.specs.Runs.{IsAtClient, IsInRange, IsRun, IsStep, is_in_range}
 use Rattle.turn_desk_world.specs.Safety.{words}
-use Rattle.turn_desk_world.specs.Told.{IsCallOf, IsFair, IsFairAnswer, IsFairEvent, IsStepBy, IsToldBy, bytes_sent, desk_call, notices_in}
+use Rattle.turn_desk_world.specs.Told.{IsCallOf, IsFair, IsFairEvent, IsStepBy, IsToldBy, bytes_sent, desk_call, notices_in}
 use Rattle.turn_desk_world.proofs.AtClient.{IsAnswered, called, drawn, fed}
 use Rattle.turn_desk_world.proofs.AtDesk.{desk_step, shows_none}
 use Rattle.turn_desk_world.proofs.Chain.{each_behind, leads_behind}
@@ -88,25 +88,25 @@ module _ (c : Client) (sound : IsSound c) (came : List (List ℕ)) (ret : Answer
         shown = shows_held ret h.0 (call_of c came (bytes_sent ret) (notices_in ret) step.after) step.core_is h.2.shows;
       }
 
-by_event : (event : Event) (ret : Answer) (c : Client) (old new : World) → IsSound c → old.client ≡ Some c.core → IsFairEvent event → IsFairAnswer ret → IsStep event old ret new → IsOne event ret c old new
-by_event (Call call now) ret c old new sound held fair told is =
+by_event : (event : Event) (ret : Answer) (c : Client) (old new : World) → IsSound c → old.client ≡ Some c.core → IsFairEvent event → IsStep event old ret new → IsOne event ret c old new
+by_event (Call call now) ret c old new sound held fair is =
     client_step c sound [] ret (Call call now) old new held (λ one h. h)
     (at_client c sound [] ret now _ old.client new.client held (λ q h. called c sound now q call ret h) is.0)
-by_event (Draw now) ret c old new sound held fair told is =
+by_event (Draw now) ret c old new sound held fair is =
     client_step c sound [] ret (Draw now) old new held (λ one h. h)
     (at_client c sound [] ret now _ old.client new.client held (λ q h. drawn c sound now q ret h) is.0)
-by_event (ToClient bytes from to now) ret c old new sound held fair told is =
+by_event (ToClient bytes from to now) ret c old new sound held fair is =
     client_step c sound (bytes.items ∷ []) ret (ToClient bytes from to now) old new held (λ one h. h)
-    (at_client c sound (bytes.items ∷ []) ret now _ old.client new.client held (λ q h. fed c sound ret bytes.items from to now q fair h) is.0)
-by_event (ToDesk bytes from now decision seed) ret c old new sound held fair told is = record {
+    (at_client c sound (bytes.items ∷ []) ret now _ old.client new.client held (λ q h. fed c sound ret bytes.items from to now q h) is.0)
+by_event (ToDesk bytes from now decision seed) ret c old new sound held fair is = record {
   one = AtDesk (desk_call old bytes.items from now decision seed ret new);
   told = refl;
   after = c;
   left = ap (λ (w : World). w.client) is.1 ∙ held;
   sound = sound;
   leads = refl;
-  lawful = desk_step old new bytes.items from now decision seed fair.0 fair.1 ret told is.0;
-  shown = shows_none old new bytes.items from now decision seed fair.0 fair.1 ret is.0;
+  lawful = desk_step old new bytes.items from now decision seed ret fair is.0;
+  shown = shows_none old new bytes.items from now decision seed ret is.0;
 }
 
 -- ---- all of them
@@ -134,7 +134,7 @@ all_told [] c old new sound held fair is = record {
   shown = tt;
 }
 all_told (pair ∷ pairs) c old new sound held fair is =
-    let one = by_event pair.0 pair.1 c old is.0 sound held fair.0.0 fair.0.1 is.1 in
+    let one = by_event pair.0 pair.1 c old is.0 sound held fair.0 is.1 in
     let rest = all_told pairs one.after is.0 new one.sound one.left fair.1 is.2 in
     record {
       run = rest.run ++ one.one ∷ [];

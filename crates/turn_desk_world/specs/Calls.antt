@@ -2,6 +2,7 @@
 use Rattle.std.specs.Prelude.{◌≡◌, ℕ, List, [], ◌∷◌, Some, None, Ok, Err}
 use Rattle.std.specs.Borrow.{Bor}
 use Rattle.std.specs.declared.net.socket_addr.SocketAddr.{SocketAddr}
+use Rattle.stun_types.specs.Headers.{AreBytes}
 use Rattle.stun_types.specs.declared.transmit.Transmit.{Transmit}
 use Rattle.turn_client_proto_api.specs.declared.answer.TurnPollRet.TheVariants as poll
 use Rattle.turn_client_proto_api.specs.declared.answer.TurnRecvRet.{TurnRecvRet}
@@ -79,6 +80,7 @@ IsTold _ _ = ⊥
 
 -- bytes came to a client by its own transport: `recv`, by its contract
 pub record IsFed (answer : Answer) (old : Protocol) (bytes : List ℕ) (from to : SocketAddr) (now : ℕ) (new : Protocol) : Type 0 where
+  pub are_bytes : AreBytes bytes
   pub came : Transmit (Bor (List ℕ))
   pub bytes_are : came.bytes.now ≡ bytes
   pub transport_is : came.transport ≡ old.agent.transport

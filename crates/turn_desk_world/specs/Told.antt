@@ -3,7 +3,6 @@ use Rattle.std.specs.Prelude.{◌≡◌, ℕ, ◌++◌, List, [], ◌∷◌, Opt
 use Rattle.std.specs.List.{filter_map}
 use Rattle.std.specs.declared.net.socket_addr.SocketAddr.{SocketAddr}
 use Rattle.stun_types.specs.Grammar.{number_at}
-use Rattle.stun_types.specs.Headers.{AreBytes}
 use Rattle.turn_runs.specs.Messages.{Notice, Payload, FromPeer}
 use Rattle.turn_runs.specs.Runs.{Step, AtClient, AtDesk}
 use Rattle.turn_runs.specs.Steps.{Call}
@@ -11,11 +10,12 @@ use Rattle.turn_client_proto.specs.Drawing.{sent_of}
 use Rattle.turn_client_proto_steps.specs.ClientWords.{notice_of}
 use Rattle.turn_client_proto_steps.specs.RunClient.{Client}
 use Rattle.turn_desk_grant.specs.declared.decision.Decision.{Decision}
+use Rattle.turn_desk_grant.specs.declared.decision.Decision.TheVariants as by
 use Rattle.turn_desk_event.specs.declared.answer.Answer.{Answer}
 use Rattle.turn_desk_event.specs.declared.answer.Answer.TheVariants as answer
 use Rattle.turn_desk_event.specs.declared.event.Event.{Event}
 use Rattle.turn_desk_event.specs.declared.event.Event.TheVariants as event
-use Rattle.turn_desk_steps.specs.DeskRun.{CanBeTold, DeskCall}
+use Rattle.turn_desk_steps.specs.DeskRun.{AreTold, DeskCall}
 use Rattle.turn_desk_world.specs.Desks.{words_of}
 use Rattle.turn_desk_world.specs.Model.{World}
 
@@ -85,18 +85,17 @@ IsToldBy old (pair ∷ pairs) run new =
     (next : World) × (one : Step Client DeskCall) × (later : List (Step Client DeskCall))
     × (run ≡ later ++ one ∷ []) × IsStepBy pair.0 pair.1 old one next × IsToldBy next pairs later new
 
--- ---- what is taken for granted of events and answers
+-- ---- what is taken for granted of events
 
--- bytes are bytes, and what the driver decides can be told in a response
+-- the relayed addresses that the driver decides have no flow information and no scope, so a response with this number
+-- tells them whole
+abbrev pub AreToldWhole : ℕ → Decision → Type 0
+AreToldWhole number (by.Allocate relayed lifetime) = AreTold number relayed
+AreToldWhole number _ = Unit {0}
+
 abbrev pub IsFairEvent : Event → Type 0
-IsFairEvent (event.Call call now) = Unit {0}
-IsFairEvent (event.Draw now) = Unit {0}
-IsFairEvent (event.ToClient bytes from to now) = AreBytes bytes.items
-IsFairEvent (event.ToDesk bytes from now decision seed) = AreBytes bytes.items × CanBeTold (number_at bytes.items) decision
-
-abbrev pub IsFairAnswer : Answer → Type 0
-IsFairAnswer (answer.Reply reply) = AreBytes reply.items
-IsFairAnswer _ = Unit {0}
+IsFairEvent (event.ToDesk bytes from now decision seed) = AreToldWhole (number_at bytes.items) decision
+IsFairEvent _ = Unit {0}
 
 abbrev pub IsFair : Event × Answer → Type 0
-IsFair pair = IsFairEvent pair.0 × IsFairAnswer pair.1
+IsFair pair = IsFairEvent pair.0

@@ -3,6 +3,7 @@
 ghost use Rattle.std.specs.Prelude.{IfOk};
 ghost use Rattle.turn_desk_world.specs.Desks.{IsDeskAnswered, words_of};
 
+use crate::typed::{are_bytes, numbers_have_four_bytes};
 use rand_chacha::ChaCha20Rng;
 use rand_core::SeedableRng;
 use std::net::SocketAddr;
@@ -24,9 +25,14 @@ pub(crate) fn ask(
     ensures { IfOk result (λ answer. IsDeskAnswered answer desk.old bytes.now from now
         decision.now seed desk.new) }
 {
+    are_bytes(bytes);
+    numbers_have_four_bytes(decision);
     let mut words = ChaCha20Rng::from_seed(seed);
     match desk.handle(bytes, from, now, decision, &mut words)? {
-        Some(reply) => Ok(Answer::Reply(reply)),
+        Some(reply) => {
+            are_bytes(reply.as_slice());
+            Ok(Answer::Reply(reply))
+        }
         None => Ok(Answer::Nothing),
     }
 }

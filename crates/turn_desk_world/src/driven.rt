@@ -6,6 +6,7 @@ ghost use Rattle.turn_client_proto.specs.Getters.{relayed_of};
 ghost use Rattle.turn_desk_world.specs.Calls.{IsCalled, IsDrawnAs, IsEventTold, IsFed, IsPolledAs, IsDeleteTold};
 ghost use Rattle.turn_desk_world.specs.Runs.{IsAtClient, IsInRange, is_in_range};
 
+use crate::typed::are_bytes;
 use std::alloc::Global;
 use std::marker::Model;
 use std::net::SocketAddr;
@@ -128,6 +129,7 @@ fn feed(
     ensures { IfOk result (λ answer. IsFed answer (protocol_of client.old) bytes.now from to now
         (protocol_of client.new)) }
 {
+    are_bytes(bytes);
     let transmit = Transmit::new(bytes, client.transport(), from, to);
     match client.recv(transmit, now) {
         TurnRecvRet::Handled => Ok(Answer::Handled),

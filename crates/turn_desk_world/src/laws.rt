@@ -36,8 +36,8 @@ pub fn parts_make_a_run()
 /// for one request, and each relayed address that the client shows was granted by the desk.
 ///
 /// So all that the client holds was granted in answer to that very request, whatever the network
-/// loses, repeats, reorders or invents. It takes for granted that bytes are bytes, and that what
-/// the driver decides can be told in a response.
+/// loses, repeats, reorders or invents. It takes for granted that the relayed
+/// addresses which the driver decides have no flow information and no scope.
 pub fn runs_of_a_world_are_safe()
     ensures { (old new : World) (pairs : List (Event × Answer))
         → IsRun old pairs new

@@ -5,6 +5,7 @@
 mod desk;
 mod driven;
 pub mod laws;
+mod typed;
 pub mod world;
 
 // What stands above this crate has the client through it.
