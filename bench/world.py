@@ -382,32 +382,27 @@ def what_a_desk_passes_by():
     return "A desk's own reply, an indication, a response, and nineteen bytes: it answers none of them", t
 
 
-def both_algorithms():
-    t = Trace(setup(algorithms="sha1,sha256", desk="sha1,sha256 auto"))
+def offered_both(algorithms, value, by):
+    """The desk offers both algorithms: the client names the one of this value, and signs by it."""
+    t = Trace(setup(algorithms=algorithms, desk="sha1,sha256 auto"))
     drawn = t.draw(0, first())
     offered = (PASSWORD_ALGORITHMS, b"\0\1\0\0\0\2\0\0")
     line = t.ask(0, f"@{drawn}", "refuse 400", challenge(0, b"wAAA", [offered]))
     t.hear(0, f"@{line}")
-    chosen = [*hashed(b"wAAA"), offered, (PASSWORD_ALGORITHM, b"\0\2\0\0")]
-    drawn = t.draw(50 * MS, signed_allocate(1, chosen, by=SHA256))
-    line = t.ask(50 * MS, f"@{drawn}", f"allocate {RELAYED} 600", grant(1, SHA256))
+    chosen = [*hashed(b"wAAA"), offered, (PASSWORD_ALGORITHM, value)]
+    drawn = t.draw(50 * MS, signed_allocate(1, chosen, by=by))
+    line = t.ask(50 * MS, f"@{drawn}", f"allocate {RELAYED} 600", grant(1, by))
     t.hear(50 * MS, f"@{line}")
     t.is_created(RELAYED)
-    return "Both sides know SHA-256: it is taken", t
+    return t
+
+
+def both_algorithms():
+    return "Both sides know SHA-256: it is taken", offered_both("sha1,sha256", b"\0\2\0\0", SHA256)
 
 
 def the_weaker_algorithm():
-    t = Trace(setup(desk="sha1,sha256 auto"))
-    drawn = t.draw(0, first())
-    offered = (PASSWORD_ALGORITHMS, b"\0\1\0\0\0\2\0\0")
-    line = t.ask(0, f"@{drawn}", "refuse 400", challenge(0, b"wAAA", [offered]))
-    t.hear(0, f"@{line}")
-    chosen = [*hashed(b"wAAA"), offered, (PASSWORD_ALGORITHM, b"\0\1\0\0")]
-    drawn = t.draw(50 * MS, signed_allocate(1, chosen))
-    line = t.ask(50 * MS, f"@{drawn}", f"allocate {RELAYED} 600", grant(1))
-    t.hear(50 * MS, f"@{line}")
-    t.is_created(RELAYED)
-    return "The client knows SHA-1 alone: that is taken", t
+    return "The client knows SHA-1 alone: that is taken", offered_both("sha1", b"\0\1\0\0", SHA1)
 
 
 def no_common_algorithm():
