@@ -217,13 +217,28 @@ class Trace:
 
     # ---- with a desk
 
+    def is_granted(self, now, k, credentials, by=SHA1):
+        """The ALLOCATE that is signed, and granted, and the client is told."""
+        drawn = self.draw(now, signed_allocate(k, credentials, by=by))
+        line = self.ask(now, f"@{drawn}", f"allocate {RELAYED} 600", grant(k, by))
+        self.hear(now, f"@{line}")
+        self.is_created(RELAYED)
+
     def challenged(self):
         """The first ALLOCATE, and its challenge."""
         drawn = self.draw(0, first())
         return self.ask(0, f"@{drawn}", "refuse 400", challenge(0))
 
+    def challenged_again(self):
+        """The same, but the reply is lost, and the request goes out again."""
+        self.challenged()
+        self.poll(0, 500 * MS)
+        self.draw(500 * MS - 1, None)
+        drawn = self.draw(500 * MS, first())
+        return self.ask(500 * MS, f"@{drawn}", "refuse 400", challenge(0))
+
     def granted(self):
-        """The same, and the ALLOCATE that is signed, and granted: the number of the reply's line."""
+        """The first challenge, and the ALLOCATE that is signed, and granted: the number of the reply's line."""
         self.hear(0, f"@{self.challenged()}")
         self.poll(0, 50 * MS)
         drawn = self.draw(50 * MS, signed_allocate(1, hashed(b"QAAA")))
@@ -344,10 +359,7 @@ def forged_challenge():
     stale = t.ask(50 * MS, f"@{drawn}", "refuse 400", challenge(1, reason=code(438, b"Stale Nonce")))
     t.hear(50 * MS, f"@{stale}")
     t.poll(50 * MS, 100 * MS)
-    drawn = t.draw(100 * MS, signed_allocate(2, hashed(b"QAAA")))
-    line = t.ask(100 * MS, f"@{drawn}", f"allocate {RELAYED} 600", grant(2))
-    t.hear(100 * MS, f"@{line}")
-    t.is_created(RELAYED)
+    t.is_granted(100 * MS, 2, hashed(b"QAAA"))
     return "A forged challenge of another realm: the desk's own one mends it", t
 
 
@@ -390,10 +402,7 @@ def offered_both(algorithms, value, by):
     line = t.ask(0, f"@{drawn}", "refuse 400", challenge(0, b"wAAA", [offered]))
     t.hear(0, f"@{line}")
     chosen = [*hashed(b"wAAA"), offered, (PASSWORD_ALGORITHM, value)]
-    drawn = t.draw(50 * MS, signed_allocate(1, chosen, by=by))
-    line = t.ask(50 * MS, f"@{drawn}", f"allocate {RELAYED} 600", grant(1, by))
-    t.hear(50 * MS, f"@{line}")
-    t.is_created(RELAYED)
+    t.is_granted(50 * MS, 1, chosen, by)
     return t
 
 
@@ -426,31 +435,20 @@ def no_hashed_names():
 
 def lost_replies():
     t = Trace(setup())
-    t.challenged()
-    t.poll(0, 500 * MS)
-    t.draw(500 * MS - 1, None)
-    drawn = t.draw(500 * MS, first())
-    line = t.ask(500 * MS, f"@{drawn}", "refuse 400", challenge(0))
+    line = t.challenged_again()
     t.hear(500 * MS, f"@{line}")
     t.poll(500 * MS, 550 * MS)
     drawn = t.draw(550 * MS, signed_allocate(1, hashed(b"QAAA")))
     t.ask(550 * MS, f"@{drawn}", f"allocate {RELAYED} 600", grant(1))
     # the waits of a request begin when it is made, which is when the challenge comes
     t.poll(550 * MS, 1000 * MS)
-    drawn = t.draw(1000 * MS, signed_allocate(1, hashed(b"QAAA")))
-    line = t.ask(1000 * MS, f"@{drawn}", f"allocate {RELAYED} 600", grant(1))
-    t.hear(1000 * MS, f"@{line}")
-    t.is_created(RELAYED)
+    t.is_granted(1000 * MS, 1, hashed(b"QAAA"))
     return "The first reply is lost, and so is the grant: each request goes out again, and the client is granted", t
 
 
 def lost_reply():
     t = Trace(setup())
-    t.challenged()
-    t.poll(0, 500 * MS)
-    t.draw(500 * MS - 1, None)
-    drawn = t.draw(500 * MS, first())
-    line = t.ask(500 * MS, f"@{drawn}", "refuse 400", challenge(0))
+    line = t.challenged_again()
     t.poll(500 * MS, 1500 * MS)
     t.draw(1500 * MS, first())
     t.hear(1500 * MS, f"@{line}")
@@ -814,10 +812,7 @@ def settings(algorithms, anonymity, desk_algorithms, desk_anonymity):
     if has_list:
         told += [offered, (PASSWORD_ALGORITHM, values[common[0]])]
     by = SHA256 if common[0] == "sha256" else SHA1
-    drawn = t.draw(50 * MS, signed_allocate(1, told, by=by))
-    line = t.ask(50 * MS, f"@{drawn}", f"allocate {RELAYED} 600", grant(1, by))
-    t.hear(50 * MS, f"@{line}")
-    t.is_created(RELAYED)
+    t.is_granted(50 * MS, 1, told, by)
     return name, t
 
 
