@@ -5,10 +5,10 @@ use Rattle.std.specs.Bool.{MatchBool}
 use Rattle.stun_types.specs.Grammar.{refusal}
 use Rattle.stun_types.specs.ParseErrors.{StunParseError}
 use Rattle.stun_types.specs.declared.transmit.Transmit.{Transmit}
-use Rattle.turn_client_proto_api.specs.declared.answer.TurnRecvRet.{TurnRecvRet}
-use Rattle.turn_client_proto_api.specs.declared.answer.TurnRecvRet.TheVariants.{NoMemory}
-use Rattle.turn_client_proto_core.specs.Ending.{HasFailed}
-use Rattle.turn_client_proto_core.specs.declared.protocol.Protocol.{Protocol}
+use Rattle.turn_client_proto_poll.specs.Api.declared.answer.TurnRecvRet.{TurnRecvRet}
+use Rattle.turn_client_proto_poll.specs.Api.declared.answer.TurnRecvRet.TheVariants.{NoMemory}
+use Rattle.turn_client_proto_poll.specs.Core.Ending.{HasFailed}
+use Rattle.turn_client_proto_poll.specs.Core.declared.protocol.Protocol.{Protocol}
 use Rattle.turn_client_proto.specs.Receipts.{IsHandledAs, Lost, IsOfServer, IsRead, IsReceived, Heard, Own}
 use Rattle.turn_client_proto.specs.HandingIn.{IsHandedIn}
 

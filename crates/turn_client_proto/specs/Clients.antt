@@ -1,5 +1,5 @@
 -- A client over whichever transport.
-use Rattle.turn_client_proto_core.specs.declared.protocol.Protocol.{Protocol}
+use Rattle.turn_client_proto_poll.specs.Core.declared.protocol.Protocol.{Protocol}
 use Rattle.turn_client_proto.specs.declared.client.TurnClient.{TurnClient}
 use Rattle.turn_client_proto.specs.declared.client.TurnClient.TheVariants.{Udp}
 

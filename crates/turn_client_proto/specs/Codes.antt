@@ -1,7 +1,7 @@
 -- The code of a client, by which proofs tell its values apart.
 use Rattle.std.specs.Coded.{Coded}
-use Rattle.turn_client_proto_core.specs.contracts.protocol.Protocol as protocol
-use Rattle.turn_client_proto_core.specs.declared.protocol.Protocol.{Protocol}
+use Rattle.turn_client_proto_poll.specs.Core.contracts.protocol.Protocol as protocol
+use Rattle.turn_client_proto_poll.specs.Core.declared.protocol.Protocol.{Protocol}
 
 abbrev pub protocol_code : Coded Protocol
 protocol_code = protocol.the_row.coded

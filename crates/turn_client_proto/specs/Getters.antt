@@ -1,11 +1,22 @@
 -- What a client's getters give.
-use Rattle.std.specs.Prelude.{List, [], ◌∷◌, Bool, Option, Some, None, if◌then◌else◌}
+use Rattle.std.specs.Prelude.{Bool, List}
+use Rattle.std.specs.List.{list_any}
+use Rattle.std.specs.declared.net.ip_addr.IpAddr.{IpAddr}
 use Rattle.std.specs.declared.net.socket_addr.SocketAddr.{SocketAddr}
 use Rattle.stun_types.specs.declared.transport.TransportType.{TransportType}
-use Rattle.turn_client_proto_allocation.specs.declared.allocation.Allocation.{Allocation}
-use Rattle.turn_client_proto_core.specs.declared.protocol.Protocol.{Protocol}
-use Rattle.turn_client_proto_allocation.specs.Listed.{relayed_shown}
+use Rattle.turn_client_proto_poll.specs.Core.declared.protocol.Protocol.{Protocol}
+use Rattle.turn_client_proto_poll.specs.Allocation.Listed.{relayed_shown}
+use Rattle.turn_client_proto_poll.specs.Permission.Asking.{permits_over}
+use Rattle.turn_client_proto_poll.specs.Permission.Shown.{addresses_of, permissions_at}
 
 -- the relayed addresses that a client shows, with their transports
 abbrev pub relayed_of : Protocol → List (TransportType × SocketAddr)
 relayed_of p = relayed_shown p.allocations
+
+-- whether a client shows a permission for an address, over a transport
+abbrev pub has_permission : TransportType → IpAddr → Protocol → Bool
+has_permission transport ip p = list_any (permits_over transport ip) p.allocations
+
+-- the addresses whose permissions a client shows, of the allocation of a transport and a relayed address
+abbrev pub permissions_of : TransportType → SocketAddr → Protocol → List IpAddr
+permissions_of transport relayed p = addresses_of (permissions_at transport relayed p.allocations)

@@ -1,2 +1,2 @@
 -- What a client keeps, by name.
-pub use Rattle.turn_client_proto_core.specs.declared.protocol.Protocol.{Protocol}
+pub use Rattle.turn_client_proto_poll.specs.Core.declared.protocol.Protocol.{Protocol}

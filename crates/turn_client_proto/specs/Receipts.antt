@@ -5,11 +5,11 @@ use Rattle.std.specs.declared.net.socket_addr.SocketAddr.{SocketAddr}
 use Rattle.stun_types.specs.Grammar.{refusal}
 use Rattle.stun_types.specs.ParseErrors.{StunParseError}
 use Rattle.stun_types.specs.declared.transmit.Transmit.{Transmit}
-use Rattle.turn_client_proto_api.specs.declared.answer.TurnRecvRet.{TurnRecvRet}
-use Rattle.turn_client_proto_api.specs.declared.answer.TurnRecvRet.TheVariants.{Handled, Ignored, PeerData, PeerIcmp, NoMemory}
-use Rattle.turn_client_proto_core.specs.Ending.{HasFailed}
-use Rattle.turn_client_proto_core.specs.Receiving.{IsHeard}
-use Rattle.turn_client_proto_core.specs.declared.protocol.Protocol.{Protocol}
+use Rattle.turn_client_proto_poll.specs.Api.declared.answer.TurnRecvRet.{TurnRecvRet}
+use Rattle.turn_client_proto_poll.specs.Api.declared.answer.TurnRecvRet.TheVariants.{Handled, Ignored, PeerData, PeerIcmp, NoMemory}
+use Rattle.turn_client_proto_poll.specs.Core.Ending.{HasFailed}
+use Rattle.turn_client_proto_poll.specs.Core.Receiving.{IsHeard}
+use Rattle.turn_client_proto_poll.specs.Core.declared.protocol.Protocol.{Protocol}
 
 -- a datagram that came from the server to the client's own address, by the client's transport
 pub record IsOfServer {T : Type 0} (p : Protocol) (came : Transmit T) : Type 0 where

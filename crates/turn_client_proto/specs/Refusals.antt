@@ -1,6 +1,6 @@
 -- How a client answers calls of what it can't do yet.
 use Rattle.std.specs.Prelude.{◌≡◌, Result, Err}
-use Rattle.turn_client_proto_core.specs.declared.protocol.Protocol.{Protocol}
+use Rattle.turn_client_proto_poll.specs.Core.declared.protocol.Protocol.{Protocol}
 
 -- a call was refused with an error, and nothing changed
 abbrev pub IsTurnedDown : {A E : Type 0} → Result A E → E → Protocol → Protocol → Type 0

@@ -1,32 +1,33 @@
 //! The settings of a client, the trait of its calls, and what they answer.
 
-ghost use Rattle.std.specs.Prelude.{◌≡◌, ◌++◌, ℕ, [], Err, Ok, None, IfNone, IfOk, OnErr, OnOk, false, option_to_list};
+ghost use Rattle.std.specs.Prelude.{◌≡◌, ◌++◌, ℕ, [], Err, Ok, None, IfNone, IfOk, OnErr, OnOk, option_to_list};
 ghost use Rattle.std.specs.Option.{option_map};
-ghost use Rattle.turn_client_proto_core.specs.Deleting.{IsDeleteAnswered};
-ghost use Rattle.turn_client_proto_core.specs.Drawing.{IsDrawn, sent_of};
-ghost use Rattle.turn_client_proto_core.specs.Ending.{HasFailed, ended};
-ghost use Rattle.turn_client_proto_core.specs.Polling.{IsPolled};
-ghost use Rattle.turn_client_proto_core.specs.declared.protocol.Protocol.{Protocol};
-ghost use Rattle.turn_client_proto.specs.Getters.{relayed_of};
+ghost use Rattle.turn_client_proto_poll.specs.Core.Deleting.{IsDeleteAnswered};
+ghost use Rattle.turn_client_proto_poll.specs.Drawing.{IsDrawn, sent_of};
+ghost use Rattle.turn_client_proto_poll.specs.Core.Ending.{HasFailed, ended};
+ghost use Rattle.turn_client_proto_poll.specs.Core.Permitting.{IsPermissionAnswered};
+ghost use Rattle.turn_client_proto_poll.specs.Polling.{IsPolled};
+ghost use Rattle.turn_client_proto_poll.specs.Core.declared.protocol.Protocol.{Protocol};
+ghost use Rattle.turn_client_proto.specs.Getters.{has_permission, permissions_of, relayed_of};
 ghost use Rattle.turn_client_proto.specs.Receipts.{IsReceived};
 ghost use Rattle.turn_client_proto.specs.Refusals.{IsAnsweredStill, IsTurnedDown};
 
-pub use crate::getters::RelayedAddressesIter;
+pub use crate::getters::{PermissionsIter, RelayedAddressesIter};
 use std::convert::AsSlice;
 use std::fmt::Debug;
 use std::net::{IpAddr, SocketAddr};
 use stun_proto::Instant;
 use stun_types::data::Data;
 use stun_types::{NoMemory, Transmit, TransportType};
-pub use turn_client_proto_api::answer::{Socket5Tuple, TurnPollRet, TurnRecvRet};
-pub use turn_client_proto_api::config::TurnConfig;
-pub use turn_client_proto_api::data::{DataRangeOrOwned, TurnPeerData};
-pub use turn_client_proto_api::error::{
+pub use turn_client_proto_poll::api::answer::{Socket5Tuple, TurnPollRet, TurnRecvRet};
+pub use turn_client_proto_poll::api::config::TurnConfig;
+pub use turn_client_proto_poll::api::data::{DataRangeOrOwned, TurnPeerData};
+pub use turn_client_proto_poll::api::error::{
     BindChannelError, CreatePermissionError, DeleteError, SendError, TcpAllocateError,
     TcpConnectError,
 };
-pub use turn_client_proto_api::event::TurnEvent;
-pub use turn_client_proto_api::send::DelayedMessageOrChannelSend;
+pub use turn_client_proto_poll::api::event::TurnEvent;
+pub use turn_client_proto_poll::api::send::DelayedMessageOrChannelSend;
 use turn_types::transmit::TransmitBuild;
 
 /// The greatest moment of a call of a client: 2^62 nanoseconds behind `Instant::ZERO`, some 146 years.
@@ -36,8 +37,8 @@ pub const CLIENT_END: u64 = 1 << 62;
 /// `poll_transmit` answers, hands in what came by `recv`, waits as `poll` tells, and asks for what
 /// happened by `poll_event`.
 ///
-/// No client has permissions, channels or connections yet: calls that ask for one are refused, with the
-/// error of a client that has no allocation of the kind, and change nothing.
+/// No client has channels or connections, or sends to peers, yet: calls that ask for one are refused, with
+/// the error of a client that has no allocation or permission of the kind, and change nothing.
 pub trait TurnClientApi: Debug + Send {
     ghost protocol: { Self → Protocol };
 
@@ -66,20 +67,32 @@ pub trait TurnClientApi: Debug + Send {
     fn delete(&mut self, now: Instant) -> Result<(), DeleteError>
         ensures { IsDeleteAnswered (protocol self.old) now result (protocol self.new) };
 
-    /// Asks for a permission for an address (RFC 8656, section 10.1). There are none yet: it is refused
-    /// with `NoAllocation`.
+    /// Asks for a permission for an address (RFC 8656, section 10.1), in the first allocation of a
+    /// transport whose relayed address is of the same family. It stands for 300 seconds once the server
+    /// has granted it, and the client renews it a minute before its end. Refused with `NoAllocation`
+    /// where there is no such allocation, or its time is over: then it is marked as expired; with
+    /// `AlreadyExists` where a permission for the address stands there, or was asked for; and with
+    /// `NoAllocation` where the client has ended. Where memory is refused, `NoMemory`, and nothing
+    /// changes but the words that were drawn.
     fn create_permission(
         &mut self,
         transport: TransportType,
         peer_addr: IpAddr,
         now: Instant,
     ) -> Result<(), CreatePermissionError>
-        ensures { IsTurnedDown result CreatePermissionError.NoAllocation (protocol self.old)
+        ensures { IsPermissionAnswered (protocol self.old) transport peer_addr now result
             (protocol self.new) };
 
-    /// Whether a permission for an address stands, in an allocation of this transport. None does yet.
+    /// Whether a permission for an address stands, in an allocation of this transport that is not marked
+    /// as expired. One that has lapsed counts until `poll` takes it away.
     fn have_permission(&self, transport: TransportType, to: IpAddr) -> bool
-        ensures { result ≡ false };
+        ensures { result ≡ has_permission transport to (protocol self.now) };
+
+    /// The addresses whose permissions stand in the allocation of this transport and relayed address, in
+    /// the order in which they were granted; none where there is no such allocation, or it is marked as
+    /// expired. It takes no memory.
+    fn permissions(&self, transport: TransportType, relayed: SocketAddr) -> PermissionsIter<'_>
+        ensures { result ≡ permissions_of transport relayed (protocol self.now) };
 
     /// Asks for a channel to a peer (RFC 8656, section 12.1). There are none yet: it is refused with
     /// `NoAllocation`.
@@ -121,7 +134,7 @@ pub trait TurnClientApi: Debug + Send {
         ensures { IsAnsweredStill result (Ok tt) (protocol self.old) (protocol self.new) };
 
     /// What carries bytes to a peer, by an allocation of this transport (RFC 8656, sections 11.1 and
-    /// 12.5). No permission stands yet: it is refused with `NoPermission`.
+    /// 12.5). No client sends to peers yet: it is refused with `NoPermission`, whatever permission stands.
     fn send_to<T: AsSlice<u8> + Debug + Drop>(
         &mut self,
         transport: TransportType,
@@ -147,11 +160,11 @@ pub trait TurnClientApi: Debug + Send {
     ) -> TurnRecvRet<T>
         ensures { IsReceived T.items (protocol self.old) transmit now result (protocol self.new) };
 
-    /// What is to be done at a moment: `Protocol::poll` has it.
+    /// What is to be done at a moment: `poll` of `turn_client_proto_poll` has it.
     fn poll(&mut self, now: Instant) -> TurnPollRet
         ensures { IsPolled (protocol self.old) now result (protocol self.new) };
 
-    /// What is to be sent at a moment: `Protocol::poll_transmit` has it.
+    /// What is to be sent at a moment: `poll_transmit` of `turn_client_proto_poll` has it.
     fn poll_transmit(&mut self, now: Instant) -> Result<Option<Transmit<Data<'static>>>, NoMemory>
         ensures ok { IfOk result (λ answer. IsDrawn (protocol self.old) now
             (option_map sent_of answer) (protocol self.new)) }

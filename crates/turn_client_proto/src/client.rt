@@ -4,8 +4,8 @@ ghost use Rattle.turn_client_proto.specs.Clients.{protocol_of};
 
 use crate::api::{
     BindChannelError, CreatePermissionError, DelayedMessageOrChannelSend, DeleteError,
-    RelayedAddressesIter, SendError, Socket5Tuple, TcpAllocateError, TcpConnectError,
-    TurnClientApi, TurnEvent, TurnPeerData, TurnPollRet, TurnRecvRet,
+    PermissionsIter, RelayedAddressesIter, SendError, Socket5Tuple, TcpAllocateError,
+    TcpConnectError, TurnClientApi, TurnEvent, TurnPeerData, TurnPollRet, TurnRecvRet,
 };
 use crate::udp::TurnClientUdp;
 use std::convert::AsSlice;
@@ -83,6 +83,12 @@ impl TurnClientApi for TurnClient {
     fn have_permission(&self, transport: TransportType, to: IpAddr) -> bool {
         match self {
             TurnClient::Udp(client) => client.have_permission(transport, to),
+        }
+    }
+
+    fn permissions(&self, transport: TransportType, relayed: SocketAddr) -> PermissionsIter<'_> {
+        match self {
+            TurnClient::Udp(client) => client.permissions(transport, relayed),
         }
     }
 

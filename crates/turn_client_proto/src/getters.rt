@@ -1,12 +1,14 @@
 //! What a client's getters give, one after another.
 
 ghost use Rattle.std.specs.Prelude.{◌≡◌};
-ghost use Rattle.turn_client_proto_allocation.specs.Listed.{relayed_shown};
+ghost use Rattle.turn_client_proto_poll.specs.Allocation.Listed.{relayed_shown};
+ghost use Rattle.turn_client_proto_poll.specs.Permission.Shown.{addresses_of};
 
 use std::marker::Model;
-use std::net::SocketAddr;
+use std::net::{IpAddr, SocketAddr};
 use stun_types::TransportType;
-use turn_client_proto_allocation::allocation::Allocation;
+use turn_client_proto_poll::allocation::allocation::Allocation;
+use turn_client_proto_poll::allocation::permission::Permission;
 
 /// The relayed addresses of a client with their transports, in the order in which they were granted.
 /// Those of allocations that are marked as expired are passed over. Contracts see the list of what is
@@ -20,7 +22,7 @@ impl<'a> Model for RelayedAddressesIter<'a> {
     ghost use Rattle.std.specs.Prelude.{List};
     ghost use Rattle.std.specs.declared.net.socket_addr.SocketAddr.{SocketAddr};
     ghost use Rattle.stun_types.specs.declared.transport.TransportType.{TransportType};
-    ghost use Rattle.turn_client_proto_allocation.specs.Listed.{relayed_shown};
+    ghost use Rattle.turn_client_proto_poll.specs.Allocation.Listed.{relayed_shown};
 
     ghost Value = { List (TransportType × SocketAddr) };
 
@@ -56,5 +58,47 @@ impl<'a> Iterator for RelayedAddressesIter<'a> {
         }
         self.left = left;
         None
+    }
+}
+
+/// The addresses of permissions, in the order in which they were granted. Contracts see the list of what
+/// is left.
+#[derive(Debug, Drop)]
+pub struct PermissionsIter<'a> {
+    left: &'a [Permission],
+}
+
+impl<'a> Model for PermissionsIter<'a> {
+    ghost use Rattle.std.specs.Prelude.{List};
+    ghost use Rattle.std.specs.declared.net.ip_addr.IpAddr.{IpAddr};
+    ghost use Rattle.turn_client_proto_poll.specs.Permission.Shown.{addresses_of};
+
+    ghost Value = { List IpAddr };
+
+    ghost view = { λ it. addresses_of it.left.now };
+}
+
+impl<'a> PermissionsIter<'a> {
+    /// The addresses of these permissions.
+    pub fn new(permissions: &'a [Permission]) -> PermissionsIter<'a>
+        ensures { result ≡ addresses_of permissions.now }
+    {
+        PermissionsIter { left: permissions }
+    }
+}
+
+impl<'a> Iterator for PermissionsIter<'a> {
+    ghost use Rattle.std.specs.Iterator.{YieldsFirst, item_count};
+
+    type Item = IpAddr;
+
+    ghost next_gives = { YieldsFirst (λ left. left) };
+
+    ghost remaining = { item_count (λ left. left) };
+
+    fn next(&mut self) -> Option<IpAddr> {
+        let (first, others) = self.left.split_first()?;
+        self.left = others;
+        Some(first.ip)
     }
 }

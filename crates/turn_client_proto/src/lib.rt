@@ -14,5 +14,5 @@ pub mod prelude;
 pub mod udp;
 
 pub use stun_proto as stun;
-pub use turn_client_proto_core::laws;
+pub use turn_client_proto_poll::laws;
 pub use turn_types as types;

@@ -5,15 +5,15 @@ ghost use Rattle.std.specs.Bool.{MatchBool};
 ghost use Rattle.stun_types.specs.Grammar.{refusal};
 ghost use Rattle.stun_types.specs.Registry.{longest_username};
 ghost use Rattle.stun_types.specs.declared.transport.TransportType.TheVariants.{Udp};
-ghost use Rattle.turn_client_proto_core.specs.Beginning.{IsNew};
-ghost use Rattle.turn_client_proto_core.specs.Ending.{HasFailed};
+ghost use Rattle.turn_client_proto_poll.specs.Core.Beginning.{IsNew};
+ghost use Rattle.turn_client_proto_poll.specs.Core.Ending.{HasFailed};
 ghost use Rattle.turn_client_proto.specs.HandingIn.{IsHandedIn};
 ghost use Rattle.turn_client_proto.specs.Receipts.{IsOfServer, IsReceived};
 
 use crate::api::{
     BindChannelError, CreatePermissionError, DelayedMessageOrChannelSend, DeleteError,
-    RelayedAddressesIter, SendError, Socket5Tuple, TcpAllocateError, TcpConnectError,
-    TurnClientApi, TurnConfig, TurnEvent, TurnPeerData, TurnPollRet, TurnRecvRet,
+    PermissionsIter, RelayedAddressesIter, SendError, Socket5Tuple, TcpAllocateError,
+    TcpConnectError, TurnClientApi, TurnConfig, TurnEvent, TurnPeerData, TurnPollRet, TurnRecvRet,
 };
 use std::alloc::Global;
 use std::convert::AsSlice;
@@ -24,7 +24,10 @@ use stun_proto::Instant;
 use stun_types::data::Data;
 use stun_types::message::Message;
 use stun_types::{NoMemory, Transmit, TransportType};
-use turn_client_proto_core::protocol::Protocol;
+use turn_client_proto_poll::permission::asking::permits_any;
+use turn_client_proto_poll::permission::shown::permissions_at;
+use turn_client_proto_poll::protocol::Protocol;
+use turn_client_proto_poll::{drawing, polling};
 use turn_types::transmit::TransmitBuild;
 
 /// A TURN client over UDP: datagrams to and from the server, and an allocation over UDP. Contracts see
@@ -35,7 +38,7 @@ pub struct TurnClientUdp {
 }
 
 impl Model for TurnClientUdp {
-    ghost use Rattle.turn_client_proto_core.specs.declared.protocol.Protocol.{Protocol};
+    ghost use Rattle.turn_client_proto_poll.specs.Core.declared.protocol.Protocol.{Protocol};
     ghost use Rattle.turn_client_proto.specs.Codes.{protocol_code};
 
     ghost Value = { Protocol };
@@ -116,15 +119,20 @@ impl TurnClientApi for TurnClientUdp {
 
     fn create_permission(
         &mut self,
-        _transport: TransportType,
-        _peer_addr: IpAddr,
-        _now: Instant,
+        transport: TransportType,
+        peer_addr: IpAddr,
+        now: Instant,
     ) -> Result<(), CreatePermissionError> {
-        Err(CreatePermissionError::NoAllocation)
+        self.protocol.create_permission(transport, peer_addr, now)
     }
 
-    fn have_permission(&self, _transport: TransportType, _to: IpAddr) -> bool {
-        false
+    fn have_permission(&self, transport: TransportType, to: IpAddr) -> bool {
+        permits_any(self.protocol.allocations.as_slice(), transport, to)
+    }
+
+    fn permissions(&self, transport: TransportType, relayed: SocketAddr) -> PermissionsIter<'_> {
+        let allocations = self.protocol.allocations.as_slice();
+        PermissionsIter::new(permissions_at(allocations, transport, relayed))
     }
 
     fn bind_channel(
@@ -194,11 +202,11 @@ impl TurnClientApi for TurnClientUdp {
     }
 
     fn poll(&mut self, now: Instant) -> TurnPollRet {
-        self.protocol.poll(now)
+        polling::poll(&mut self.protocol, now)
     }
 
     fn poll_transmit(&mut self, now: Instant) -> Result<Option<Transmit<Data<'static>>>, NoMemory> {
-        self.protocol.poll_transmit(now)
+        drawing::poll_transmit(&mut self.protocol, now)
     }
 
     fn poll_event(&mut self) -> Option<TurnEvent> {

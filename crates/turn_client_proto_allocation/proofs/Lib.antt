@@ -1,3 +1,4 @@
 pub mod Changes
 pub mod Earliest
+pub mod Prefixes
 pub mod Undoing

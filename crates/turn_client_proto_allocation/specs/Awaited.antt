@@ -16,6 +16,11 @@ use Rattle.turn_client_proto_allocation.specs.declared.refresh.PendingRefresh.{P
 abbrev pub has_number : ℕ → List ℕ → Bool
 has_number number numbers = list_any (λ n. n == number) numbers
 
+-- the number of what ended, where something did, is among these
+abbrev pub is_among : Option ℕ → List ℕ → Bool
+is_among None numbers = false
+is_among (Some number) numbers = has_number number numbers
+
 abbrev pub renews_permission : ℕ → Permission → Bool
 renews_permission number p = has_number number p.renewals
 

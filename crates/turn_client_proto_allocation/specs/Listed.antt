@@ -6,7 +6,7 @@ use Rattle.std.specs.declared.net.socket_addr.SocketAddr.{SocketAddr}
 use Rattle.stun_types.specs.declared.transport.TransportType.{TransportType}
 use Rattle.turn_client_proto_allocation.specs.Awaited.{is_awaited, is_refresh}
 use Rattle.turn_client_proto_allocation.specs.Changes.{change_first}
-use Rattle.turn_client_proto_allocation.specs.Refreshing.{lifetime_asked, refreshing, wants_refresh}
+use Rattle.turn_client_proto_allocation.specs.Refreshing.{lifetime_asked, refreshing}
 use Rattle.turn_client_proto_allocation.specs.declared.allocation.Allocation.{Allocation}
 use Rattle.turn_client_proto_allocation.specs.declared.refresh.PendingRefresh.{PendingRefresh}
 
@@ -26,10 +26,6 @@ refresh_asked number allocations =
 -- the first allocation that awaits the REFRESH of a number awaits another one, too
 abbrev pub refreshed_again : ℕ → PendingRefresh → List Allocation → List Allocation
 refreshed_again number refresh allocations = change_first (awaits_refresh number) (refreshing refresh) allocations
-
--- the first allocation that is to be renewed awaits a REFRESH
-abbrev pub refreshed_first : ℕ → PendingRefresh → List Allocation → List Allocation
-refreshed_first now refresh allocations = change_first (wants_refresh now) (refreshing refresh) allocations
 
 -- an allocation that is shown: it is not marked as expired
 abbrev pub is_shown : Allocation → Bool

@@ -13,7 +13,8 @@ use crate::channel::{self, Channel, LapsedChannel, PendingChannel};
 use crate::connection::{
     Connecting, Connection, Waiting, is_any_attempt, is_any_binding, is_any_connecting,
 };
-use crate::permission::{self, PendingPermission, Permission};
+use crate::permission;
+use crate::permissions::{PendingPermissions, Permissions};
 use crate::refresh::{PendingRefresh, is_any_refresh, lifetime_asked};
 use std::alloc::Global;
 use std::net::SocketAddr;
@@ -48,11 +49,11 @@ pub struct Allocation {
     /// Whether a call found that it has ended, or its end was asked for.
     pub is_expired: bool,
     /// The permissions that stand.
-    pub permissions: ListOf<Permission>,
+    pub permissions: Permissions,
     /// The channels that stand.
     pub channels: ListOf<Channel>,
     /// The permissions that were asked for.
-    pub pending_permissions: ListOf<PendingPermission>,
+    pub pending_permissions: PendingPermissions,
     /// The channels that were asked for.
     pub pending_channels: ListOf<PendingChannel>,
     /// The REFRESH requests that are not answered.
@@ -85,9 +86,9 @@ impl Allocation {
             first_lifetime: lifetime,
             expiry: now.saturating_add(Duration::from_secs(u64::from(lifetime))),
             is_expired: false,
-            permissions: ListOf::new(alloc),
+            permissions: Permissions::new(alloc),
             channels: ListOf::new(alloc),
-            pending_permissions: ListOf::new(alloc),
+            pending_permissions: PendingPermissions::new(alloc),
             pending_channels: ListOf::new(alloc),
             pending_refreshes: ListOf::new(alloc),
             lapsed_channels: ListOf::new(alloc),

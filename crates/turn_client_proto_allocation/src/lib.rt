@@ -1,6 +1,6 @@
 //! What a TURN client keeps of its allocations (RFC 8656, sections 5 to 12; RFC 6062, section 4): the
 //! relayed address, what stands on it, what was asked for and is not answered, and when it has to be
-//! renewed. [`queue`] has the queues in which a client keeps what waits to be told or sent.
+//! renewed.
 #![tactic(auto)]
 
 pub mod allocation;
@@ -9,5 +9,5 @@ pub mod connection;
 pub mod listed;
 pub mod numbers;
 pub mod permission;
-pub mod queue;
+pub mod permissions;
 pub mod refresh;

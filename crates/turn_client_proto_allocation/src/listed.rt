@@ -1,15 +1,17 @@
 //! The allocations of a client.
 
 ghost use Rattle.std.specs.Prelude.{◌≡◌, ◌<◌, ◌++◌, ◌∷◌, [], List, OnOk, OnErr, IfSome, MatchOption, None, Some, length, map, position, slice_get, slice_set, is_some};
+ghost use Rattle.std.specs.Borrow.{sem};
 ghost use Rattle.std.specs.List.{list_any};
 ghost use Rattle.stun_proto.specs.Least.{IsLeastOf};
 ghost use Rattle.turn_client_proto_allocation.specs.Awaited.{is_refresh};
 ghost use Rattle.turn_client_proto_allocation.specs.Changes.{change_first};
-ghost use Rattle.turn_client_proto_allocation.specs.Listed.{awaits_refresh, is_any_awaited, refresh_asked, refreshed_again, refreshed_first};
+ghost use Rattle.turn_client_proto_allocation.specs.Lending.{LendsAllocations};
+ghost use Rattle.turn_client_proto_allocation.specs.Listed.{awaits_refresh, is_any_awaited, refresh_asked, refreshed_again};
 ghost use Rattle.turn_client_proto_allocation.specs.Polling.{earlier, kept, nexts, polled};
 ghost use Rattle.turn_client_proto_allocation.specs.declared.allocation.Allocation.{Allocation};
 ghost use Rattle.turn_client_proto_allocation.specs.declared.refresh.PendingRefresh.{PendingRefresh};
-ghost use Rattle.turn_client_proto_allocation.specs.Refreshing.{ended, ends_by, refreshing, renewed, wants_refresh};
+ghost use Rattle.turn_client_proto_allocation.specs.Refreshing.{ended, ends_by, refreshing, renewed};
 
 use crate::allocation::Allocation;
 use crate::refresh::PendingRefresh;
@@ -50,6 +52,14 @@ impl Allocations {
         ensures { result.now ≡ self.now }
     {
         self.items.as_slice()
+    }
+
+    /// The allocations, to be changed.
+    pub fn as_mut_slice(&mut self) -> &mut [Allocation]
+        ensures* writes_back { sem 𝓛 (LendsAllocations self.entry result) }
+        ensures value { result.now ≡ self.old }
+    {
+        self.items.as_mut_slice()
     }
 
     /// Adds an allocation at the end. Where memory is refused, nothing changes.
@@ -93,22 +103,6 @@ impl Allocations {
         ensures err { OnErr result (self.new ≡ self.old) }
     {
         refresh_again(self.items.as_mut_slice(), number, refresh)
-    }
-
-    /// Whether one of them is to be renewed at a moment.
-    pub fn wants_refresh(&self, now: Instant) -> bool
-        ensures { result ≡ list_any (wants_refresh now) self.now }
-    {
-        wants_refresh(self.items.as_slice(), now)
-    }
-
-    /// The first one that is to be renewed at a moment awaits a REFRESH. Where memory is refused,
-    /// nothing changes.
-    pub fn refresh_first(&mut self, now: Instant, refresh: &PendingRefresh) -> Result<(), NoMemory>
-        ensures ok { OnOk result (self.new ≡ refreshed_first now refresh.now self.old) }
-        ensures err { OnErr result (self.new ≡ self.old) }
-    {
-        refresh_first(self.items.as_mut_slice(), now, refresh)
     }
 
     /// Each of them awaits a REFRESH. Where memory is refused, nothing changes.
@@ -177,13 +171,6 @@ fn is_any_awaited(allocations: &[Allocation], number: TransactionId) -> bool
     allocations.iter().any(|a| a.is_awaited(number))
 }
 
-/// Whether one of the allocations is to be renewed at a moment.
-fn wants_refresh(allocations: &[Allocation], now: Instant) -> bool
-    ensures { result ≡ list_any (wants_refresh now) allocations.now }
-{
-    allocations.iter().any(|a| a.wants_refresh(now))
-}
-
 /// Whether the end of one of the allocations was asked for by the request of this number.
 fn ends_any(allocations: &[Allocation], number: TransactionId) -> bool
     ensures { result ≡ list_any (ends_by number) allocations.now }
@@ -196,13 +183,6 @@ fn place_awaiting(allocations: &[Allocation], number: TransactionId) -> Option<u
     ensures { result ≡ position (awaits_refresh number) allocations.now }
 {
     allocations.iter().position(|a| a.awaits_refresh(number))
-}
-
-/// The place of the first allocation that is to be renewed at a moment.
-fn place_wanting(allocations: &[Allocation], now: Instant) -> Option<usize>
-    ensures { result ≡ position (wants_refresh now) allocations.now }
-{
-    allocations.iter().position(|a| a.wants_refresh(now))
 }
 
 /// The lifetime that the REFRESH of this number asks for, of the first allocation that awaits it.
@@ -239,22 +219,6 @@ fn refresh_again(
     ensures err { OnErr result (allocations.new ≡ allocations.old) }
 {
     let Some(place) = place_awaiting(allocations, number) else {
-        return Ok(());
-    };
-    await_at(allocations, place, refresh)
-}
-
-/// The first allocation that is to be renewed at a moment awaits a REFRESH.
-#[tactic(auto, using(crate::proofs::Changes::change_first_at, crate::proofs::Changes::change_first_none))]
-fn refresh_first(
-    allocations: &mut [Allocation],
-    now: Instant,
-    refresh: &PendingRefresh,
-) -> Result<(), NoMemory>
-    ensures ok { OnOk result (allocations.new ≡ refreshed_first now refresh.now allocations.old) }
-    ensures err { OnErr result (allocations.new ≡ allocations.old) }
-{
-    let Some(place) = place_wanting(allocations, now) else {
         return Ok(());
     };
     await_at(allocations, place, refresh)

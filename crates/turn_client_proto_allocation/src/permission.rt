@@ -1,14 +1,19 @@
 //! Permissions (RFC 8656, section 9).
 
-ghost use Rattle.std.specs.Prelude.{◌≡◌};
+ghost use Rattle.std.specs.Prelude.{◌≡◌, [], ◌∷◌, ◌++◌, IfOk, OnOk, OnErr};
 ghost use Rattle.std.specs.List.{list_any};
 ghost use Rattle.turn_client_proto_allocation.specs.Awaited.{asks_for_permission, has_number, renews_permission};
+ghost use Rattle.turn_client_proto_allocation.specs.Permissions.{awaiting, has_lapsed, is_over, next_of_permission, permission_renewal, polled_permission, renewed_permission, wants_renewal, with_number};
 
-use crate::numbers::has_number;
+use crate::numbers::{has_number, is_among};
+use std::alloc::Global;
 use std::net::IpAddr;
 use stun_proto::Instant;
-use stun_types::ListOf;
 use stun_types::message::TransactionId;
+use stun_types::{ListOf, NoMemory};
+
+/// So long before it lapses a permission is renewed, in nanoseconds.
+const RENEWED_BEFORE: u64 = 60_000_000_000;
 
 /// A permission that stands: the server relays what comes from this address.
 #[derive(Debug, Drop)]
@@ -21,6 +26,84 @@ pub struct Permission {
     pub renewals: ListOf<TransactionId>,
 }
 
+impl Permission {
+    /// Whether a request of this number is to renew it.
+    pub fn is_renewed_by(&self, number: TransactionId) -> bool
+        ensures { result ≡ renews_permission number self.now }
+    {
+        has_number(self.renewals.as_slice(), number)
+    }
+
+    /// The moment from which on it is to be renewed: a minute before it lapses.
+    fn renewal(&self) -> Instant
+        ensures { result ≡ permission_renewal self.now }
+    {
+        Instant::from_nanos(self.expiry.as_nanos().saturating_sub(RENEWED_BEFORE))
+    }
+
+    /// Whether it is to be renewed at a moment: it stands, no request is to renew it, and its time has
+    /// come.
+    pub fn wants_renewal(&self, now: Instant) -> bool
+        ensures { result ≡ wants_renewal now self.now }
+    {
+        now <= self.expiry && self.renewals.is_empty() && self.renewal() <= now
+    }
+
+    /// Whether it has lapsed at a moment.
+    pub fn has_lapsed(&self, now: Instant) -> bool
+        ensures { result ≡ has_lapsed now self.now }
+    {
+        self.expiry <= now
+    }
+
+    /// The moment at which it has something to do, where the transaction of a number has ended, and a
+    /// request is ready to go out at another moment: it lapses, or it is renewed in its time.
+    #[tactic(auto, unfolding(crate::specs::Permissions::next_of_permission))]
+    pub fn next(&self, ended: &Option<TransactionId>, ready: Instant, now: Instant) -> Instant
+        ensures { result ≡ next_of_permission ended.now ready now self.now }
+    {
+        if self.has_lapsed(now) {
+            now
+        } else if is_among(ended, self.renewals.as_slice()) {
+            ready
+        } else if self.renewals.is_empty() {
+            self.renewal().max(ready)
+        } else {
+            self.expiry
+        }
+    }
+
+    /// Where the transaction that ended is that of a request which was to renew it, none is any more.
+    #[tactic(auto, unfolding(crate::specs::Permissions::polled_permission))]
+    pub(crate) fn poll(&mut self, ended: &Option<TransactionId>)
+        ensures { self.new ≡ polled_permission ended.now self.old }
+    {
+        if is_among(ended, self.renewals.as_slice()) {
+            self.renewals.clear();
+        }
+    }
+
+    /// The request of this number was granted. Where it was to renew the permission, that stands until
+    /// this moment, and no request is to renew it any more.
+    #[tactic(auto, unfolding(crate::specs::Permissions::renewed_permission))]
+    pub(crate) fn renew(&mut self, number: TransactionId, expiry: Instant)
+        ensures { self.new ≡ renewed_permission number expiry self.old }
+    {
+        if self.is_renewed_by(number) {
+            self.expiry = expiry;
+            self.renewals.clear();
+        }
+    }
+
+    /// The request of this number is to renew it, too. Where memory is refused, nothing changes.
+    pub(crate) fn await_renewal(&mut self, number: TransactionId) -> Result<(), NoMemory>
+        ensures ok { OnOk result (self.new ≡ awaiting number self.old) }
+        ensures err { OnErr result (self.new ≡ self.old) }
+    {
+        self.renewals.push(number)
+    }
+}
+
 /// A permission that was asked for.
 #[derive(Debug, Drop)]
 pub struct PendingPermission {
@@ -30,20 +113,55 @@ pub struct PendingPermission {
     pub numbers: ListOf<TransactionId>,
 }
 
+impl PendingPermission {
+    /// A permission for an address that the request of this number asks for. Where memory is refused,
+    /// `NoMemory`.
+    pub fn new(
+        alloc: Global,
+        ip: IpAddr,
+        number: TransactionId,
+    ) -> Result<PendingPermission, NoMemory>
+        ensures { IfOk result (λ pending.
+            pending ≡ record { ip = ip; numbers = number ∷ [] }) }
+    {
+        let mut numbers = ListOf::new(alloc);
+        numbers.push(number)?;
+        Ok(PendingPermission { ip, numbers })
+    }
+
+    /// Whether a request of this number asks for it.
+    pub fn is_asked_by(&self, number: TransactionId) -> bool
+        ensures { result ≡ asks_for_permission number self.now }
+    {
+        has_number(self.numbers.as_slice(), number)
+    }
+
+    /// Whether the transaction that ended is that of a request which asks for it.
+    pub fn is_over(&self, ended: &Option<TransactionId>) -> bool
+        ensures { result ≡ is_over ended.now self.now }
+    {
+        is_among(ended, self.numbers.as_slice())
+    }
+
+    /// The request of this number asks for it, too. Where memory is refused, nothing changes.
+    pub(crate) fn ask_again(&mut self, number: TransactionId) -> Result<(), NoMemory>
+        ensures ok { OnOk result (self.new ≡ with_number number self.old) }
+        ensures err { OnErr result (self.new ≡ self.old) }
+    {
+        self.numbers.push(number)
+    }
+}
+
 /// Whether a request of this number is to renew one of the permissions.
 pub(crate) fn renews_any(permissions: &[Permission], number: TransactionId) -> bool
     ensures { result ≡ list_any (renews_permission number) permissions.now }
 {
-    permissions
-        .iter()
-        .any(|p| has_number(p.renewals.as_slice(), number))
+    permissions.iter().any(|p| p.is_renewed_by(number))
 }
 
 /// Whether a request of this number asks for one of the permissions.
 pub(crate) fn asks_for_any(permissions: &[PendingPermission], number: TransactionId) -> bool
     ensures { result ≡ list_any (asks_for_permission number) permissions.now }
 {
-    permissions
-        .iter()
-        .any(|p| has_number(p.numbers.as_slice(), number))
+    permissions.iter().any(|p| p.is_asked_by(number))
 }

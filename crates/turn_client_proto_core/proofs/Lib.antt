@@ -1,6 +1,8 @@
 pub mod Deleting
-pub mod Draws
+pub mod Granting
 pub mod Numbers
-pub mod Polls
-pub mod Quiet
+pub mod Results
 pub mod UnderWay
+-- What stands above this crate has these through it.
+pub use Rattle.turn_client_proto_allocation.proofs as Allocation
+pub use Rattle.turn_client_proto_request.proofs as Request

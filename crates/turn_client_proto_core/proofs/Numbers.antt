@@ -14,5 +14,5 @@ still_first p rng from first number same is = record {
   steps = is.steps;
   is = is.is ∙ ap (λ (n : ℕ). behind n is.steps) same;
   passed = λ k less. ap (λ (n : ℕ). is_taken p (behind n k)) (sym same) ∙ sym (same_taken p rng (behind from k)) ∙ is.passed k less;
-  free = λ few. sym (same_taken p rng number) ∙ is.free few;
+  free = sym (same_taken p rng number) ∙ is.free;
 }

@@ -3,12 +3,17 @@ pub mod Asking
 pub mod Authenticating
 pub mod Beginning
 pub mod Deleting
-pub mod Drawing
 pub mod Ending
 pub mod Numbering
 pub mod Outcomes
-pub mod Polling
+pub mod Permitting
 pub mod Receiving
 pub mod Responding
 pub mod Standing
 pub mod Waiting
+-- What stands above this crate has these through it.
+pub use Rattle.turn_client_proto_allocation.specs as Allocation
+pub use Rattle.turn_client_proto_api.specs as Api
+pub use Rattle.turn_client_proto_permission.specs as Permission
+pub use Rattle.turn_client_proto_request.specs as Request
+pub use Rattle.turn_client_proto_response.specs as Response

@@ -1,5 +1,5 @@
 -- The numbers of a client's messages (RFC 8489, section 5).
-use Rattle.std.specs.Prelude.{◌≡◌, ℕ, ◌+◌, ◌-◌, ◌*◌, ◌%◌, ◌^◌, ◌<◌, Bool, ◌||◌, true, false, is_some}
+use Rattle.std.specs.Prelude.{◌≡◌, ℕ, ◌+◌, ◌*◌, ◌%◌, ◌^◌, ◌<◌, Bool, ◌||◌, true, false, is_some}
 use Rattle.std.specs.FinMap as map
 use Rattle.rand_chacha.specs.ChaCha.{ChaCha, next_word}
 use Rattle.turn_client_proto_allocation.specs.Awaited.{has_number}
@@ -37,16 +37,12 @@ is_taken p number = is_some (map.get p.agent.outstanding number)
 abbrev pub behind : ℕ → ℕ → ℕ
 behind number steps = (number + steps) % 2 ^ 96
 
--- so many numbers are looked at, one behind the other
-abbrev pub most_steps : ℕ
-most_steps = 2 ^ 64 - 1
-
 -- the first number from one on that isn't taken
 pub record IsFirstFree (p : Protocol) (from number : ℕ) : Type 0 where
   pub steps : ℕ
   pub is : number ≡ behind from steps
   pub passed : (k : ℕ) → k < steps → is_taken p (behind from k) ≡ true
-  pub free : steps < most_steps → is_taken p number ≡ false
+  pub free : is_taken p number ≡ false
 
 -- the number of the next message
 abbrev pub IsNextNumber : Protocol → ℕ → Type 0

@@ -1,7 +1,8 @@
 -- What responses and challenges do to a client, whatever it asked for (RFC 8489, sections 6.3 and 9.2.5).
-use Rattle.std.specs.Prelude.{ℕ, ◌+◌, nat_lt, Bool, List}
+use Rattle.std.specs.Prelude.{ℕ, ◌+◌, nat_lt, Bool, true, false, List}
 use Rattle.stun_proto.specs.Client as auth
 use Rattle.stun_proto.specs.Handling.{after_message}
+use Rattle.stun_types.specs.MessageClasses.{MessageClass, Error}
 use Rattle.turn_client_proto_core.specs.declared.protocol.Protocol.{Protocol}
 
 -- after so many challenges that were answered without an accepted response between, the next one ends the client
@@ -11,6 +12,10 @@ most_resends = 8
 -- the number of challenges that were answered without an accepted response between is too great
 abbrev pub is_tired : Protocol → Bool
 is_tired p = nat_lt most_resends p.resends
+
+abbrev pub is_error_class : MessageClass → Bool
+is_error_class Error = true
+is_error_class _ = false
 
 -- a client whose authenticator is this one
 abbrev pub judged : auth.Client → Protocol → Protocol

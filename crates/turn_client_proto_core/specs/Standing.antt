@@ -7,19 +7,20 @@ use Rattle.stun_proto.specs.ClientValidations.{LongTermClientValidation, ResendR
 use Rattle.stun_proto.specs.Handling.{is_awaited, is_response}
 use Rattle.stun_types.specs.Attributes.{kind_at}
 use Rattle.stun_types.specs.Grammar.{number_at}
-use Rattle.stun_types.specs.MessageClasses.{MessageClass, Error}
 use Rattle.stun_types.specs.Registry.{allocation_mismatch_code}
 use Rattle.stun_types.specs.Types.{class_of, method_of}
-use Rattle.turn_types.specs.TurnRegistry.{refresh_method}
+use Rattle.turn_types.specs.TurnRegistry.{create_permission_method, refresh_method}
 use Rattle.turn_client_proto_allocation.specs.Listed.{refresh_asked, refreshed_again}
 use Rattle.turn_client_proto_allocation.specs.Refreshing.{ends_by, renewed}
+use Rattle.turn_client_proto_permission.specs.Asking.{peer_asked}
 use Rattle.turn_client_proto_request.specs.declared.request.TurnRequest.TheVariants.{Refresh}
 use Rattle.turn_client_proto_response.specs.Told.{first_code, is_code, lifetime_told}
 use Rattle.turn_client_proto_core.specs.Asking.{asked}
 use Rattle.turn_client_proto_core.specs.Ending.{ended}
 use Rattle.turn_client_proto_core.specs.Numbering.{IsNextNumber, after_number}
 use Rattle.turn_client_proto_core.specs.Outcomes.{IsHandled, IsIgnored}
-use Rattle.turn_client_proto_core.specs.Responding.{accepted, challenged, is_tired}
+use Rattle.turn_client_proto_core.specs.Permitting.{IsAskingAgain, IsPermissionResponded}
+use Rattle.turn_client_proto_core.specs.Responding.{accepted, challenged, is_error_class, is_tired}
 use Rattle.turn_client_proto_core.specs.declared.protocol.Phase.TheVariants.{Ended}
 use Rattle.turn_client_proto_core.specs.declared.protocol.Protocol.{Protocol}
 
@@ -37,9 +38,9 @@ pub record IsRefreshingAgain (p : Protocol) (bytes : List ℕ) (lifetime now : �
   pub is_next : IsNextNumber p number
   pub outcome : IsHandled (challenged bytes (refreshes_again (number_at bytes) number lifetime now p)) handled new
 
--- a challenge is answered by the REFRESH signed anew, where one of its number is awaited
+-- a challenge is answered by the REFRESH signed anew, where one of its number is awaited; else by the CREATE_PERMISSION
 abbrev pub IsAskedAgain : Option ℕ → Protocol → List ℕ → ℕ → Bool → Protocol → Type 0
-IsAskedAgain None p bytes now handled new = IsIgnored p handled new
+IsAskedAgain None p bytes now handled new = IsAskingAgain (peer_asked (number_at bytes) p.allocations) p bytes now handled new
 IsAskedAgain (Some lifetime) p bytes now handled new = IsRefreshingAgain p bytes lifetime now handled new
 
 -- after too many challenges the client ends; else one counts where its number is outstanding
@@ -51,10 +52,6 @@ IsRechallenged p bytes now handled new = MatchBool (is_tired p)
     (IsIgnored p handled new))
 
 -- ---- the response to a REFRESH
-
-abbrev pub is_error_class : MessageClass → Bool
-is_error_class Error = true
-is_error_class _ = false
 
 -- a REFRESH is granted by a success, or by the error that there is no allocation (RFC 8656, section 8.3)
 abbrev pub is_refreshed : List ℕ → Bool
@@ -80,7 +77,9 @@ after_refresh bytes now p = if is_refreshed bytes then refreshed bytes now p els
 abbrev pub IsRequestAnswered : Protocol → List ℕ → ℕ → Bool → Protocol → Type 0
 IsRequestAnswered p bytes now handled new = MatchBool (method_of (kind_at bytes) == refresh_method)
     (IsHandled (after_refresh bytes now p) handled new)
-    (IsIgnored p handled new)
+    (MatchBool (method_of (kind_at bytes) == create_permission_method)
+    (IsPermissionResponded p bytes now handled new)
+    (IsIgnored p handled new))
 
 -- a response that validates counts where its number is outstanding; a request does not
 abbrev pub IsTakenUp : Protocol → List ℕ → ℕ → Bool → Protocol → Type 0

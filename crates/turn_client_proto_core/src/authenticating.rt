@@ -106,13 +106,13 @@ fn numbers_sent(alloc: Global, phase: Phase) -> ListOf<TransactionId>
 
 impl Protocol {
     /// Asks for an allocation under the credentials, once more.
-    #[tactic(auto, using(turn_client_proto_response::proofs::Prefixes::front_kept, turn_client_proto_response::proofs::Prefixes::whole_kept), unfolding(crate::specs::Authenticating::allocates_again, crate::specs::Asking::asked))]
+    #[tactic(auto, using(turn_client_proto_allocation::proofs::Prefixes::front_kept, turn_client_proto_allocation::proofs::Prefixes::whole_kept), unfolding(crate::specs::Authenticating::allocates_again, crate::specs::Asking::asked))]
     fn allocate_again(&mut self, now: Instant) -> Result<(), NoMemory>
         ensures ok { OnOk result ((number : ℕ) × IsNextNumber self.old number
             × (self.new ≡ allocates_again number now self.old)) }
         ensures err { OnErr result (IsUnderWay self.old self.new) }
     {
-        let number = self.draw_number();
+        let number = self.draw_number()?;
         let request = TurnRequest::Allocate(self.allocates, self.families);
         self.ask(number, request, now)?;
         let phase = mem::replace(&mut self.phase, Phase::Ended);
@@ -123,7 +123,7 @@ impl Protocol {
     }
 
     /// A challenge that can be answered came (RFC 8489, section 9.2.5).
-    #[tactic(auto, using(turn_client_proto_response::proofs::Prefixes::front_kept, turn_client_proto_response::proofs::Prefixes::whole_kept), unfolding(crate::specs::Authenticating::allocates_again, crate::specs::Asking::asked, crate::specs::Ending::ended))]
+    #[tactic(auto, using(turn_client_proto_allocation::proofs::Prefixes::front_kept, turn_client_proto_allocation::proofs::Prefixes::whole_kept), unfolding(crate::specs::Authenticating::allocates_again, crate::specs::Asking::asked, crate::specs::Ending::ended))]
     fn answer_challenge(&mut self, message: &Message<'_>, now: Instant) -> Result<bool, NoMemory>
         ensures ok { IfOk result (λ handled.
             IsChallenged self.old message.now now handled self.new) }
@@ -142,7 +142,7 @@ impl Protocol {
     }
 
     /// A response to the first ALLOCATE came that is no challenge, or one that can't be answered.
-    #[tactic(auto, using(turn_client_proto_response::proofs::Prefixes::front_kept, turn_client_proto_response::proofs::Prefixes::whole_kept), unfolding(crate::specs::Responding::answered))]
+    #[tactic(auto, using(turn_client_proto_allocation::proofs::Prefixes::front_kept, turn_client_proto_allocation::proofs::Prefixes::whole_kept), unfolding(crate::specs::Responding::answered))]
     fn turn_away(&mut self, message: &Message<'_>) -> Result<bool, NoMemory>
         ensures ok { IfOk result (λ handled. IsTurnedAway self.old message.now handled self.new) }
         ensures err { OnErr result (IsUnderWay self.old self.new) }
@@ -156,7 +156,7 @@ impl Protocol {
     }
 
     /// A response came where no ALLOCATE was signed.
-    #[tactic(auto, using(turn_client_proto_response::proofs::Prefixes::front_kept, turn_client_proto_response::proofs::Prefixes::whole_kept))]
+    #[tactic(auto, using(turn_client_proto_allocation::proofs::Prefixes::front_kept, turn_client_proto_allocation::proofs::Prefixes::whole_kept))]
     pub(crate) fn hear_first(
         &mut self,
         message: &Message<'_>,
@@ -178,7 +178,7 @@ impl Protocol {
     }
 
     /// A response to one of the signed ALLOCATEs came.
-    #[tactic(auto, using(turn_client_proto_response::proofs::Prefixes::front_kept, turn_client_proto_response::proofs::Prefixes::whole_kept))]
+    #[tactic(auto, using(turn_client_proto_allocation::proofs::Prefixes::front_kept, turn_client_proto_allocation::proofs::Prefixes::whole_kept))]
     pub(crate) fn hear_signed(
         &mut self,
         message: &Message<'_>,
@@ -201,7 +201,7 @@ impl Protocol {
     }
 
     /// A response to a signed ALLOCATE came that validates.
-    #[tactic(auto, using(turn_client_proto_response::proofs::Prefixes::front_kept, turn_client_proto_response::proofs::Prefixes::whole_kept), unfolding(crate::specs::Responding::accepted))]
+    #[tactic(auto, using(turn_client_proto_allocation::proofs::Prefixes::front_kept, turn_client_proto_allocation::proofs::Prefixes::whole_kept), unfolding(crate::specs::Responding::accepted))]
     fn take_response(&mut self, message: &Message<'_>, now: Instant) -> Result<bool, NoMemory>
         ensures ok { IfOk result (λ handled.
             IsAccepted self.old message.now now handled self.new) }
@@ -216,7 +216,7 @@ impl Protocol {
     }
 
     /// A response to a signed ALLOCATE was accepted.
-    #[tactic(auto, using(turn_client_proto_response::proofs::Prefixes::front_kept, turn_client_proto_response::proofs::Prefixes::whole_kept))]
+    #[tactic(auto, using(turn_client_proto_allocation::proofs::Prefixes::front_kept, turn_client_proto_allocation::proofs::Prefixes::whole_kept))]
     fn take_answer(&mut self, message: &Message<'_>, now: Instant) -> Result<bool, NoMemory>
         ensures ok { IfOk result (λ handled. IsAllocateAnswered
             (class_of (kind_at message.now)) self.old message.now now handled self.new) }
@@ -240,7 +240,7 @@ impl Protocol {
     }
 
     /// An error response to a signed ALLOCATE was accepted (RFC 8656, section 7.4).
-    #[tactic(auto, using(turn_client_proto_response::proofs::Prefixes::front_kept, turn_client_proto_response::proofs::Prefixes::whole_kept))]
+    #[tactic(auto, using(turn_client_proto_allocation::proofs::Prefixes::front_kept, turn_client_proto_allocation::proofs::Prefixes::whole_kept))]
     fn take_error(&mut self, message: &Message<'_>, now: Instant) -> Result<bool, NoMemory>
         ensures ok { IfOk result (λ handled. IsErrorAnswered
             (family_left self.old message.now) self.old now handled self.new) }
@@ -255,13 +255,13 @@ impl Protocol {
     }
 
     /// Gives up IPv4, and asks for an address of the family that is left.
-    #[tactic(auto, using(turn_client_proto_response::proofs::Prefixes::front_kept, turn_client_proto_response::proofs::Prefixes::whole_kept), unfolding(crate::specs::Authenticating::allocates_other, crate::specs::Asking::asked))]
+    #[tactic(auto, using(turn_client_proto_allocation::proofs::Prefixes::front_kept, turn_client_proto_allocation::proofs::Prefixes::whole_kept), unfolding(crate::specs::Authenticating::allocates_other, crate::specs::Asking::asked))]
     fn allocate_other(&mut self, family: AddressFamily, now: Instant) -> Result<(), NoMemory>
         ensures ok { OnOk result ((number : ℕ) × IsNextNumber self.old number
             × (self.new ≡ allocates_other family number now self.old)) }
         ensures err { OnErr result (IsUnderWay self.old self.new) }
     {
-        let number = self.draw_number();
+        let number = self.draw_number()?;
         self.families = RequestedFamilies::only(family);
         let failure = TurnEvent::AllocationCreateFailed(AddressFamily::IPV4);
         self.events.push_back(failure)?;

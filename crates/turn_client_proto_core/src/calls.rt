@@ -27,7 +27,9 @@ impl Protocol {
         if !self.is_authenticated() {
             return Err(DeleteError::NoAllocation);
         }
-        let number = self.draw_number();
+        let Ok(number) = self.draw_number() else {
+            return Err(DeleteError::NoMemory);
+        };
         match self.delete_by(number, now) {
             Ok(()) => Ok(()),
             Err(NoMemory) => Err(DeleteError::NoMemory),

@@ -24,7 +24,7 @@ impl Protocol {
     /// Gives up after memory was refused. Nothing is held, awaited or sent any more. So many of the
     /// events are left.
     #[tactic(auto, unfolding(crate::specs::Ending::failed))]
-    pub(crate) fn fail(&mut self, events: usize)
+    pub fn fail(&mut self, events: usize)
         ensures { self.new ≡ failed events self.old }
     {
         let agent = StunAgent::builder(self.alloc, self.agent.transport(), self.agent.local_addr());

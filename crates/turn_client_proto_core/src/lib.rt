@@ -1,6 +1,6 @@
-//! The protocol core of a TURN client (RFC 8656): what it keeps, what it makes of each message that
-//! came, what it does as time goes on, and what it sends. It knows of no transport's framing:
-//! [`protocol`] tells what it keeps, and the other modules have its calls.
+//! The protocol core of a TURN client (RFC 8656): what it keeps, what it is asked for, and what it makes
+//! of each message that came. It knows of no transport's framing: [`protocol`] tells what it keeps, and
+//! the other modules have its calls.
 #![tactic(auto)]
 
 pub mod allocating;
@@ -8,11 +8,15 @@ pub mod asking;
 pub mod authenticating;
 pub mod beginning;
 pub mod calls;
-pub mod drawing;
 pub mod ending;
-pub mod laws;
 pub mod number;
-pub mod polling;
+pub mod permitting;
 pub mod protocol;
 pub mod receiving;
 pub mod standing;
+
+// What stands above this crate has these through it.
+pub use turn_client_proto_allocation as allocation;
+pub use turn_client_proto_api as api;
+pub use turn_client_proto_permission as permission;
+pub use turn_client_proto_request as request;

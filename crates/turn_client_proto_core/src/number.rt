@@ -1,6 +1,6 @@
 //! The numbers of a client's messages.
 
-ghost use Rattle.std.specs.Prelude.{◌≡◌, ◌+◌, ◌%◌, ◌^◌};
+ghost use Rattle.std.specs.Prelude.{◌≡◌, ◌+◌, ◌%◌, ◌^◌, IfOk};
 ghost use Rattle.std.specs.FinMap as finite;
 ghost use Rattle.turn_client_proto_allocation.specs.Awaited.{has_number};
 ghost use Rattle.turn_client_proto_core.specs.Numbering.{IsFirstFree, IsNextNumber, after_draw, after_number, behind, drawn, is_taken};
@@ -8,6 +8,7 @@ ghost use Rattle.turn_client_proto_core.specs.Numbering.{IsFirstFree, IsNextNumb
 use crate::protocol::Protocol;
 use rand_chacha::ChaCha20Rng;
 use rand_core::utils::NextWord;
+use stun_types::NoMemory;
 use stun_types::message::TransactionId;
 
 /// The number that the next three words make, the first of them highest.
@@ -32,9 +33,10 @@ fn next(number: TransactionId) -> TransactionId
 
 impl Protocol {
     /// Draws the number of the next message: the next three words of the generator, the first of them
-    /// highest; a number that is taken is passed by.
-    pub(crate) fn draw_number(&mut self) -> TransactionId
-        ensures number { IsNextNumber self.old result }
+    /// highest; a number that is taken is passed by. Where 2^64 - 1 numbers in a row are taken, for
+    /// which no client has the memory, `NoMemory`.
+    pub fn draw_number(&mut self) -> Result<TransactionId, NoMemory>
+        ensures number { IfOk result (λ number. IsNextNumber self.old number) }
         ensures after { self.new ≡ after_number self.old }
     {
         let drawn = drawn(&mut self.rng);
@@ -51,17 +53,17 @@ impl Protocol {
     }
 
     /// The first number from this one on that isn't taken. The search ends at last behind 2^64 - 1
-    /// numbers, for so many no client has the memory.
-    fn first_free(&self, from: TransactionId) -> TransactionId
-        ensures { IsFirstFree self.now from result }
+    /// numbers, with `NoMemory`.
+    fn first_free(&self, from: TransactionId) -> Result<TransactionId, NoMemory>
+        ensures { IfOk result (λ number. IsFirstFree self.now from number) }
     {
         let mut number = from;
         for _ in 0..u64::MAX {
             if !self.is_taken(number) {
-                return number;
+                return Ok(number);
             }
             number = next(number);
         }
-        number
+        Err(NoMemory)
     }
 }

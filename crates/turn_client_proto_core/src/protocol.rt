@@ -14,9 +14,9 @@ use stun_types::message::TransactionId;
 use stun_types::{ListOf, TransportType};
 use turn_client_proto_allocation::listed::Allocations;
 use turn_client_proto_allocation::numbers::has_number;
-use turn_client_proto_allocation::queue::QueueOf;
 use turn_client_proto_api::event::TurnEvent;
 use turn_client_proto_api::families::RequestedFamilies;
+use turn_client_proto_queue::queue::QueueOf;
 use turn_client_proto_request::signer::Signer;
 
 /// How far a client is.

@@ -29,7 +29,7 @@ impl Protocol {
     }
 
     /// The same; but where memory is refused, the client is under way still.
-    #[tactic(auto, using(turn_client_proto_response::proofs::Prefixes::front_kept, turn_client_proto_response::proofs::Prefixes::whole_kept))]
+    #[tactic(auto, using(turn_client_proto_allocation::proofs::Prefixes::front_kept, turn_client_proto_allocation::proofs::Prefixes::whole_kept))]
     fn hear(&mut self, message: &Message<'_>, now: Instant) -> Result<bool, NoMemory>
         ensures ok { IfOk result (λ handled. IsHeard self.old message.now now handled self.new) }
         ensures err { OnErr result (IsUnderWay self.old self.new) }

@@ -16,7 +16,7 @@ use stun_types::registry::ALLOCATION_MISMATCH;
 use turn_client_proto_allocation::refresh::PendingRefresh;
 use turn_client_proto_request::request::TurnRequest;
 use turn_client_proto_response::told::{first_code, lifetime_told};
-use turn_types::message::REFRESH;
+use turn_types::message::{CREATE_PERMISSION, REFRESH};
 
 /// Whether a REFRESH is granted by its response: by a success, or by the error that there is no
 /// allocation.
@@ -31,7 +31,7 @@ fn is_refreshed(message: &Message<'_>) -> bool
 
 impl Protocol {
     /// A request or a response came.
-    #[tactic(auto, using(turn_client_proto_response::proofs::Prefixes::front_kept, turn_client_proto_response::proofs::Prefixes::whole_kept))]
+    #[tactic(auto, using(turn_client_proto_allocation::proofs::Prefixes::front_kept, turn_client_proto_allocation::proofs::Prefixes::whole_kept))]
     pub(crate) fn hear_standing(
         &mut self,
         message: &Message<'_>,
@@ -50,7 +50,7 @@ impl Protocol {
     }
 
     /// A challenge that can be answered came (RFC 8489, section 9.2.5).
-    #[tactic(auto, using(turn_client_proto_response::proofs::Prefixes::front_kept, turn_client_proto_response::proofs::Prefixes::whole_kept), unfolding(crate::specs::Standing::refreshes_again, crate::specs::Asking::asked))]
+    #[tactic(auto, using(turn_client_proto_allocation::proofs::Prefixes::front_kept, turn_client_proto_allocation::proofs::Prefixes::whole_kept), unfolding(crate::specs::Standing::refreshes_again, crate::specs::Asking::asked))]
     fn ask_again(&mut self, message: &Message<'_>, now: Instant) -> Result<bool, NoMemory>
         ensures ok { IfOk result (λ handled.
             IsRechallenged self.old message.now now handled self.new) }
@@ -65,7 +65,7 @@ impl Protocol {
         }
         let number = message.transaction_id();
         let Some(lifetime) = self.allocations.refresh_asked(number) else {
-            return Ok(false);
+            return self.permit_again(message, now);
         };
         self.refresh_again(number, lifetime, now)?;
         self.count_challenge(message)?;
@@ -74,7 +74,7 @@ impl Protocol {
 
     /// Sends a REFRESH of this lifetime again, under another number, for the allocation that awaits the
     /// one of the old number.
-    #[tactic(auto, using(turn_client_proto_response::proofs::Prefixes::front_kept, turn_client_proto_response::proofs::Prefixes::whole_kept), unfolding(crate::specs::Standing::refreshes_again, crate::specs::Asking::asked))]
+    #[tactic(auto, using(turn_client_proto_allocation::proofs::Prefixes::front_kept, turn_client_proto_allocation::proofs::Prefixes::whole_kept), unfolding(crate::specs::Standing::refreshes_again, crate::specs::Asking::asked))]
     fn refresh_again(
         &mut self,
         old: TransactionId,
@@ -85,7 +85,7 @@ impl Protocol {
             × (self.new ≡ refreshes_again old number lifetime now self.old)) }
         ensures err { OnErr result (IsUnderWay self.old self.new) }
     {
-        let number = self.draw_number();
+        let number = self.draw_number()?;
         self.ask(number, TurnRequest::Refresh(lifetime), now)?;
         let refresh = PendingRefresh { number, lifetime };
         self.allocations.refresh_again(old, &refresh)?;
@@ -93,7 +93,7 @@ impl Protocol {
     }
 
     /// A request or a response came that validates.
-    #[tactic(auto, using(turn_client_proto_response::proofs::Prefixes::front_kept, turn_client_proto_response::proofs::Prefixes::whole_kept), unfolding(crate::specs::Responding::accepted))]
+    #[tactic(auto, using(turn_client_proto_allocation::proofs::Prefixes::front_kept, turn_client_proto_allocation::proofs::Prefixes::whole_kept), unfolding(crate::specs::Responding::accepted))]
     fn take_up(&mut self, message: &Message<'_>, now: Instant) -> Result<bool, NoMemory>
         ensures ok { IfOk result (λ handled.
             IsTakenUp self.old message.now now handled self.new) }
@@ -103,11 +103,14 @@ impl Protocol {
             return Ok(false);
         }
         self.accept(message)?;
-        if message.method() != REFRESH {
-            return Ok(false);
+        if message.method() == REFRESH {
+            self.take_refresh(message, now);
+            return Ok(true);
         }
-        self.take_refresh(message, now);
-        Ok(true)
+        if message.method() == CREATE_PERMISSION {
+            return self.take_permission(message, now);
+        }
+        Ok(false)
     }
 
     /// The response to a REFRESH was accepted.

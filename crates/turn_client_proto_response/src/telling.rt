@@ -8,12 +8,12 @@ ghost use Rattle.turn_client_proto_response.specs.Telling.{created};
 use crate::granting::has_family;
 use stun_types::{AddressFamily, NoMemory};
 use turn_client_proto_allocation::allocation::Allocation;
-use turn_client_proto_allocation::queue::QueueOf;
 use turn_client_proto_api::event::TurnEvent;
+use turn_client_proto_queue::queue::QueueOf;
 
 /// Tells each allocation as created. Where memory is refused, `NoMemory`, and the events that were
 /// there still come first.
-#[tactic(auto, using(crate::proofs::Prefixes::front_kept, crate::proofs::Prefixes::whole_kept))]
+#[tactic(auto, using(turn_client_proto_allocation::proofs::Prefixes::front_kept, turn_client_proto_allocation::proofs::Prefixes::whole_kept))]
 pub fn tell_created(
     events: &mut QueueOf<TurnEvent>,
     allocations: &[Allocation],
@@ -30,7 +30,7 @@ pub fn tell_created(
 
 /// Tells of each family that has no allocation. Where memory is refused, `NoMemory`, and the events
 /// that were there still come first.
-#[tactic(auto, using(crate::proofs::Prefixes::front_kept, crate::proofs::Prefixes::whole_kept))]
+#[tactic(auto, using(turn_client_proto_allocation::proofs::Prefixes::front_kept, turn_client_proto_allocation::proofs::Prefixes::whole_kept))]
 pub fn tell_without(
     events: &mut QueueOf<TurnEvent>,
     families: &[AddressFamily],
@@ -69,7 +69,7 @@ pub fn tell_failures(
 }
 
 /// The same; but where memory is refused, the events that were there still come first.
-#[tactic(auto, using(crate::proofs::Prefixes::front_kept, crate::proofs::Prefixes::whole_kept))]
+#[tactic(auto, using(turn_client_proto_allocation::proofs::Prefixes::front_kept, turn_client_proto_allocation::proofs::Prefixes::whole_kept))]
 fn push_failures(
     events: &mut QueueOf<TurnEvent>,
     families: &[AddressFamily],

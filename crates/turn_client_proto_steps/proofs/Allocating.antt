@@ -25,16 +25,16 @@ use Rattle.turn_runs.specs.Members.{IsIn}
 use Rattle.turn_runs.specs.Messages as run
 use Rattle.turn_runs.specs.Steps.{ClientStep, IsAnswered, IsOwnKey, Told, WasKnown}
 use Rattle.turn_runs_stun.specs.StunWire.{AreValid, stun_wire, told_by}
-use Rattle.turn_client_proto_api.specs.declared.event.TurnEvent.TheVariants.{AllocationCreateFailed}
-use Rattle.turn_client_proto_request.specs.Judging.{IsJudged}
-use Rattle.turn_client_proto_response.specs.Granting.{are_of_one_family, families_without, first_of_each, is_wanted}
-use Rattle.turn_client_proto_response.specs.Telling.{created}
-use Rattle.turn_client_proto_response.specs.Told.{relayed_told}
-use Rattle.turn_client_proto_core.specs.Allocating.{allocated, brought, phase_by}
-use Rattle.turn_client_proto_core.specs.Authenticating.{numbers_sent}
-use Rattle.turn_client_proto_core.specs.Responding.{accepted, judged}
-use Rattle.turn_client_proto_core.specs.declared.protocol.Phase.{Phase}
-use Rattle.turn_client_proto_core.specs.declared.protocol.Protocol.{Protocol}
+use Rattle.turn_client_proto_poll.specs.Api.declared.event.TurnEvent.TheVariants.{AllocationCreateFailed}
+use Rattle.turn_client_proto_poll.specs.Request.Judging.{IsJudged}
+use Rattle.turn_client_proto_poll.specs.Response.Granting.{are_of_one_family, families_without, first_of_each, is_wanted}
+use Rattle.turn_client_proto_poll.specs.Response.Telling.{created}
+use Rattle.turn_client_proto_poll.specs.Response.Told.{relayed_told}
+use Rattle.turn_client_proto_poll.specs.Core.Allocating.{allocated, brought, phase_by}
+use Rattle.turn_client_proto_poll.specs.Core.Authenticating.{numbers_sent}
+use Rattle.turn_client_proto_poll.specs.Core.Responding.{accepted, judged}
+use Rattle.turn_client_proto_poll.specs.Core.declared.protocol.Phase.{Phase}
+use Rattle.turn_client_proto_poll.specs.Core.declared.protocol.Protocol.{Protocol}
 use Rattle.turn_client_proto_steps.specs.ClientWords.{IsTaken, Outstanding, Allocating, Pending, client_words}
 use Rattle.turn_client_proto_steps.specs.Held.{Allocation}
 use Rattle.turn_client_proto_steps.specs.RunClient.{Client, moved, parts_of}
@@ -42,8 +42,8 @@ use Rattle.turn_client_proto_steps.specs.RunSteps.{IsRunStep, call_of}
 use Rattle.turn_client_proto_steps.specs.Sound.{AreAllocates, IsOrderly}
 use Rattle.turn_client_proto_steps.proofs.Agents.{has_other, message_shown, outstanding_before}
 use Rattle.turn_client_proto_steps.proofs.Asking.{IsUnderWay}
-use Rattle.turn_client_proto_steps.proofs.Lists.{in_filter, in_map}
-use Rattle.turn_client_proto_steps.proofs.Gaining.{anything, fresh, in_firsts, kept_gained, none_attempted, none_pending, none_sent, none_short, none_twice, none_waits, relayed_shown, told_created, told_of}
+use Rattle.turn_client_proto_steps.proofs.Lists.{in_filter, in_map, inside}
+use Rattle.turn_client_proto_steps.proofs.Gaining.{anything, fresh, in_firsts, kept_gained, none_asked, none_attempted, none_pending, none_sent, none_short, none_twice, none_waits, relayed_shown, told_created, told_of}
 use Rattle.turn_client_proto_steps.proofs.Orderly.{until_all}
 use Rattle.turn_client_proto_steps.proofs.Plain.{failures_tell_nothing, held_is_kept, joined, none_told, notices}
 
@@ -56,9 +56,6 @@ pub record IsOwn (account : NameAndPassword) (bytes : List ℕ) : Type 0 where
   pub algorithm : IntegrityAlgorithm
   pub text : List ℕ
   pub valid : AreValid bytes key algorithm text
-
-inside : {A : Type 0} {a b : A} → Some a ≡ Some b → a ≡ b
-inside p = Prim.cc p
 
 pub validated_own : (old new : signers.Client) (bytes : List ℕ) (algorithm : IntegrityAlgorithm) (account : NameAndPassword) → AreBytes bytes → old.account ≡ Some account → IsJudged old bytes (Ok (Validated algorithm)) new → IsOwn account bytes
 validated_own old new bytes algorithm account are_bytes has is =
@@ -192,6 +189,7 @@ module _ (c : Client) (signer : signers.Client) (bytes : List ℕ) (lifetime now
         allocates = anything _ (map (fresh transport number lifetime now) all);
         queued = orderly.queued;
         lifetimes = λ a listed. none_short transport number lifetime now all a listed;
+        permissions = λ a listed. none_asked transport number lifetime now all agent a listed;
       };
       can_ask = until_all (phase_by (map (fresh transport number lifetime now) all)) (record {
         account = under_way.can_ask.account;

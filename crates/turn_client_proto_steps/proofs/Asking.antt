@@ -14,27 +14,28 @@ use Rattle.turn_runs.specs.Members.{IsIn}
 use Rattle.turn_runs.specs.Messages as run
 use Rattle.turn_runs.specs.Steps.{AreNumbered, IsNumberAt, MayDraw}
 use Rattle.turn_runs_stun.specs.StunWire.{stun_wire, told_by}
-use Rattle.turn_client_proto_request.specs.Judging.{IsJudged}
-use Rattle.turn_client_proto_request.specs.Requests.{request_text}
-use Rattle.turn_client_proto_request.specs.ShortTexts.{HasShortTexts}
-use Rattle.turn_client_proto_request.specs.ToldRequests.{CanBeRead, IsLawfulRequest, told_request}
-use Rattle.turn_client_proto_request.specs.declared.request.TurnRequest.{TurnRequest}
-use Rattle.turn_client_proto_request.specs.declared.request.TurnRequest.TheVariants.{FirstAllocate}
-use Rattle.turn_client_proto_request.proofs.Reading.{message_law, number_law, told_law}
-use Rattle.turn_client_proto_request.proofs.Short.{stay_short}
-use Rattle.turn_client_proto_core.specs.Asking.{asked, queued_request}
-use Rattle.turn_client_proto_core.specs.Drawing.{sent_at_once}
-use Rattle.turn_client_proto_core.specs.Numbering.{IsNextNumber, after_draw, after_number}
-use Rattle.turn_client_proto_core.specs.Responding.{accepted, answered, judged}
-use Rattle.turn_client_proto_core.specs.declared.protocol.Protocol.{Protocol}
+use Rattle.turn_client_proto_poll.specs.Request.Judging.{IsJudged}
+use Rattle.turn_client_proto_poll.specs.Request.Requests.{request_text}
+use Rattle.turn_client_proto_poll.specs.Request.ShortTexts.{HasShortTexts}
+use Rattle.turn_client_proto_poll.specs.Request.ToldRequests.{CanBeRead, IsLawfulRequest, told_request}
+use Rattle.turn_client_proto_poll.specs.Request.declared.request.TurnRequest.{TurnRequest}
+use Rattle.turn_client_proto_poll.specs.Request.declared.request.TurnRequest.TheVariants.{FirstAllocate}
+use Rattle.turn_client_proto_poll.proofs.Request.Reading.{message_law, number_law, told_law}
+use Rattle.turn_client_proto_poll.proofs.Request.Short.{stay_short}
+use Rattle.turn_client_proto_poll.specs.Core.Asking.{asked, queued_request}
+use Rattle.turn_client_proto_poll.specs.Drawing.{sent_at_once}
+use Rattle.turn_client_proto_poll.specs.Core.Numbering.{IsNextNumber, after_draw, after_number}
+use Rattle.turn_client_proto_poll.specs.Core.Responding.{accepted, answered, judged}
+use Rattle.turn_client_proto_poll.specs.Core.declared.protocol.Protocol.{Protocol}
 use Rattle.turn_client_proto_steps.specs.ClientWords.{client_words}
 use Rattle.turn_client_proto_steps.specs.RunClient.{Client, Parts, moved, parts_of}
 use Rattle.turn_client_proto_steps.specs.RunSteps.{IsRunStep}
 use Rattle.turn_client_proto_steps.specs.Sound.{BeforeAllocated, CanAsk, IsOrderly, stream_from}
 use Rattle.turn_client_proto_steps.proofs.Adding.{Adds, adds_both, adds_none, agent_less, agent_more, queue_more, widened}
 use Rattle.turn_client_proto_steps.proofs.Numbers.{IsAtPlace, number_at_place, number_small, words_after}
-use Rattle.turn_client_proto_steps.proofs.Orderly.{IsAllocate, agent_orderly, queue_orderly, request_orderly, until_all}
+use Rattle.turn_client_proto_steps.proofs.Orderly.{IsAllocate, IsFree, agent_orderly, queue_orderly, request_orderly, until_all}
 use Rattle.turn_client_proto_steps.proofs.Plain.{notices, run_step}
+use Rattle.turn_client_proto_steps.proofs.Taken.{free_by}
 
 -- ---- a call under way
 
@@ -113,6 +114,10 @@ made c mid request number is lawful read next =
       told = told_law mid.auth request number texts lawful small read;
     }
 
+-- no permission awaits its number
+pub free : (mid : Protocol) (request : TurnRequest) (number : ℕ) → IsMade mid request number → IsFree (parts_of mid) (number_at (request_text mid.auth request number))
+free mid request number is = subst (λ (n : ℕ). IsFree (parts_of mid) n) (sym is.number_is) (free_by mid number is.is_next.free)
+
 module _ (c : Client) (mid : Protocol) (request : TurnRequest) (number : ℕ) (under_way : IsUnderWay c mid) (is : IsMade mid request number) where
   abbrev text : List ℕ
   text = request_text mid.auth request number
@@ -171,7 +176,7 @@ unfolding asked
 asked_orderly mid request number now is allocates orderly =
     let text = request_text mid.auth request number in
     let sent : Parts = record (parts_of mid) { agent = with_request mid.agent text mid.server now } in
-    queue_orderly sent (queued_request mid text) refl (request_orderly (parts_of mid) text mid.server now is.message allocates orderly)
+    queue_orderly sent (queued_request mid text) refl (request_orderly (parts_of mid) text mid.server now is.message (free mid request number is) allocates orderly)
 
 -- ---- a request that is outstanding, and sent at once
 
@@ -182,4 +187,4 @@ sent_adds mid request number now = agent_more (parts_of mid) (request_text mid.a
 pub sent_orderly : (mid : Protocol) (request : TurnRequest) (number now : ℕ) → IsMade mid request number → BeforeAllocated mid.phase (IsAllocate (parts_of mid) (request_text mid.auth request number)) → IsOrderly (parts_of mid)
     → IsOrderly (parts_of (sent_at_once (after_number mid) request number now))
 unfolding sent_at_once
-sent_orderly mid request number now is allocates orderly = request_orderly (parts_of mid) (request_text mid.auth request number) mid.server now is.message allocates orderly
+sent_orderly mid request number now is allocates orderly = request_orderly (parts_of mid) (request_text mid.auth request number) mid.server now is.message (free mid request number is) allocates orderly

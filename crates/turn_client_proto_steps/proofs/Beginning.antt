@@ -18,15 +18,15 @@ use Rattle.stun_proto_agent.proofs.Numbers.{fresh_shows}
 use Rattle.turn_runs.specs.Members.{IsIn}
 use Rattle.turn_runs.specs.Runs as runs
 use Rattle.turn_runs.specs.Words.{DeskWords}
-use Rattle.turn_client_proto_api.specs.Config.{Config}
-use Rattle.turn_client_proto_request.specs.Judging.{signer_of}
-use Rattle.turn_client_proto_request.specs.ShortTexts.{HasShortTexts}
-use Rattle.turn_client_proto_request.proofs.Short.{fresh_short}
-use Rattle.turn_client_proto_core.specs.Authenticating.{numbers_sent}
-use Rattle.turn_client_proto_core.specs.Beginning.{IsNew}
-use Rattle.turn_client_proto_core.specs.Waiting.{Queued}
-use Rattle.turn_client_proto_core.specs.declared.protocol.Phase.{Phase}
-use Rattle.turn_client_proto_core.specs.declared.protocol.Protocol.{Protocol}
+use Rattle.turn_client_proto_poll.specs.Api.Config.{Config}
+use Rattle.turn_client_proto_poll.specs.Request.Judging.{signer_of}
+use Rattle.turn_client_proto_poll.specs.Request.ShortTexts.{HasShortTexts}
+use Rattle.turn_client_proto_poll.proofs.Request.Short.{fresh_short}
+use Rattle.turn_client_proto_poll.specs.Core.Authenticating.{numbers_sent}
+use Rattle.turn_client_proto_poll.specs.Core.Beginning.{IsNew}
+use Rattle.turn_client_proto_poll.specs.Core.Waiting.{Queued}
+use Rattle.turn_client_proto_poll.specs.Core.declared.protocol.Phase.{Phase}
+use Rattle.turn_client_proto_poll.specs.Core.declared.protocol.Protocol.{Protocol}
 use Rattle.turn_client_proto_steps.specs.Beginning.{first_client}
 use Rattle.turn_client_proto_steps.specs.ClientWords.{IsAttempted, IsWaiting, IsAnswered, IsTaken, Outstanding, Allocating, Pending, run_words}
 use Rattle.turn_client_proto_steps.specs.Held.{Allocation}
@@ -59,6 +59,7 @@ module _ (transport : TransportType) (here server : SocketAddr) (config : Config
     allocates = before_all p.phase (λ n t there. none_there n t there);
     queued = λ q h. none_queued q h;
     lifetimes = λ a h. none_listed a h;
+    permissions = λ a h. none_listed a h;
   }
 
   pub new_sound : length config.credentials.username ≤ longest_username → length config.families ≤ 2 → IsSound (first_client config.credentials seed p)

@@ -1,7 +1,6 @@
 -- What is drawn to be sent is a step of a run.
 use Rattle.std.proofs.Common.{◌≡◌, ℕ, true, false, List, [], ◌∷◌, Option, Some, None, refl, sym, ap, ◌∙◌, subst, arith, inl, inr}
 use Rattle.std.specs.Option.{option_map}
-use Rattle.std.specs.List.{list_any}
 use Rattle.stun_proto.specs.Sending.{kept_under}
 use Rattle.stun_proto.specs.Agents.{transmitted}
 use Rattle.stun_proto.specs.Numbers.{NothingNew}
@@ -11,17 +10,20 @@ use Rattle.turn_runs.specs.Members.{IsIn}
 use Rattle.turn_runs.specs.Messages as run
 use Rattle.turn_runs.specs.Steps.{MayDraw}
 use Rattle.turn_runs_stun.specs.StunWire.{stun_wire, told_by}
-use Rattle.turn_client_proto_allocation.specs.Listed.{refreshed_first}
-use Rattle.turn_client_proto_allocation.specs.Refreshing.{refreshing, wants_refresh}
-use Rattle.turn_client_proto_request.specs.Requests.{allocation_lifetime, request_text}
-use Rattle.turn_client_proto_request.specs.declared.request.TurnRequest.{TurnRequest}
-use Rattle.turn_client_proto_request.specs.declared.request.TurnRequest.TheVariants.{FirstAllocate, Refresh}
-use Rattle.turn_client_proto_core.specs.Drawing.{Again, Fresh, IsBegun, IsDrawn, IsFirstSent, IsNextSent, IsQueuedSent, IsRefreshSent, IsRepeated, IsStill, Sends, Sent, after_sending, first_allocated, first_refreshed, is_resting, sent_at_once}
-use Rattle.turn_client_proto_core.specs.Numbering.{after_number}
-use Rattle.turn_client_proto_core.specs.Waiting.{Queued}
-use Rattle.turn_client_proto_core.specs.declared.protocol.Phase.{Phase}
-use Rattle.turn_client_proto_core.specs.declared.protocol.Phase.TheVariants.{Initial, InitialSent, Authenticating, Authenticated, Ended}
-use Rattle.turn_client_proto_core.specs.declared.protocol.Protocol.{Protocol}
+use Rattle.std.specs.declared.net.ip_addr.IpAddr.{IpAddr}
+use Rattle.turn_client_proto_poll.specs.Allocation.Refreshing.{refreshing}
+use Rattle.turn_client_proto_poll.specs.Permission.Wanting.{refreshed_first, renewal_first, renewing, wanted, wants}
+use Rattle.turn_client_proto_poll.specs.Permission.declared.wanting.Want.{Want}
+use Rattle.turn_client_proto_poll.specs.Permission.declared.wanting.Want.TheVariants as want
+use Rattle.turn_client_proto_poll.specs.Request.Requests.{allocation_lifetime, request_text}
+use Rattle.turn_client_proto_poll.specs.Request.declared.request.TurnRequest.{TurnRequest}
+use Rattle.turn_client_proto_poll.specs.Request.declared.request.TurnRequest.TheVariants.{CreatePermission, FirstAllocate, Refresh}
+use Rattle.turn_client_proto_poll.specs.Drawing.{Again, Fresh, IsBegun, IsDrawn, IsFirstSent, IsNextSent, IsQueuedSent, IsRefreshSent, IsRenewalSent, IsRenewed, IsRepeated, IsStill, Sends, Sent, after_sending, first_allocated, first_permitted, first_refreshed, is_resting, sent_at_once}
+use Rattle.turn_client_proto_poll.specs.Core.Numbering.{after_number}
+use Rattle.turn_client_proto_poll.specs.Core.Waiting.{Queued}
+use Rattle.turn_client_proto_poll.specs.Core.declared.protocol.Phase.{Phase}
+use Rattle.turn_client_proto_poll.specs.Core.declared.protocol.Phase.TheVariants.{Initial, InitialSent, Authenticating, Authenticated, Ended}
+use Rattle.turn_client_proto_poll.specs.Core.declared.protocol.Protocol.{Protocol}
 use Rattle.turn_client_proto_steps.specs.ClientWords.{client_words}
 use Rattle.turn_client_proto_steps.specs.RunClient.{Client, Parts, parts_of}
 use Rattle.turn_client_proto_steps.specs.RunSteps.{IsRunStep}
@@ -32,6 +34,9 @@ use Rattle.turn_client_proto_steps.proofs.Asking.{asks, at_first, made, sent_add
 use Rattle.turn_client_proto_steps.proofs.Ending.{still, still_can}
 use Rattle.turn_client_proto_steps.proofs.Lessening.{first_less, one_awaited}
 use Rattle.turn_client_proto_steps.proofs.Orderly.{IsAllocate, agent_orderly, allocations_orderly, before_all, drawn_orderly, phase_orderly, until_map}
+use Rattle.turn_client_proto_steps.proofs.Permissions.{first_permitting, renewing_permitting}
+use Rattle.turn_client_proto_steps.proofs.Permits.{made_number, owns}
+use Rattle.turn_client_proto_steps.proofs.Permitting.{ArePermitting, allocations_permitting, one_asks, permitting_orderly}
 use Rattle.turn_client_proto_steps.proofs.Plain.{quiet, run_step}
 use Rattle.turn_client_proto_steps.proofs.Polling.{by_test}
 use Rattle.turn_client_proto_steps.proofs.Refreshing.{allocated, refresh_made, refresh_of, refresh_short}
@@ -126,7 +131,7 @@ refresh_sent c now sent new sound at is =
     let refresh = refresh_of is.number allocation_lifetime in
     let mid : Parts = parts_of (sent_at_once (after_number c.core) (Refresh allocation_lifetime) is.number now) in
     let left = refreshed_first now refresh c.core.allocations in
-    let less : AreLess (refresh ∷ []) c.core.allocations left = first_less (refresh ∷ []) (refreshing refresh) (one_awaited refresh) (wants_refresh now) c.core.allocations in
+    let less : AreLess (refresh ∷ []) c.core.allocations left = first_less (refresh ∷ []) (refreshing refresh) (one_awaited refresh) (wants now) c.core.allocations in
     let core : Protocol = after_sending now (first_refreshed is.number now c.core) in
     let adds = adds_both (told_by text ∷ []) (parts_of c.core) mid (parts_of core) (sent_adds c.core (Refresh allocation_lifetime) is.number now)
     (allocations_less (told_by text ∷ []) (refresh ∷ []) mid left less (refresh_made c.core is.number allocation_lifetime written)) in
@@ -134,6 +139,26 @@ refresh_sent c now sent new sound at is =
     (sent_orderly c.core (Refresh allocation_lifetime) is.number now written (allocated _ c.core.phase at) sound.orderly) in
     subst (λ (p : Protocol). IsRunStep c [] (Some sent.bytes) [] p) (sym is.after)
     (asks c c.core (Refresh allocation_lifetime) is.number under_way written [] (Some sent.bytes) core adds orderly refl can.families refl refl (draws_own c text sent.bytes own))
+
+renewal_sent : (c : Client) (ip : IpAddr) (now : ℕ) (sent : Sent) (new : Protocol) → IsSound c → c.core.phase ≡ Authenticated → IsRenewalSent c.core ip now sent new → IsRunStep c [] (Some sent.bytes) [] new
+unfolding first_permitted sent_at_once
+renewal_sent c ip now sent new sound at is =
+    let can : CanAsk c = subst (λ (f : Phase). UntilEnded f (CanAsk c)) at sound.can_ask in
+    let under_way = at_first c sound.orderly can in
+    let number = is.number in
+    let written = made c c.core (CreatePermission ip) number under_way is.lawful tt is.made.is_next in
+    let text = request_text c.core.auth (CreatePermission ip) number in
+    let own : sent.bytes ≡ text = ap (λ (s : Sent). s.bytes) is.made.is_sent in
+    let mid : Parts = parts_of (sent_at_once (after_number c.core) (CreatePermission ip) number now) in
+    let left = renewal_first now number c.core.allocations in
+    let are : ArePermitting (one_asks ip number) c.core.allocations left = first_permitting (one_asks ip number) (wants now) (renewing now number) c.core.allocations (λ a found. renewing_permitting ip now number a) in
+    let core : Protocol = after_sending now (first_permitted ip number now c.core) in
+    let adds = adds_both (told_by text ∷ []) (parts_of c.core) mid (parts_of core) (sent_adds c.core (CreatePermission ip) number now)
+    (allocations_permitting (told_by text ∷ []) (one_asks ip number) mid left are (made_number c.core ip number now written)) in
+    let orderly = permitting_orderly (one_asks ip number) mid left are (owns c.core ip number now written)
+    (sent_orderly c.core (CreatePermission ip) number now written (allocated _ c.core.phase at) sound.orderly) in
+    subst (λ (p : Protocol). IsRunStep c [] (Some sent.bytes) [] p) (sym is.after)
+    (asks c c.core (CreatePermission ip) number under_way written [] (Some sent.bytes) core adds orderly refl can.families refl refl (draws_own c text sent.bytes own))
 
 -- ---- all of it
 
@@ -144,15 +169,17 @@ sends : (c : Client) (Is : Sent → Type 0) (answer : Option Sent) (new : Protoc
 sends c Is None new f h = absurd h
 sends c Is (Some sent) new f h = f sent h
 
+renewed_by : (c : Client) (want : Option Want) (now : ℕ) (answer : Option Sent) (new : Protocol) → IsSound c → c.core.phase ≡ Authenticated → IsRenewed want c.core now answer new → IsRunStep c [] (bytes_of answer) [] new
+renewed_by c None now answer new sound at h = rests c answer new sound h
+renewed_by c (Some want.Refresh) now answer new sound at h = sends c (λ s. IsRefreshSent c.core now s new) answer new (λ s one. refresh_sent c now s new sound at one) h
+renewed_by c (Some (want.Permission ip)) now answer new sound at h = sends c (λ s. IsRenewalSent c.core ip now s new) answer new (λ s one. renewal_sent c ip now s new sound at one) h
+
 begun : (c : Client) (phase : Phase) (now : ℕ) (answer : Option Sent) (new : Protocol) → IsSound c → c.core.phase ≡ phase → IsBegun phase c.core now answer new → IsRunStep c [] (bytes_of answer) [] new
 begun c Initial now answer new sound at h = sends c (λ s. IsFirstSent c.core now s new) answer new (λ s is. first_sent c now s new sound at is) h
 begun c (InitialSent numbers) now answer new sound at h = rests c answer new sound h
 begun c (Authenticating numbers) now answer new sound at h = rests c answer new sound h
 begun c Ended now answer new sound at h = rests c answer new sound h
-begun c Authenticated now answer new sound at h =
-    by_test (list_any (wants_refresh now) c.core.allocations)
-    (λ (_ : list_any (wants_refresh now) c.core.allocations ≡ true) is. sends c (λ s. IsRefreshSent c.core now s new) answer new (λ s one. refresh_sent c now s new sound at one) is)
-    (λ (_ : list_any (wants_refresh now) c.core.allocations ≡ false) is. rests c answer new sound is) h
+begun c Authenticated now answer new sound at h = renewed_by c (wanted now c.core.allocations) now answer new sound at h
 
 next_sent : (c : Client) (queue : List Queued) (now : ℕ) (answer : Option Sent) (new : Protocol) → IsSound c → c.core.queue ≡ queue → IsNextSent queue c.core now answer new → IsRunStep c [] (bytes_of answer) [] new
 next_sent c (q ∷ rest) now answer new sound waits h = sends c (λ s. IsQueuedSent c.core now q rest s new) answer new (λ s is. queued_drawn c now q rest s new sound waits is) h

@@ -8,15 +8,15 @@ use Rattle.stun_proto.specs.Agents.{Transaction}
 use Rattle.stun_proto.specs.Client as signers
 use Rattle.stun_proto_agent.proofs.Numbers.{fresh_shows}
 use Rattle.turn_runs.specs.Members.{IsIn}
-use Rattle.turn_client_proto_api.specs.declared.event.TurnEvent.{TurnEvent}
-use Rattle.turn_client_proto_api.specs.declared.event.TurnEvent.TheVariants.{AllocationCreateFailed}
-use Rattle.turn_client_proto_request.specs.ShortTexts.{HasShortTexts}
-use Rattle.turn_client_proto_core.specs.Authenticating.{numbers_sent}
-use Rattle.turn_client_proto_core.specs.Ending.{HasFailed, ended}
-use Rattle.turn_client_proto_core.specs.Waiting.{Queued}
-use Rattle.turn_client_proto_core.specs.declared.protocol.Phase.{Phase}
-use Rattle.turn_client_proto_core.specs.declared.protocol.Phase.TheVariants.{Ended}
-use Rattle.turn_client_proto_core.specs.declared.protocol.Protocol.{Protocol}
+use Rattle.turn_client_proto_poll.specs.Api.declared.event.TurnEvent.{TurnEvent}
+use Rattle.turn_client_proto_poll.specs.Api.declared.event.TurnEvent.TheVariants.{AllocationCreateFailed}
+use Rattle.turn_client_proto_poll.specs.Request.ShortTexts.{HasShortTexts}
+use Rattle.turn_client_proto_poll.specs.Core.Authenticating.{numbers_sent}
+use Rattle.turn_client_proto_poll.specs.Core.Ending.{HasFailed, ended}
+use Rattle.turn_client_proto_poll.specs.Core.Waiting.{Queued}
+use Rattle.turn_client_proto_poll.specs.Core.declared.protocol.Phase.{Phase}
+use Rattle.turn_client_proto_poll.specs.Core.declared.protocol.Phase.TheVariants.{Ended}
+use Rattle.turn_client_proto_poll.specs.Core.declared.protocol.Protocol.{Protocol}
 use Rattle.turn_client_proto_steps.specs.ClientWords.{IsAttempted, IsWaiting, IsAnswered, IsTaken, Outstanding, Allocating, Pending}
 use Rattle.turn_client_proto_steps.specs.Held.{Allocation}
 use Rattle.turn_client_proto_steps.specs.RunClient.{Client, moved, parts_of}
@@ -99,6 +99,7 @@ module _ (c : Client) (new : Protocol) (is : HasFailed c.core new) where
     allocates = subst (λ (f : Phase). BeforeAllocated f (AreAllocates new.allocates new.agent)) (sym is.phase) tt;
     queued = λ q h. none_queued q h;
     lifetimes = λ a h. none_listed a h;
+    permissions = λ a h. none_listed a h;
   }
 
   pub failed_step : (came : List (List ℕ)) → IsRunStep c came None [] new

@@ -11,22 +11,23 @@ use Rattle.stun_types.specs.Grammar.{number_at}
 use Rattle.stun_types.specs.declared.family.AddressFamily.{AddressFamily}
 use Rattle.stun_types.specs.declared.family.AddressFamily.TheVariants.{IPV4, IPV6}
 use Rattle.stun_types.specs.declared.transport.TransportType.{TransportType}
+use Rattle.stun_proto.specs.State.{Agent}
 use Rattle.turn_types.specs.TurnRegistry.{xor_relayed_address_kind}
 use Rattle.turn_types.specs.TurnShows.{address_in, addresses_shown, each_shown}
 use Rattle.turn_runs.specs.Members.{IsIn, NoneTwice}
 use Rattle.turn_runs.specs.Messages as run
 use Rattle.turn_runs.specs.Steps.{Told, told_for}
-use Rattle.turn_client_proto_allocation.specs.Refreshing.{granted}
-use Rattle.turn_client_proto_api.specs.Families.{is_same_family}
-use Rattle.turn_client_proto_response.specs.Granting.{are_of_one_family, first_of_each}
-use Rattle.turn_client_proto_response.specs.Telling.{created}
-use Rattle.turn_client_proto_response.specs.Told.{relayed_told}
-use Rattle.turn_client_proto_core.specs.Allocating.{phase_by}
-use Rattle.turn_client_proto_core.specs.Authenticating.{numbers_sent}
-use Rattle.turn_client_proto_core.specs.Waiting.{Queued}
+use Rattle.turn_client_proto_poll.specs.Allocation.Refreshing.{granted}
+use Rattle.turn_client_proto_poll.specs.Api.Families.{is_same_family}
+use Rattle.turn_client_proto_poll.specs.Response.Granting.{are_of_one_family, first_of_each}
+use Rattle.turn_client_proto_poll.specs.Response.Telling.{created}
+use Rattle.turn_client_proto_poll.specs.Response.Told.{relayed_told}
+use Rattle.turn_client_proto_poll.specs.Core.Allocating.{phase_by}
+use Rattle.turn_client_proto_poll.specs.Core.Authenticating.{numbers_sent}
+use Rattle.turn_client_proto_poll.specs.Core.Waiting.{Queued}
 use Rattle.turn_client_proto_steps.specs.ClientWords.{Has, HasItself, HasPermission, HasChannel, HasConnection, IsAttempted, IsWaiting, IsAnswered as HasAnswered, IsKept, IsPending, OfPermission, OfChannel, OfNewPermission, OfNewChannel, OfRefresh, OfConnect, OfAttempt, OfBinding, Knows, ByWaiting, ByConnection, Waits}
 use Rattle.turn_client_proto_steps.specs.Held.{Allocation}
-use Rattle.turn_client_proto_steps.specs.Sound.{AreShort, BeforeAllocated}
+use Rattle.turn_client_proto_steps.specs.Sound.{AreAsked, AreShort, BeforeAllocated}
 use Rattle.turn_client_proto_steps.proofs.Lists.{in_filter, in_map}
 use Rattle.turn_client_proto_steps.proofs.Plain.{notices}
 
@@ -185,6 +186,11 @@ module _ (transport : TransportType) (number lifetime now : ℕ) where
     none_short a listed r there =
         let image = in_map fresh a all listed in
         absurd (subst (λ (x : Allocation). IsIn r x.pending_refreshes) image.is there)
+
+    pub none_asked : (agent : Agent) (a : Allocation) → IsIn a (map fresh all) → AreAsked agent a
+    none_asked agent a listed p there =
+        let image = in_map fresh a all listed in
+        absurd (subst (λ (x : Allocation). IsIn p x.pending_permissions) image.is there)
 
     pub none_attempted : (before : List Allocation) (queue : List Queued) (n : ℕ) → IsAttempted (map fresh all) queue n → IsAttempted before queue n
     none_attempted before queue n (HasAnswered q listed response is) = HasAnswered q listed response is

@@ -19,22 +19,22 @@ use Rattle.turn_types.specs.TurnRegistry.{allocate_method}
 use Rattle.turn_runs.specs.Members.{IsIn}
 use Rattle.turn_runs.specs.Messages as run
 use Rattle.turn_runs_stun.specs.StunWire.{told_by}
-use Rattle.turn_client_proto_api.specs.declared.event.TurnEvent.TheVariants.{AllocationCreateFailed}
-use Rattle.turn_client_proto_request.specs.Judging.{IsJudged}
-use Rattle.turn_client_proto_request.specs.Requests.{request_text}
-use Rattle.turn_client_proto_request.specs.ToldRequests.{told_request}
-use Rattle.turn_client_proto_request.specs.declared.request.TurnRequest.{TurnRequest}
-use Rattle.turn_client_proto_request.specs.declared.request.TurnRequest.TheVariants.{Allocate}
-use Rattle.turn_client_proto_response.specs.Told.{lifetime_told}
-use Rattle.turn_client_proto_core.specs.Allocating.{IsAllocatedFor}
-use Rattle.turn_client_proto_core.specs.Asking.{asked}
-use Rattle.turn_client_proto_core.specs.Authenticating.{IsAccepted, IsAllocateAnswered, IsAllocatingAgain, IsChallenged, IsErrorAnswered, IsFirstJudged, IsSignedJudged, IsTurnedAway, allocates_again, allocates_other, family_left, numbers_sent}
-use Rattle.turn_client_proto_core.specs.Ending.{ended}
-use Rattle.turn_client_proto_core.specs.Numbering.{after_number}
-use Rattle.turn_client_proto_core.specs.Responding.{accepted, answered, challenged, is_tired, judged}
-use Rattle.turn_client_proto_core.specs.declared.protocol.Phase.{Phase}
-use Rattle.turn_client_proto_core.specs.declared.protocol.Phase.TheVariants.{Authenticating}
-use Rattle.turn_client_proto_core.specs.declared.protocol.Protocol.{Protocol}
+use Rattle.turn_client_proto_poll.specs.Api.declared.event.TurnEvent.TheVariants.{AllocationCreateFailed}
+use Rattle.turn_client_proto_poll.specs.Request.Judging.{IsJudged}
+use Rattle.turn_client_proto_poll.specs.Request.Requests.{request_text}
+use Rattle.turn_client_proto_poll.specs.Request.ToldRequests.{told_request}
+use Rattle.turn_client_proto_poll.specs.Request.declared.request.TurnRequest.{TurnRequest}
+use Rattle.turn_client_proto_poll.specs.Request.declared.request.TurnRequest.TheVariants.{Allocate}
+use Rattle.turn_client_proto_poll.specs.Response.Told.{lifetime_told}
+use Rattle.turn_client_proto_poll.specs.Core.Allocating.{IsAllocatedFor}
+use Rattle.turn_client_proto_poll.specs.Core.Asking.{asked}
+use Rattle.turn_client_proto_poll.specs.Core.Authenticating.{IsAccepted, IsAllocateAnswered, IsAllocatingAgain, IsChallenged, IsErrorAnswered, IsFirstJudged, IsSignedJudged, IsTurnedAway, allocates_again, allocates_other, family_left, numbers_sent}
+use Rattle.turn_client_proto_poll.specs.Core.Ending.{ended}
+use Rattle.turn_client_proto_poll.specs.Core.Numbering.{after_number}
+use Rattle.turn_client_proto_poll.specs.Core.Responding.{accepted, answered, challenged, is_tired, judged}
+use Rattle.turn_client_proto_poll.specs.Core.declared.protocol.Phase.{Phase}
+use Rattle.turn_client_proto_poll.specs.Core.declared.protocol.Phase.TheVariants.{Authenticating}
+use Rattle.turn_client_proto_poll.specs.Core.declared.protocol.Protocol.{Protocol}
 use Rattle.turn_client_proto_steps.specs.RunClient.{Client, Parts, parts_of}
 use Rattle.turn_client_proto_steps.specs.RunSteps.{IsRunStep}
 use Rattle.turn_client_proto_steps.specs.Sound.{AreAllocates, BeforeAllocated, CanAsk, IsOrderly}

@@ -3,9 +3,10 @@ use Rattle.std.proofs.Common.{ℕ, zero, suc, ◌*◌, Bool, true, false, List, 
 use Rattle.std.specs.Prelude.{map, nat_le}
 use Rattle.stun_proto.specs.Moments.{moment_after}
 use Rattle.turn_runs.specs.Members.{IsIn}
-use Rattle.turn_client_proto_allocation.specs.Changes.{change_first}
-use Rattle.turn_client_proto_allocation.specs.Polling.{has_ended, kept, polled, stays}
-use Rattle.turn_client_proto_allocation.specs.Refreshing.{deleted, least_lifetime, lifetime_asked, refreshing, renewed, renewed_by, second, stands_for}
+use Rattle.turn_client_proto_poll.specs.Allocation.Changes.{change_first}
+use Rattle.turn_client_proto_poll.specs.Allocation.Polling.{has_ended, kept, polled, stays}
+use Rattle.turn_client_proto_poll.specs.Allocation.Refreshing.{deleted, least_lifetime, lifetime_asked, refreshing, renewed, renewed_by, second, stands_for}
+use Rattle.turn_client_proto_poll.specs.Permission.Asking.{marked}
 use Rattle.turn_client_proto_steps.specs.Held.{Allocation, PendingRefresh}
 use Rattle.turn_client_proto_steps.specs.Sound.{AreShort}
 use Rattle.turn_client_proto_steps.proofs.Adding.{AreLess, IsLess, WasMore}
@@ -51,6 +52,21 @@ end_asked number now a = record {
   new_permissions = refl;
   new_channels = refl;
   refreshes = λ r h. in_either r a.pending_refreshes (record { number = number; lifetime = 0 } ∷ []) h;
+  connecting = refl;
+  waiting = refl;
+  connections = refl;
+}
+
+-- an allocation that is marked as expired
+pub marked_less : (a : Allocation) → IsLess [] a (marked a)
+marked_less a = record {
+  transport = refl;
+  address = refl;
+  permissions = λ p h. h;
+  channels = λ c h. h;
+  new_permissions = refl;
+  new_channels = refl;
+  refreshes = λ r h. inl h;
   connecting = refl;
   waiting = refl;
   connections = refl;

@@ -1,10 +1,13 @@
 -- Members of lists.
-use Rattle.std.proofs.Common.{◌≡◌, Bool, true, false, List, [], ◌∷◌, ◌++◌, ◌||◌, refl, sym, ap, ◌∙◌, subst, ◌⊎◌, inl, inr}
+use Rattle.std.proofs.Common.{◌≡◌, Bool, true, false, List, [], ◌∷◌, ◌++◌, ◌||◌, Some, refl, sym, ap, ◌∙◌, subst, ◌⊎◌, inl, inr}
 use Rattle.std.proofs.lemmas.Bool.{cases_Bool}
 use Rattle.std.specs.Prelude.{map}
-use Rattle.std.specs.List.{filter, list_any}
+use Rattle.std.specs.List.{filter, find, list_any}
 use Rattle.turn_runs.specs.Members.{IsIn}
-use Rattle.turn_client_proto_allocation.specs.Changes.{change_first}
+use Rattle.turn_client_proto_poll.specs.Allocation.Changes.{change_first}
+
+pub inside : {A : Type 0} {a b : A} → Some a ≡ Some b → a ≡ b
+inside p = Prim.cc p
 
 pub nothing_behind : {X : Type 0} (all : List X) → all ≡ all ++ []
 nothing_behind [] = refl
@@ -62,6 +65,63 @@ in_changed {X = X} p f x (y ∷ ys) h = elim (cases_Bool (p y)) [
         ]
       ]
 ]
+
+-- an element of a list of which the first that passes was changed: it was there, or it is that one, changed
+pub in_first : {X : Type 0} (p : X → Bool) (f : X → X) (x : X) (xs : List X) → IsIn x (change_first p f xs) → IsIn x xs ⊎ ((y : X) × (find p xs ≡ Some y) × (x ≡ f y))
+in_first p f x [] h = absurd h
+in_first {X = X} p f x (y ∷ ys) h = elim (cases_Bool (p y)) [
+  | inl is ↦
+      let here : change_first p f (y ∷ ys) ≡ f y ∷ ys = rw is refl in
+      let found : find p (y ∷ ys) ≡ Some y = rw is refl in
+      elim (subst (λ (l : List X). IsIn x l) here h) [
+        | inl same ↦ inr (y, found, sym same)
+        | inr rest ↦ inl (inr rest)
+      ]
+  | inr differs ↦
+      let here : change_first p f (y ∷ ys) ≡ y ∷ change_first p f ys = rw differs refl in
+      let later : find p (y ∷ ys) ≡ find p ys = rw differs refl in
+      elim (subst (λ (l : List X). IsIn x l) here h) [
+        | inl same ↦ inl (inl same)
+        | inr rest ↦ elim (in_first p f x ys rest) [
+          | inl old ↦ inl (inr old)
+          | inr new ↦ inr (new.0, later ∙ new.1, new.2)
+        ]
+      ]
+]
+
+-- what is found is in the list
+pub found_in : {X : Type 0} (p : X → Bool) (xs : List X) (x : X) → find p xs ≡ Some x → IsIn x xs
+found_in p [] x h = absurd (Prim.cc h)
+found_in p (y ∷ ys) x h = elim (cases_Bool (p y)) [
+  | inl is ↦
+      let here : find p (y ∷ ys) ≡ Some y = rw is refl in
+      inl (inside (sym here ∙ h))
+  | inr differs ↦
+      let later : find p (y ∷ ys) ≡ find p ys = rw differs refl in
+      inr (found_in p ys x (sym later ∙ h))
+]
+
+-- what is found passes
+pub found_passes : {X : Type 0} (p : X → Bool) (xs : List X) (x : X) → find p xs ≡ Some x → p x ≡ true
+found_passes p [] x h = absurd (Prim.cc h)
+found_passes p (y ∷ ys) x h = elim (cases_Bool (p y)) [
+  | inl is ↦
+      let here : find p (y ∷ ys) ≡ Some y = rw is refl in
+      ap p (sym (inside (sym here ∙ h))) ∙ is
+  | inr differs ↦
+      let later : find p (y ∷ ys) ≡ find p ys = rw differs refl in
+      found_passes p ys x (sym later ∙ h)
+]
+
+pub or_true : (b : Bool) → (b || true) ≡ true
+or_true true = refl
+or_true false = refl
+
+-- an element that passes
+pub any_passes : {X : Type 0} (p : X → Bool) (xs : List X) (x : X) → IsIn x xs → p x ≡ true → list_any p xs ≡ true
+any_passes p [] x h is = absurd h
+any_passes p (y ∷ ys) x (inl same) is = ap (λ (b : Bool). b || list_any p ys) (ap p same ∙ is)
+any_passes p (y ∷ ys) x (inr later) is = ap (λ (b : Bool). p y || b) (any_passes p ys x later is) ∙ or_true (p y)
 
 pub either : (x y : Bool) → (x || y) ≡ true → (x ≡ true) ⊎ (y ≡ true)
 either true y h = inl refl

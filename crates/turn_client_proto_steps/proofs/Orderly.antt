@@ -1,18 +1,20 @@
 -- What stays true of the parts of a client that a run tells of.
 use Rattle.std.proofs.Common.{◌≡◌, ℕ, true, List, [], ◌∷◌, ◌++◌, Some, None, sym, ap, ◌∙◌, subst, inl, inr}
 use Rattle.std.specs.declared.net.socket_addr.SocketAddr.{SocketAddr}
-use Rattle.stun_types.specs.Grammar.{refusal}
+use Rattle.stun_types.specs.Grammar.{number_at, refusal}
+use Rattle.stun_types.specs.declared.transport.TransportType.{TransportType}
 use Rattle.stun_proto.specs.Numbers.{NothingNew}
 use Rattle.stun_proto.specs.Sending.{with_request}
 use Rattle.stun_proto.specs.State.{Agent}
-use Rattle.stun_proto_agent.proofs.Numbers.{sent_shows, still_shows}
+use Rattle.stun_proto_agent.proofs.Numbers.{sent, sent_shows, still_shows}
 use Rattle.turn_types.specs.TurnRegistry.{allocate_method}
 use Rattle.turn_runs.specs.Members.{IsIn}
+use Rattle.turn_runs.specs.Messages.{Asks, Holds, Permission}
 use Rattle.turn_runs_stun.specs.StunWire.{told_by}
-use Rattle.turn_client_proto_core.specs.Waiting.{Queued}
-use Rattle.turn_client_proto_core.specs.declared.protocol.Phase.{Phase}
-use Rattle.turn_client_proto_core.specs.declared.protocol.Phase.TheVariants.{Initial, InitialSent, Authenticating, Authenticated, Ended}
-use Rattle.turn_client_proto_steps.specs.Held.{Allocation, PendingRefresh}
+use Rattle.turn_client_proto_poll.specs.Core.Waiting.{Queued}
+use Rattle.turn_client_proto_poll.specs.Core.declared.protocol.Phase.{Phase}
+use Rattle.turn_client_proto_poll.specs.Core.declared.protocol.Phase.TheVariants.{Initial, InitialSent, Authenticating, Authenticated, Ended}
+use Rattle.turn_client_proto_steps.specs.Held.{Allocation, PendingPermission, PendingRefresh}
 use Rattle.turn_client_proto_steps.specs.RunClient.{Parts}
 use Rattle.turn_client_proto_steps.specs.Sound.{AreAllocates, AreShort, BeforeAllocated, IsOrderly, UntilEnded}
 use Rattle.turn_client_proto_steps.proofs.Adding.{AreLess}
@@ -66,20 +68,32 @@ agent_orderly p agent none is = record {
   allocates = before_map p.phase (λ h. still_allocates p.agent agent none p.allocates h) is.allocates;
   queued = is.queued;
   lifetimes = is.lifetimes;
+  permissions = λ a listed p there n has t outstanding.
+      let was = none n t outstanding in
+      subst (λ (b : List ℕ). Asks (told_by b) (Holds (Permission a.transport p.ip))) (sym was.same_bytes)
+      (is.permissions a listed p there n has was.before was.there);
 }
+
+-- a number that no permission awaits
+abbrev pub IsFree : Parts → ℕ → Type 0
+IsFree p number = (a : Allocation) → IsIn a p.allocations → (pending : PendingPermission) → IsIn pending a.pending_permissions → IsIn number pending.numbers → ⊥
 
 -- the bytes are an ALLOCATE for a client's transport
 abbrev pub IsAllocate : Parts → List ℕ → Type 0
 IsAllocate p bytes = ((told_by bytes).method ≡ allocate_method) × ((told_by bytes).transport ≡ Some p.allocates)
 
-pub request_orderly : (p : Parts) (bytes : List ℕ) (to : SocketAddr) (now : ℕ) → refusal bytes ≡ None → BeforeAllocated p.phase (IsAllocate p bytes) → IsOrderly p
+pub request_orderly : (p : Parts) (bytes : List ℕ) (to : SocketAddr) (now : ℕ) → refusal bytes ≡ None → IsFree p (number_at bytes) → BeforeAllocated p.phase (IsAllocate p bytes) → IsOrderly p
     → IsOrderly (record p { agent = with_request p.agent bytes to now })
-request_orderly p bytes to now message allocate is = record {
+request_orderly p bytes to now message free allocate is = record {
   numbers = sent_shows p.agent bytes to now is.numbers;
   messages = messages_sent p.agent bytes to now message is.messages;
   allocates = before_both p.phase (λ (own : IsAllocate p bytes) h. allocates_sent p.agent bytes to now p.allocates own.0 own.1 h) allocate is.allocates;
   queued = is.queued;
   lifetimes = is.lifetimes;
+  permissions = λ a listed pending there n has t outstanding. elim (sent p.agent bytes to now n t outstanding) [
+    | inl before ↦ is.permissions a listed pending there n has t before
+    | inr own ↦ absurd (free a listed pending there (subst (λ (k : ℕ). IsIn k pending.numbers) own.0 has))
+  ];
 }
 
 pub queue_orderly : (p : Parts) (q : Queued) → q.is_request ≡ true → IsOrderly p → IsOrderly (record p { queue = p.queue ++ q ∷ [] })
@@ -92,6 +106,7 @@ queue_orderly p q request is = record {
     | inr own ↦ elim own [ inl same ↦ ap (λ (y : Queued). y.is_request) (sym same) ∙ request | inr none ↦ absurd none ]
   ];
   lifetimes = is.lifetimes;
+  permissions = is.permissions;
 }
 
 pub drawn_orderly : (p : Parts) (q : Queued) (rest : List Queued) → p.queue ≡ q ∷ rest → IsOrderly p → IsOrderly (record p { queue = rest })
@@ -101,6 +116,7 @@ drawn_orderly p q rest same is = record {
   allocates = is.allocates;
   queued = λ x h. is.queued x (subst (λ (l : List Queued). IsIn x l) (sym same) (inr h));
   lifetimes = is.lifetimes;
+  permissions = is.permissions;
 }
 
 pub phase_orderly : (p : Parts) (phase : Phase) → BeforeAllocated phase (AreAllocates p.allocates p.agent) → IsOrderly p → IsOrderly (record p { phase = phase })
@@ -110,6 +126,7 @@ phase_orderly p phase allocates is = record {
   allocates = allocates;
   queued = is.queued;
   lifetimes = is.lifetimes;
+  permissions = is.permissions;
 }
 
 pub allocations_orderly : (more : List PendingRefresh) (p : Parts) (new : List Allocation) → AreLess more p.allocations new → AreShort more → IsOrderly p → IsOrderly (record p { allocations = new })
@@ -119,4 +136,8 @@ allocations_orderly more p new less short is = record {
   allocates = is.allocates;
   queued = is.queued;
   lifetimes = still_short more p.allocations new less short is.lifetimes;
+  permissions = λ a listed pending there n has t outstanding.
+      let was = less a listed in
+      subst (λ (transport : TransportType). Asks (told_by t.bytes) (Holds (Permission transport pending.ip))) (sym was.less.transport)
+      (is.permissions was.before was.listed pending (subst (λ (l : List PendingPermission). IsIn pending l) was.less.new_permissions there) n has t outstanding);
 }

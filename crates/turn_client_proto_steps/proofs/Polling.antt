@@ -1,33 +1,56 @@
 -- A poll is a step of a run.
-use Rattle.std.proofs.Common.{◌≡◌, ℕ, Bool, true, false, List, [], ◌∷◌, map, Option, None, refl, sym, subst, arith}
+use Rattle.std.proofs.Common.{◌≡◌, ℕ, Bool, true, false, List, [], ◌∷◌, map, Option, None, refl, sym, ◌∙◌, subst, arith}
 use Rattle.std.specs.Bool.{MatchBool}
 use Rattle.stun_proto.specs.AgentPolls.{StunAgentPollRet}
 use Rattle.stun_proto.specs.State as agents
 use Rattle.stun_proto_agent.proofs.Numbers.{polled_new}
-use Rattle.turn_client_proto_allocation.specs.Polling.{kept, polled}
-use Rattle.turn_client_proto_api.specs.declared.answer.TurnPollRet.{TurnPollRet}
-use Rattle.turn_client_proto_api.specs.declared.answer.TurnPollRet.TheVariants as answer
-use Rattle.turn_client_proto_api.specs.declared.event.TurnEvent.{TurnEvent}
-use Rattle.turn_client_proto_core.specs.Ending.{ended}
-use Rattle.turn_client_proto_core.specs.Polling.{IsPolled, IsPolledBy, IsPolledIn, IsPolledSent, is_among, waits_until}
-use Rattle.turn_client_proto_core.specs.declared.protocol.Phase.{Phase}
-use Rattle.turn_client_proto_core.specs.declared.protocol.Phase.TheVariants.{Initial, InitialSent, Authenticating, Authenticated, Ended}
-use Rattle.turn_client_proto_core.specs.declared.protocol.Protocol.{Protocol}
+use Rattle.std.specs.declared.net.ip_addr.IpAddr.{IpAddr}
+use Rattle.stun_types.specs.declared.transport.TransportType.{TransportType}
+use Rattle.turn_client_proto_poll.specs.Allocation.Awaited.{is_among}
+use Rattle.turn_client_proto_poll.specs.Permission.Telling as permissions
+use Rattle.turn_client_proto_poll.specs.Api.declared.event.TurnEvent.TheVariants.{PermissionCreateFailed}
+use Rattle.turn_client_proto_poll.specs.Api.declared.answer.TurnPollRet.{TurnPollRet}
+use Rattle.turn_client_proto_poll.specs.Api.declared.answer.TurnPollRet.TheVariants as answer
+use Rattle.turn_client_proto_poll.specs.Api.declared.event.TurnEvent.{TurnEvent}
+use Rattle.turn_client_proto_poll.specs.Core.Ending.{ended}
+use Rattle.turn_client_proto_poll.specs.Polling.{IsPolled, IsPolledBy, IsPolledIn, IsPolledSent, after_time, left, waits_until}
+use Rattle.turn_client_proto_poll.specs.Core.declared.protocol.Phase.{Phase}
+use Rattle.turn_client_proto_poll.specs.Core.declared.protocol.Phase.TheVariants.{Initial, InitialSent, Authenticating, Authenticated, Ended}
+use Rattle.turn_client_proto_poll.specs.Core.declared.protocol.Protocol.{Protocol}
 use Rattle.turn_client_proto_steps.specs.Held.{Allocation}
-use Rattle.turn_client_proto_steps.specs.RunClient.{Client, parts_of}
+use Rattle.turn_client_proto_steps.specs.RunClient.{Client, Parts, parts_of}
 use Rattle.turn_client_proto_steps.specs.RunSteps.{IsRunStep}
 use Rattle.turn_client_proto_steps.specs.Sound.{IsOrderly, IsSound}
 use Rattle.turn_client_proto_steps.proofs.Adding.{Adds, adds_both, agent_less, allocations_less}
 use Rattle.turn_client_proto_steps.proofs.Ending.{ends, failed_step, still, still_can}
 use Rattle.turn_client_proto_steps.proofs.Lessening.{all_polled}
 use Rattle.turn_client_proto_steps.proofs.Orderly.{agent_orderly, allocations_orderly, until_map}
-use Rattle.turn_client_proto_steps.proofs.Plain.{nothing_drawn, quiet, run_step}
+use Rattle.turn_client_proto_steps.proofs.Permissions.{polled_permitting}
+use Rattle.turn_client_proto_steps.proofs.Permitting.{allocations_permitting, each_permitting, none_asks, permitting_orderly}
+use Rattle.turn_client_proto_steps.proofs.Plain.{none_told, nothing_drawn, notices, quiet, run_step}
 
 -- ---- by a test
 
 pub by_test : {P Q R : Type 0} (b : Bool) → (b ≡ true → P → R) → (b ≡ false → Q → R) → MatchBool b P Q → R
 by_test true f g h = f refl h
 by_test false f g h = g refl h
+
+-- ---- what is told of permissions that go
+
+none_created : (transport : TransportType) (all : List IpAddr) → notices (map (PermissionCreateFailed transport) all) ≡ []
+none_created transport [] = refl
+none_created transport (ip ∷ all) = none_created transport all
+
+of_one : (over : Option ℕ) (now : ℕ) (a : Allocation) → notices (permissions.failures over now a) ≡ []
+unfolding permissions.failures
+of_one over now a =
+    none_told (map (PermissionCreateFailed a.transport) (permissions.addresses_over over a.pending_permissions)) (map (PermissionCreateFailed a.transport) (permissions.addresses_lapsed now a.permissions))
+    (none_created a.transport (permissions.addresses_lapsed now a.permissions))
+    ∙ none_created a.transport (permissions.addresses_over over a.pending_permissions)
+
+ends_tell_nothing : (over : Option ℕ) (now : ℕ) (all : List Allocation) → notices (permissions.all_failures over now all) ≡ []
+ends_tell_nothing over now [] = refl
+ends_tell_nothing over now (a ∷ rest) = none_told (permissions.failures over now a) (permissions.all_failures over now rest) (ends_tell_nothing over now rest) ∙ of_one over now a
 
 -- ---- the agent was polled
 
@@ -54,16 +77,23 @@ module _ (c : Client) (sound : IsSound c) (now : ℕ) (ticked : StunAgentPollRet
       (λ (_ : is_among over numbers ≡ true) (o : (ret ≡ answer.Closed) × (new ≡ ended mid)). subst (λ (p : Protocol). IsRunStep c [] None [] p) (sym o.1) (ends c [] mid mid_adds mid_orderly refl))
       (λ (_ : is_among over numbers ≡ false) (o : (ret ≡ waits_until over now wait) × (new ≡ mid)). ticks new o.1) h
 
-  stands : (over : Option ℕ) (new : Protocol) → new ≡ record mid { allocations = map (polled over) (kept over now mid.allocations) } → IsRunStep c [] None [] new
+  stands : (over : Option ℕ) (new : Protocol) → new ≡ after_time over now mid → IsRunStep c [] None [] new
+  unfolding after_time
   stands over new same =
-      let left : List Allocation = map (polled over) (kept over now c.core.allocations) in
-      let core : Protocol = record mid { allocations = left } in
+      let renewed : List Allocation = left over now mid in
+      let last : List Allocation = map (permissions.polled over now) renewed in
+      let core : Protocol = after_time over now mid in
       let less = all_polled over now c.core.allocations in
-      let adds = adds_both [] (parts_of c.core) (parts_of mid) (parts_of core) mid_adds (allocations_less [] [] (parts_of mid) left less (λ r h. absurd h)) in
+      let between : Parts = record (parts_of mid) { allocations = renewed } in
+      let are = each_permitting none_asks (permissions.polled over now) (polled_permitting over now) renewed in
+      let adds = adds_both [] (parts_of c.core) (parts_of mid) (parts_of core) mid_adds
+      (adds_both [] (parts_of mid) between (parts_of core) (allocations_less [] [] (parts_of mid) renewed less (λ r h. absurd h))
+      (allocations_permitting [] none_asks between last are (λ ip n h. absurd h))) in
       subst (λ (p : Protocol). IsRunStep c [] None [] p) (sym same)
       (run_step [] [] None [] c c.drawn core
-      (quiet None [] c c.drawn core (omega arith) adds (nothing_drawn [] c) refl)
-      (allocations_orderly [] (parts_of mid) left less (λ r h. absurd h) mid_orderly) (until_map c.core.phase (still_can c core refl refl refl) sound.can_ask))
+      (quiet None [] c c.drawn core (omega arith) adds (nothing_drawn [] c) (none_told c.core.events (permissions.all_failures over now renewed) (ends_tell_nothing over now renewed)))
+      (permitting_orderly none_asks between last are (λ a ip n h. absurd h) (allocations_orderly [] (parts_of mid) renewed less (λ r h. absurd h) mid_orderly))
+      (until_map c.core.phase (still_can c core refl refl refl) sound.can_ask))
 
   ticked_in : (phase : Phase) (over : Option ℕ) (wait : ℕ) (ret : TurnPollRet) (new : Protocol) → IsPolledIn phase over wait mid now ret new → IsRunStep c [] None [] new
   ticked_in Initial over wait ret new h = ticks new h.1

@@ -5,13 +5,13 @@ use Rattle.stun_types.specs.Grammar.{number_at, refusal}
 use Rattle.stun_types.specs.Headers.{AreBytes}
 use Rattle.stun_types.specs.Types.{class_of}
 use Rattle.stun_proto.specs.Handling.{is_response}
-use Rattle.turn_client_proto_allocation.specs.Awaited.{has_number}
-use Rattle.turn_client_proto_core.specs.Authenticating.{IsFirstJudged, IsSignedJudged}
-use Rattle.turn_client_proto_core.specs.Receiving.{IsFollowed, IsHeard, IsHeardIn, is_indication}
-use Rattle.turn_client_proto_core.specs.Standing.{IsJudgedStanding}
-use Rattle.turn_client_proto_core.specs.declared.protocol.Phase.{Phase}
-use Rattle.turn_client_proto_core.specs.declared.protocol.Phase.TheVariants.{Initial, InitialSent, Authenticating, Authenticated, Ended}
-use Rattle.turn_client_proto_core.specs.declared.protocol.Protocol.{Protocol}
+use Rattle.turn_client_proto_poll.specs.Allocation.Awaited.{has_number}
+use Rattle.turn_client_proto_poll.specs.Core.Authenticating.{IsFirstJudged, IsSignedJudged}
+use Rattle.turn_client_proto_poll.specs.Core.Receiving.{IsFollowed, IsHeard, IsHeardIn, is_indication}
+use Rattle.turn_client_proto_poll.specs.Core.Standing.{IsJudgedStanding}
+use Rattle.turn_client_proto_poll.specs.Core.declared.protocol.Phase.{Phase}
+use Rattle.turn_client_proto_poll.specs.Core.declared.protocol.Phase.TheVariants.{Initial, InitialSent, Authenticating, Authenticated, Ended}
+use Rattle.turn_client_proto_poll.specs.Core.declared.protocol.Protocol.{Protocol}
 use Rattle.turn_client_proto_steps.specs.RunClient.{Client}
 use Rattle.turn_client_proto_steps.specs.RunSteps.{IsRunStep}
 use Rattle.turn_client_proto_steps.specs.Sound.{BeforeAllocated, CanAsk, IsSound, UntilEnded}
@@ -52,7 +52,7 @@ module _ (c : Client) (bytes : List ℕ) (now : ℕ) (handled : Bool) (new : Pro
       by_test (is_indication (class_of (kind_at bytes)))
       (λ (_ : is_indication (class_of (kind_at bytes)) ≡ true). ignored)
       (λ (_ : is_indication (class_of (kind_at bytes)) ≡ false) (f : IsFollowed IsJudgedStanding c.core bytes now handled new).
-      standing_judged c bytes now sound.orderly (can_at Authenticated at) at f.verdict f.auth handled new f.is_judged f.outcome) h
+      standing_judged c bytes now sound.orderly (can_at Authenticated at) at are_bytes message f.verdict f.auth handled new f.is_judged f.outcome) h
 
 pub receive_step : (c : Client) (bytes : List ℕ) (now : ℕ) (handled : Bool) (new : Protocol) → IsSound c → AreBytes bytes → refusal bytes ≡ None → IsHeard c.core bytes now handled new → IsRunStep c (bytes ∷ []) None [] new
 receive_step c bytes now handled new sound are_bytes message is = heard_in c bytes now handled new sound c.core.phase are_bytes message refl is

@@ -3,17 +3,17 @@ use Rattle.std.proofs.Common.{◌≡◌, ℕ, ◌+◌, ◌<◌, ◌≤◌, ◌^�
 use Rattle.std.specs.Prelude.{IfNone, IfSome, MatchResult}
 use Rattle.turn_runs.specs.Members.{IsIn}
 use Rattle.turn_runs_stun.specs.StunWire.{told_by}
-use Rattle.turn_client_proto_allocation.specs.Refreshing.{deleted}
-use Rattle.turn_client_proto_api.specs.declared.error.DeleteError.{DeleteError}
-use Rattle.turn_client_proto_api.specs.declared.error.DeleteError.TheVariants.{NoAllocation, NoMemory}
-use Rattle.turn_client_proto_request.specs.Requests.{request_text}
-use Rattle.turn_client_proto_request.specs.declared.request.TurnRequest.TheVariants.{Refresh}
-use Rattle.turn_client_proto_core.specs.Asking.{asked}
-use Rattle.turn_client_proto_core.specs.Deleting.{IsDeleteAnswered, IsDeleted, after_delete, delete_refusal, is_authenticated}
-use Rattle.turn_client_proto_core.specs.Numbering.{after_number}
-use Rattle.turn_client_proto_core.specs.declared.protocol.Phase.{Phase}
-use Rattle.turn_client_proto_core.specs.declared.protocol.Phase.TheVariants.{Initial, InitialSent, Authenticating, Authenticated, Ended}
-use Rattle.turn_client_proto_core.specs.declared.protocol.Protocol.{Protocol}
+use Rattle.turn_client_proto_poll.specs.Allocation.Refreshing.{deleted}
+use Rattle.turn_client_proto_poll.specs.Api.declared.error.DeleteError.{DeleteError}
+use Rattle.turn_client_proto_poll.specs.Api.declared.error.DeleteError.TheVariants.{NoAllocation, NoMemory}
+use Rattle.turn_client_proto_poll.specs.Request.Requests.{request_text}
+use Rattle.turn_client_proto_poll.specs.Request.declared.request.TurnRequest.TheVariants.{Refresh}
+use Rattle.turn_client_proto_poll.specs.Core.Asking.{asked}
+use Rattle.turn_client_proto_poll.specs.Core.Deleting.{IsDeleteAnswered, IsDeleted, after_delete, delete_refusal, is_authenticated}
+use Rattle.turn_client_proto_poll.specs.Core.Numbering.{after_number}
+use Rattle.turn_client_proto_poll.specs.Core.declared.protocol.Phase.{Phase}
+use Rattle.turn_client_proto_poll.specs.Core.declared.protocol.Phase.TheVariants.{Initial, InitialSent, Authenticating, Authenticated, Ended}
+use Rattle.turn_client_proto_poll.specs.Core.declared.protocol.Protocol.{Protocol}
 use Rattle.turn_client_proto_steps.specs.Held.{PendingRefresh}
 use Rattle.turn_client_proto_steps.specs.RunClient.{Client, Parts, parts_of}
 use Rattle.turn_client_proto_steps.specs.RunSteps.{IsRunStep}
@@ -71,7 +71,7 @@ module _ (c : Client) (number now : ℕ) (sound : IsOrderly (parts_of c.core)) (
       asks c c.core (Refresh 0) number under_way is [] None (after_delete number now c.core) adds orderly refl under_way.can_ask.families refl refl (nothing_drawn (told_by text ∷ []) c)
 
 -- a number is drawn, and nothing else is done
-number_drawn : (c : Client) → IsSound c → CanAsk c → IsRunStep c [] None [] (after_number c.core)
+pub number_drawn : (c : Client) → IsSound c → CanAsk c → IsRunStep c [] None [] (after_number c.core)
 number_drawn c sound can =
     let later : c.drawn ≤ c.drawn + 1 = omega arith in
     run_step [] [] None [] c (c.drawn + 1) (after_number c.core)

@@ -1,14 +1,21 @@
 -- What a client's getters show is held.
-use Rattle.std.proofs.Common.{◌≡◌, Bool, true, false, not, List, refl, sym, subst}
-use Rattle.std.specs.List.{filter}
+use Rattle.std.proofs.Common.{◌≡◌, Bool, true, false, not, ◌&&◌, List, Option, Some, None, refl, sym, subst}
+use Rattle.std.specs.List.{filter, find}
+use Rattle.std.specs.declared.net.ip_addr.IpAddr.{IpAddr}
 use Rattle.std.specs.declared.net.socket_addr.SocketAddr.{SocketAddr}
 use Rattle.stun_types.specs.declared.transport.TransportType.{TransportType}
 use Rattle.turn_runs.specs.Members.{IsIn}
 use Rattle.turn_runs.specs.Messages as run
-use Rattle.turn_client_proto_allocation.specs.Listed.{is_shown, relayed_shown}
-use Rattle.turn_client_proto_steps.specs.ClientWords.{Has, HasItself, IsHeld}
-use Rattle.turn_client_proto_steps.specs.Held.{Allocation}
-use Rattle.turn_client_proto_steps.proofs.Lists.{in_filter, in_map}
+use Rattle.turn_client_proto_poll.specs.Allocation.Listed.{is_shown, relayed_shown}
+use Rattle.turn_client_proto_poll.specs.Permission.Shown.{addresses_of, is_at, permissions_at, permissions_in}
+use Rattle.turn_client_proto_steps.specs.ClientWords.{Has, HasItself, HasPermission, IsHeld}
+use Rattle.turn_client_proto_steps.specs.Held.{Allocation, Permission}
+use Rattle.turn_client_proto_steps.proofs.Lists.{found_in, found_passes, in_filter, in_map}
+
+-- the first of two that are so
+first_so : (x y : Bool) → (x && y) ≡ true → x ≡ true
+first_so true y h = refl
+first_so false y h = absurd (Prim.cc h)
 
 isnt : (b : Bool) → not b ≡ true → b ≡ false
 isnt true h = absurd (Prim.cc h)
@@ -24,3 +31,21 @@ shown_held allocations transport address h =
       stands = isnt image.source.is_expired was.1;
       has = subst (λ (p : TransportType × SocketAddr). Has image.source (run.Allocation p.0 p.1)) (sym image.is) HasItself;
     }
+
+-- an address whose permission is shown
+pub permission_held : (allocations : List Allocation) (transport : TransportType) (relayed : SocketAddr) (ip : IpAddr) → IsIn ip (addresses_of (permissions_at transport relayed allocations))
+    → (own : TransportType) × IsHeld allocations (run.Permission own ip)
+permission_held allocations transport relayed ip h = by (find (is_at transport relayed) allocations) refl h
+  where
+    by : (found : Option Allocation) → find (is_at transport relayed) allocations ≡ found → IsIn ip (addresses_of (permissions_in found)) → (own : TransportType) × IsHeld allocations (run.Permission own ip)
+    by None at listed = absurd listed
+    by (Some a) at listed =
+        let image = in_map (λ (p : Permission). p.ip) ip a.permissions listed in (
+          a.transport,
+          record {
+            allocation = a;
+            listed = found_in (is_at transport relayed) allocations a at;
+            stands = isnt a.is_expired (first_so (not a.is_expired) _ (found_passes (is_at transport relayed) allocations a at));
+            has = subst (λ (x : IpAddr). Has a (run.Permission a.transport x)) (sym image.is) (HasPermission image.source image.listed);
+          },
+        )

@@ -1,11 +1,18 @@
 -- What a client that has allocated makes of a message is a step of a run.
-use Rattle.std.proofs.Common.{◌≡◌, ℕ, ◌<◌, ◌^◌, ◌==◌, Bool, true, false, ◌&&◌, List, [], ◌∷◌, map, Option, Some, None, Result, Ok, Err, if◌then◌else◌, refl, sym, ◌∙◌, subst, arith, inl, inr}
-use Rattle.std.proofs.lemmas.Bool.{cases_Bool}
+use Rattle.std.proofs.Common.{◌≡◌, ℕ, ◌<◌, ◌^◌, ◌==◌, Bool, true, false, ◌&&◌, List, [], ◌∷◌, map, Option, Some, None, Result, Ok, Err, if◌then◌else◌, refl, sym, ◌∙◌, subst, arith}
 use Rattle.std.specs.List.{find, list_any}
 use Rattle.std.specs.Option.{option_and_then, option_map}
 use Rattle.stun_types.specs.Attributes.{kind_at}
-use Rattle.stun_types.specs.Grammar.{number_at}
-use Rattle.stun_types.specs.Types.{method_of}
+use Rattle.std.specs.FinMap as finite
+use Rattle.std.specs.Prelude.{is_some}
+use Rattle.std.specs.declared.net.ip_addr.IpAddr.{IpAddr}
+use Rattle.stun_types.specs.Grammar.{number_at, refusal}
+use Rattle.stun_types.specs.Headers.{AreBytes}
+use Rattle.stun_types.specs.IntegrityAlgorithms.{IntegrityAlgorithm}
+use Rattle.stun_types.specs.MessageClasses.{MessageClass, Request, Indication, Success, Error}
+use Rattle.stun_types.specs.Types.{class_of, is_response_class, method_of}
+use Rattle.stun_types.specs.declared.transport.TransportType.{TransportType}
+use Rattle.stun_proto.specs.Agents.{Transaction}
 use Rattle.stun_proto.specs.Client as signers
 use Rattle.stun_proto.specs.ClientAuthErrors.{LongTermClientAuthError, Unauthorized, IntegrityFailed, UnsupportedFeature, NoMemory}
 use Rattle.stun_proto.specs.ClientValidations.{LongTermClientValidation, ResendRequest, Validated}
@@ -13,52 +20,50 @@ use Rattle.stun_proto.specs.Handling.{after_message, is_awaited, is_response}
 use Rattle.stun_proto.specs.Numbers.{NothingNew}
 use Rattle.stun_proto.specs.State.{Agent}
 use Rattle.stun_proto_agent.proofs.Numbers.{handled_new}
-use Rattle.turn_types.specs.TurnRegistry.{refresh_method}
+use Rattle.turn_types.specs.TurnRegistry.{create_permission_method, refresh_method}
 use Rattle.turn_runs.specs.Members.{IsIn}
 use Rattle.turn_runs.specs.Messages as run
 use Rattle.turn_runs_stun.specs.StunWire.{told_by}
-use Rattle.turn_client_proto_allocation.specs.Awaited.{is_refresh}
-use Rattle.turn_client_proto_allocation.specs.Listed.{awaits_refresh, refresh_asked, refreshed_again}
-use Rattle.turn_client_proto_allocation.specs.Refreshing.{ends_by, lifetime_asked, refreshing, renewed}
-use Rattle.turn_client_proto_request.specs.Judging.{IsJudged}
-use Rattle.turn_client_proto_request.specs.Requests.{request_text}
-use Rattle.turn_client_proto_request.specs.declared.request.TurnRequest.TheVariants.{Refresh}
-use Rattle.turn_client_proto_response.specs.Told.{lifetime_told}
-use Rattle.turn_client_proto_core.specs.Asking.{asked}
-use Rattle.turn_client_proto_core.specs.Ending.{ended}
-use Rattle.turn_client_proto_core.specs.Numbering.{after_number}
-use Rattle.turn_client_proto_core.specs.Responding.{accepted, challenged, is_tired, judged}
-use Rattle.turn_client_proto_core.specs.Standing.{IsAskedAgain, IsJudgedStanding, IsRechallenged, IsRequestAnswered, IsTakenUp, after_refresh, deallocated, is_refreshed, refreshed, refreshes_again}
-use Rattle.turn_client_proto_core.specs.declared.protocol.Phase.TheVariants.{Authenticated, Ended}
-use Rattle.turn_client_proto_core.specs.declared.protocol.Protocol.{Protocol}
+use Rattle.turn_client_proto_poll.specs.Allocation.Awaited.{is_refresh}
+use Rattle.turn_client_proto_poll.specs.Allocation.Listed.{awaits_refresh, refresh_asked, refreshed_again}
+use Rattle.turn_client_proto_poll.specs.Allocation.Refreshing.{ends_by, lifetime_asked, refreshing, renewed}
+use Rattle.turn_client_proto_poll.specs.Api.declared.event.TurnEvent.TheVariants.{PermissionCreateFailed}
+use Rattle.turn_client_proto_poll.specs.Permission.Asking.{address_asked, all_asked_again, all_renewed_again, asking_again, has_asked, has_renewed, peer_asked, peer_renewed, renewing_again}
+use Rattle.turn_client_proto_poll.specs.Permission.Granted as granted_again
+use Rattle.turn_client_proto_poll.specs.Permission.Granted.{turned_down}
+use Rattle.turn_client_proto_poll.specs.Request.Judging.{IsJudged}
+use Rattle.turn_client_proto_poll.specs.Request.Requests.{request_text}
+use Rattle.turn_client_proto_poll.specs.Request.declared.request.TurnRequest.TheVariants.{CreatePermission, Refresh}
+use Rattle.turn_client_proto_poll.specs.Response.Told.{lifetime_told}
+use Rattle.turn_client_proto_poll.specs.Core.Asking.{asked}
+use Rattle.turn_client_proto_poll.specs.Core.Ending.{ended}
+use Rattle.turn_client_proto_poll.specs.Core.Numbering.{after_number}
+use Rattle.turn_client_proto_poll.specs.Core.Permitting as permission
+use Rattle.turn_client_proto_poll.specs.Core.Permitting.{IsAskingAgain, IsGrantedFor, IsPermissionResponded, IsPermittingAgain, IsRefusedFor, IsRenewalGranted, IsRenewalRefused, IsRenewingAgain, permits_again, refused, renews}
+use Rattle.turn_client_proto_poll.specs.Core.Responding.{accepted, challenged, is_error_class, is_tired, judged}
+use Rattle.turn_client_proto_poll.specs.Core.Standing.{IsAskedAgain, IsJudgedStanding, IsRechallenged, IsRequestAnswered, IsTakenUp, after_refresh, deallocated, is_refreshed, refreshed, refreshes_again}
+use Rattle.turn_client_proto_poll.specs.Core.declared.protocol.Phase.TheVariants.{Authenticated, Ended}
+use Rattle.turn_client_proto_poll.specs.Core.declared.protocol.Protocol.{Protocol}
 use Rattle.turn_client_proto_steps.specs.Held.{Allocation, PendingRefresh}
 use Rattle.turn_client_proto_steps.specs.RunClient.{Client, Parts, parts_of}
 use Rattle.turn_client_proto_steps.specs.RunSteps.{IsRunStep}
 use Rattle.turn_client_proto_steps.specs.Sound.{AreShort, CanAsk, IsOrderly}
 use Rattle.turn_client_proto_steps.proofs.Adding.{AreLess, adds_both, agent_less, allocations_less, phase_moved}
+use Rattle.turn_client_proto_steps.proofs.Allocating.{validated_own}
 use Rattle.turn_client_proto_steps.proofs.Asking.{IsMade, IsUnderWay, asked_adds, asked_orderly, asks, made, once_accepted, once_judged}
+use Rattle.turn_client_proto_steps.proofs.Granting.{asked_in, granted_step}
 use Rattle.turn_client_proto_steps.proofs.Hearing.{done, over}
 use Rattle.turn_client_proto_steps.proofs.Lessening.{all_renewed, first_less, none_less, one_awaited}
+use Rattle.turn_client_proto_steps.proofs.Lists.{found_in, inside}
+use Rattle.turn_client_proto_steps.proofs.Permissions.{asking_again_permitting, first_permitting, peer_of, renewed_permitting, renewing_again_permitting, turned_down_permitting}
+use Rattle.turn_client_proto_steps.proofs.Permits.{made_number, owns}
+use Rattle.turn_client_proto_steps.proofs.Permitting.{ArePermitting, allocations_permitting, each_permitting, none_asks, one_asks, permitting_orderly}
 use Rattle.turn_client_proto_steps.proofs.Orderly.{agent_orderly, allocations_orderly, phase_orderly, until_all}
-use Rattle.turn_client_proto_steps.proofs.Plain.{nothing_drawn, quiet, run_step}
+use Rattle.turn_client_proto_steps.proofs.Plain.{none_told, nothing_drawn, notices, quiet, run_step}
 use Rattle.turn_client_proto_steps.proofs.Polling.{by_test}
 use Rattle.turn_client_proto_steps.proofs.Refreshing.{allocated, refresh_made, refresh_of, refresh_short}
 
 -- ---- a lifetime that was asked for
-
-inside : {A : Type 0} {a b : A} → Some a ≡ Some b → a ≡ b
-inside p = Prim.cc p
-
-found_in : {X : Type 0} (p : X → Bool) (xs : List X) (x : X) → find p xs ≡ Some x → IsIn x xs
-found_in p [] x h = absurd (Prim.cc h)
-found_in p (y ∷ ys) x h = elim (cases_Bool (p y)) [
-  | inl is ↦
-      let here : find p (y ∷ ys) ≡ Some y = rw is refl in
-      inl (inside (sym here ∙ h))
-  | inr differs ↦
-      let later : find p (y ∷ ys) ≡ find p ys = rw differs refl in
-      inr (found_in p ys x (sym later ∙ h))
-]
 
 lifetime_small : (refreshes : List PendingRefresh) (lifetime : ℕ) (found : Option PendingRefresh) → AreShort refreshes → ((r : PendingRefresh) → found ≡ Some r → IsIn r refreshes)
     → option_map (λ (r : PendingRefresh). r.lifetime) found ≡ Some lifetime → lifetime < 2 ^ 32
@@ -94,9 +99,48 @@ module _ (c : Client) (mid : Protocol) (bytes : List ℕ) (now : ℕ) (under_way
       (asked_orderly mid (Refresh lifetime) number now is (allocated _ mid.phase stands) under_way.orderly)) in
       asks c mid (Refresh lifetime) number under_way is (bytes ∷ []) None core adds orderly refl under_way.can_ask.families refl refl (nothing_drawn begun c)
 
+  -- a CREATE_PERMISSION once more
+  permits : (change : List Allocation → List Allocation) (ip : IpAddr) (number : ℕ) → IsMade mid (CreatePermission ip) number → ArePermitting (one_asks ip number) mid.allocations (change mid.allocations)
+      → IsRunStep c (bytes ∷ []) None [] (challenged bytes (permits_again change ip number now mid))
+  unfolding challenged permits_again asked
+  permits change ip number is are =
+      let begun : List run.Message = told_by (request_text mid.auth (CreatePermission ip) number) ∷ [] in
+      let made_it : Parts = parts_of (asked (after_number mid) (CreatePermission ip) number now) in
+      let left : List Allocation = change mid.allocations in
+      let listed : Parts = record made_it { allocations = left } in
+      let agent : Agent = after_message made_it.agent bytes mid.server in
+      let none : NothingNew made_it.agent agent = handled_new made_it.agent bytes mid.server in
+      let core : Protocol = challenged bytes (permits_again change ip number now mid) in
+      let adds = adds_both begun (parts_of mid) made_it (parts_of core) (asked_adds mid (CreatePermission ip) number now)
+      (adds_both begun made_it listed (parts_of core)
+      (allocations_permitting begun (one_asks ip number) made_it left are (made_number mid ip number now is))
+      (agent_less begun listed agent none)) in
+      let orderly = agent_orderly listed agent none (permitting_orderly (one_asks ip number) made_it left are (owns mid ip number now is)
+      (asked_orderly mid (CreatePermission ip) number now is (allocated _ mid.phase stands) under_way.orderly)) in
+      asks c mid (CreatePermission ip) number under_way is (bytes ∷ []) None core adds orderly refl under_way.can_ask.families refl refl (nothing_drawn begun c)
+
+  permitting_again : (change : ℕ → List Allocation → List Allocation) (ip : IpAddr) (handled : Bool) (new : Protocol) → ((number : ℕ) → ArePermitting (one_asks ip number) mid.allocations (change number mid.allocations))
+      → IsPermittingAgain change mid bytes ip now handled new → IsRunStep c (bytes ∷ []) None [] new
+  permitting_again change ip handled new are h =
+      subst (λ (p : Protocol). IsRunStep c (bytes ∷ []) None [] p) (sym h.outcome.1)
+      (permits (change h.number) ip h.number (made c mid (CreatePermission ip) h.number under_way h.lawful tt h.is_next) (are h.number))
+
+  renewing_again_step : (peer : Option (TransportType × IpAddr)) (handled : Bool) (new : Protocol) → IsRenewingAgain peer mid bytes now handled new → IsRunStep c (bytes ∷ []) None [] new
+  renewing_again_step None handled new h = done c (bytes ∷ []) mid new under_way h.1
+  renewing_again_step (Some peer) handled new h =
+      permitting_again (all_renewed_again (number_at bytes)) peer.1 handled new
+      (λ number. first_permitting (one_asks peer.1 number) (has_renewed (number_at bytes)) (renewing_again (number_at bytes) number) mid.allocations (λ a found. renewing_again_permitting peer.1 (number_at bytes) number a)) h
+
+  asking_again_step : (peer : Option (TransportType × IpAddr)) (handled : Bool) (new : Protocol) → peer_asked (number_at bytes) mid.allocations ≡ peer → IsAskingAgain peer mid bytes now handled new → IsRunStep c (bytes ∷ []) None [] new
+  asking_again_step None handled new is h = renewing_again_step (peer_renewed (number_at bytes) mid.allocations) handled new h
+  asking_again_step (Some peer) handled new is h =
+      permitting_again (all_asked_again (number_at bytes)) peer.1 handled new
+      (λ number. first_permitting (one_asks peer.1 number) (has_asked (number_at bytes)) (asking_again (number_at bytes) number) mid.allocations
+      (λ a found. asking_again_permitting peer.1 (number_at bytes) number a (peer_of (address_asked (number_at bytes)) peer (find (has_asked (number_at bytes)) mid.allocations) a found is).1)) h
+
   asked_again : (asked_for : Option ℕ) (handled : Bool) (new : Protocol) → refresh_asked (number_at bytes) mid.allocations ≡ asked_for → IsAskedAgain asked_for mid bytes now handled new
       → IsRunStep c (bytes ∷ []) None [] new
-  asked_again None handled new is h = done c (bytes ∷ []) mid new under_way h.1
+  asked_again None handled new is h = asking_again_step (peer_asked (number_at bytes) mid.allocations) handled new refl h
   asked_again (Some lifetime) handled new is h =
       let small = asked_small (number_at bytes) lifetime mid.allocations (find (awaits_refresh (number_at bytes)) mid.allocations) under_way.orderly.lifetimes
       (found_in (awaits_refresh (number_at bytes)) mid.allocations) is in
@@ -157,29 +201,111 @@ module _ (c : Client) (mid : Protocol) (bytes : List ℕ) (now : ℕ) (under_way
         | false ↦ done c (bytes ∷ []) mid mid under_way refl
       ]
 
-  request_answered : (handled : Bool) (new : Protocol) → IsRequestAnswered mid bytes now handled new → IsRunStep c (bytes ∷ []) None [] new
-  request_answered handled new h =
+  -- permissions that stand on, or that are gone
+  permissions_left : (core : Protocol) (left : List Allocation) → ArePermitting none_asks mid.allocations left → core ≡ record mid { allocations = left; events = core.events } → notices core.events ≡ notices mid.events
+      → IsRunStep c (bytes ∷ []) None [] core
+  permissions_left core left are is told =
+      subst (λ (p : Protocol). IsRunStep c (bytes ∷ []) None [] p) (sym is)
+      (run_step [] (bytes ∷ []) None [] c c.drawn (record mid { allocations = left; events = core.events })
+      (quiet None [] c c.drawn (record mid { allocations = left; events = core.events }) (omega arith)
+      (adds_both [] (parts_of c.core) (parts_of mid) (record (parts_of mid) { allocations = left }) under_way.adds (allocations_permitting [] none_asks (parts_of mid) left are (λ ip n h. absurd h)))
+      (nothing_drawn [] c) (told ∙ under_way.told))
+      (permitting_orderly none_asks (parts_of mid) left are (λ a ip n h. absurd h) under_way.orderly) (until_all mid.phase (record {
+        account = under_way.can_ask.account;
+        texts = under_way.can_ask.texts;
+        families = under_way.can_ask.families;
+        words = under_way.can_ask.words;
+      })))
+
+  refused_step : (peer : TransportType × IpAddr) (new : Protocol) → new ≡ refused peer (number_at bytes) mid → IsRunStep c (bytes ∷ []) None [] new
+  unfolding refused
+  refused_step peer new is =
+      subst (λ (p : Protocol). IsRunStep c (bytes ∷ []) None [] p) (sym is)
+      (permissions_left (refused peer (number_at bytes) mid) (map (turned_down (number_at bytes)) mid.allocations)
+      (each_permitting none_asks (turned_down (number_at bytes)) (turned_down_permitting (number_at bytes)) mid.allocations) refl
+      (none_told mid.events (PermissionCreateFailed peer.0 peer.1 ∷ []) refl))
+
+  renews_step : (new : Protocol) → new ≡ renews (number_at bytes) now mid → IsRunStep c (bytes ∷ []) None [] new
+  unfolding renews
+  renews_step new is =
+      subst (λ (p : Protocol). IsRunStep c (bytes ∷ []) None [] p) (sym is)
+      (permissions_left (renews (number_at bytes) now mid) (map (granted_again.renewed (number_at bytes) now) mid.allocations)
+      (each_permitting none_asks (granted_again.renewed (number_at bytes) now) (renewed_permitting (number_at bytes) now) mid.allocations) refl refl)
+
+  renewal_refused : (peer : Option (TransportType × IpAddr)) (handled : Bool) (new : Protocol) → IsRenewalRefused peer mid (number_at bytes) handled new → IsRunStep c (bytes ∷ []) None [] new
+  renewal_refused None handled new h = done c (bytes ∷ []) mid new under_way h.1
+  renewal_refused (Some peer) handled new h = refused_step peer new h.1
+
+  refused_for : (peer : Option (TransportType × IpAddr)) (handled : Bool) (new : Protocol) → IsRefusedFor peer mid (number_at bytes) handled new → IsRunStep c (bytes ∷ []) None [] new
+  refused_for None handled new h = renewal_refused (peer_renewed (number_at bytes) mid.allocations) handled new h
+  refused_for (Some peer) handled new h = refused_step peer new h.1
+
+  renewal_granted : (peer : Option (TransportType × IpAddr)) (handled : Bool) (new : Protocol) → IsRenewalGranted peer mid (number_at bytes) now handled new → IsRunStep c (bytes ∷ []) None [] new
+  renewal_granted None handled new h = done c (bytes ∷ []) mid new under_way h.1
+  renewal_granted (Some peer) handled new h = renews_step new h.1
+
+  -- a permission that was asked for and is granted
+  abbrev pub GrantsOne : Type 0
+  GrantsOne = (peer : TransportType × IpAddr) → peer_asked (number_at bytes) mid.allocations ≡ Some peer → is_error_class (class_of (kind_at bytes)) ≡ false → IsRunStep c (bytes ∷ []) None [] (permission.granted peer (number_at bytes) now mid)
+
+  granted_for : GrantsOne → (peer : Option (TransportType × IpAddr)) (handled : Bool) (new : Protocol) → peer_asked (number_at bytes) mid.allocations ≡ peer → is_error_class (class_of (kind_at bytes)) ≡ false
+      → IsGrantedFor peer mid (number_at bytes) now handled new → IsRunStep c (bytes ∷ []) None [] new
+  granted_for grants None handled new at ok h = renewal_granted (peer_renewed (number_at bytes) mid.allocations) handled new h
+  granted_for grants (Some peer) handled new at ok h = subst (λ (p : Protocol). IsRunStep c (bytes ∷ []) None [] p) (sym h.1) (grants peer at ok)
+
+  permission_responded : GrantsOne → (handled : Bool) (new : Protocol) → IsPermissionResponded mid bytes now handled new → IsRunStep c (bytes ∷ []) None [] new
+  permission_responded grants handled new h =
+      by_test (is_error_class (class_of (kind_at bytes)))
+      (λ (_ : is_error_class (class_of (kind_at bytes)) ≡ true) one. refused_for (peer_asked (number_at bytes) mid.allocations) handled new one)
+      (λ (ok : is_error_class (class_of (kind_at bytes)) ≡ false) one. granted_for grants (peer_asked (number_at bytes) mid.allocations) handled new refl ok one) h
+
+  request_answered : GrantsOne → (handled : Bool) (new : Protocol) → IsRequestAnswered mid bytes now handled new → IsRunStep c (bytes ∷ []) None [] new
+  request_answered grants handled new h =
       by_test (method_of (kind_at bytes) == refresh_method)
       (λ (_ : (method_of (kind_at bytes) == refresh_method) ≡ true) (o : (handled ≡ true) × (new ≡ after_refresh bytes now mid)). subst (λ (p : Protocol). IsRunStep c (bytes ∷ []) None [] p) (sym o.1) granted)
-      (λ (_ : (method_of (kind_at bytes) == refresh_method) ≡ false) (o : (handled ≡ false) × (new ≡ mid)). done c (bytes ∷ []) mid new under_way o.1) h
+      (λ (_ : (method_of (kind_at bytes) == refresh_method) ≡ false) one. by_test (method_of (kind_at bytes) == create_permission_method)
+      (λ (_ : (method_of (kind_at bytes) == create_permission_method) ≡ true) two. permission_responded grants handled new two)
+      (λ (_ : (method_of (kind_at bytes) == create_permission_method) ≡ false) (o : (handled ≡ false) × (new ≡ mid)). done c (bytes ∷ []) mid new under_way o.1) one) h
 
 -- ---- by the verdict
 
-module _ (c : Client) (bytes : List ℕ) (now : ℕ) (orderly : IsOrderly (parts_of c.core)) (can : CanAsk c) (stands : c.core.phase ≡ Authenticated) where
-  taken_up : (verdict : Result LongTermClientValidation LongTermClientAuthError) (signer : signers.Client) (handled : Bool) (new : Protocol) → IsJudged c.core.auth bytes verdict signer
+-- a response that is no error is a success
+success_class : (class : MessageClass) → is_response_class class ≡ true → is_error_class class ≡ false → class ≡ Success
+success_class Success response ok = refl
+success_class Error response ok = absurd (Prim.cc ok)
+success_class Request response ok = absurd (Prim.cc response)
+success_class Indication response ok = absurd (Prim.cc response)
+
+both_of : (x y : Bool) → (x && y) ≡ true → (x ≡ true) × (y ≡ true)
+both_of true y h = (refl, h)
+both_of false y h = absurd (Prim.cc h)
+
+module _ (c : Client) (bytes : List ℕ) (now : ℕ) (orderly : IsOrderly (parts_of c.core)) (can : CanAsk c) (stands : c.core.phase ≡ Authenticated) (are_bytes : AreBytes bytes) (message : refusal bytes ≡ None) where
+  grants_one : (algorithm : IntegrityAlgorithm) (signer : signers.Client) → IsJudged c.core.auth bytes (Ok (Validated algorithm)) signer → (is_response bytes && is_awaited c.core.agent bytes) ≡ true
+      → (found : Option Transaction) → finite.get c.core.agent.outstanding (number_at bytes) ≡ found → is_some found ≡ true → (under_way : IsUnderWay c (accepted bytes (judged signer c.core)))
+      → GrantsOne c (accepted bytes (judged signer c.core)) bytes now under_way
+  unfolding accepted
+  grants_one algorithm signer is taken None there some under_way peer at ok = absurd (Prim.cc some)
+  grants_one algorithm signer is taken (Some t) there some under_way peer at ok =
+      granted_step c signer bytes now message (success_class (class_of (kind_at bytes)) (both_of (is_response bytes) (is_awaited c.core.agent bytes) taken).0 ok) taken
+      (validated_own c.core.auth signer bytes algorithm c.credentials are_bytes can.account is) peer (asked_in (number_at bytes) peer c.core.allocations at) t there orderly under_way
+
+  taken_up : (algorithm : IntegrityAlgorithm) (signer : signers.Client) (handled : Bool) (new : Protocol) → IsJudged c.core.auth bytes (Ok (Validated algorithm)) signer
       → IsTakenUp (judged signer c.core) bytes now handled new → IsRunStep c (bytes ∷ []) None [] new
-  taken_up verdict signer handled new is h =
-      let under_way = once_judged c bytes verdict signer orderly can is in
+  taken_up algorithm signer handled new is h =
+      let under_way = once_judged c bytes (Ok (Validated algorithm)) signer orderly can is in
       by_test (is_response bytes && is_awaited c.core.agent bytes)
-      (λ (_ : (is_response bytes && is_awaited c.core.agent bytes) ≡ true) one.
-      request_answered c (accepted bytes (judged signer c.core)) bytes now (once_accepted c (judged signer c.core) bytes under_way) handled new one)
+      (λ (taken : (is_response bytes && is_awaited c.core.agent bytes) ≡ true) one.
+      let accepts = once_accepted c (judged signer c.core) bytes under_way in
+      request_answered c (accepted bytes (judged signer c.core)) bytes now accepts
+      (grants_one algorithm signer is taken (finite.get c.core.agent.outstanding (number_at bytes)) refl (both_of (is_response bytes) (is_awaited c.core.agent bytes) taken).1 accepts) handled new one)
       (λ (_ : (is_response bytes && is_awaited c.core.agent bytes) ≡ false) (o : (handled ≡ false) × (new ≡ judged signer c.core)). done c (bytes ∷ []) (judged signer c.core) new under_way o.1) h
 
   pub standing_judged : (verdict : Result LongTermClientValidation LongTermClientAuthError) (signer : signers.Client) (handled : Bool) (new : Protocol) → IsJudged c.core.auth bytes verdict signer
       → IsJudgedStanding verdict (judged signer c.core) bytes now handled new → IsRunStep c (bytes ∷ []) None [] new
   standing_judged (Ok (ResendRequest choice)) signer handled new is h =
       rechallenged c (judged signer c.core) bytes now (once_judged c bytes (Ok (ResendRequest choice)) signer orderly can is) stands handled new h
-  standing_judged (Ok (Validated algorithm)) signer handled new is h = taken_up (Ok (Validated algorithm)) signer handled new is h
+  standing_judged (Ok (Validated algorithm)) signer handled new is h = taken_up algorithm signer handled new is h
   standing_judged (Err NoMemory) signer handled new is h = absurd h
   standing_judged (Err Unauthorized) signer handled new is h = done c (bytes ∷ []) (judged signer c.core) new (once_judged c bytes (Err Unauthorized) signer orderly can is) h.1
   standing_judged (Err (IntegrityFailed algorithm)) signer handled new is h = done c (bytes ∷ []) (judged signer c.core) new (once_judged c bytes (Err (IntegrityFailed algorithm)) signer orderly can is) h.1

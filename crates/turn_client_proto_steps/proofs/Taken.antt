@@ -1,21 +1,23 @@
 -- A number that a request is not given is taken.
-use Rattle.std.proofs.Common.{◌≡◌, ℕ, true, List, eqb, Option, Some, None, refl, ap, subst, inl, inr}
-use Rattle.std.proofs.lemmas.Bool.{eqb-true}
+use Rattle.std.proofs.Common.{◌≡◌, ℕ, Bool, true, false, ◌||◌, List, eqb, Option, Some, None, refl, sym, ap, ◌∙◌, subst, inl, inr}
+use Rattle.std.proofs.lemmas.Bool.{cases_Bool, eqb-false, eqb-true}
 use Rattle.std.specs.Prelude.{is_some}
 use Rattle.std.specs.FinMap as map
 use Rattle.std.specs.List.{list_any}
 use Rattle.stun_proto.specs.Agents.{Transaction}
 use Rattle.turn_runs.specs.Members.{IsIn}
-use Rattle.turn_client_proto_allocation.specs.Awaited.{asks_for_channel, asks_for_permission, has_number, is_attempt, is_awaited, is_binding, is_bound_by, is_connecting, is_number, is_refresh, renews_channel, renews_permission}
-use Rattle.turn_client_proto_core.specs.Authenticating.{numbers_sent}
-use Rattle.turn_client_proto_core.specs.Numbering.{awaits, is_taken}
-use Rattle.turn_client_proto_core.specs.declared.protocol.Phase.{Phase}
-use Rattle.turn_client_proto_core.specs.declared.protocol.Phase.TheVariants.{Initial, InitialSent, Authenticating, Authenticated, Ended}
-use Rattle.turn_client_proto_core.specs.declared.protocol.Protocol.{Protocol}
+use Rattle.turn_client_proto_poll.specs.Allocation.Awaited.{asks_for_channel, asks_for_permission, has_number, is_attempt, is_awaited, is_binding, is_bound_by, is_connecting, is_number, is_refresh, renews_channel, renews_permission}
+use Rattle.turn_client_proto_poll.specs.Allocation.Listed.{is_any_awaited}
+use Rattle.turn_client_proto_poll.specs.Core.Authenticating.{numbers_sent}
+use Rattle.turn_client_proto_poll.specs.Core.Numbering.{awaits, is_taken}
+use Rattle.turn_client_proto_poll.specs.Core.declared.protocol.Phase.{Phase}
+use Rattle.turn_client_proto_poll.specs.Core.declared.protocol.Phase.TheVariants.{Initial, InitialSent, Authenticating, Authenticated, Ended}
+use Rattle.turn_client_proto_poll.specs.Core.declared.protocol.Protocol.{Protocol}
 use Rattle.turn_client_proto_steps.specs.ClientWords.{IsPending, OfPermission, OfChannel, OfNewPermission, OfNewChannel, OfRefresh, OfConnect, OfAttempt, OfBinding, IsTaken, Outstanding, Allocating, Pending}
 use Rattle.turn_client_proto_steps.specs.Held.{Allocation, Binding}
 use Rattle.turn_client_proto_steps.specs.RunClient.{parts_of}
-use Rattle.turn_client_proto_steps.proofs.Lists.{either, passes_one}
+use Rattle.turn_client_proto_steps.proofs.Lists.{any_passes, either, or_true, passes_one}
+use Rattle.turn_client_proto_steps.proofs.Orderly.{IsFree}
 
 pub among : (number : ℕ) (numbers : List ℕ) → has_number number numbers ≡ true → IsIn number numbers
 among number numbers h =
@@ -112,3 +114,41 @@ taken_by p number h = elim (either _ _ h) [
         Pending f.one f.listed (pending number f.one f.passes)
   ]
 ]
+
+-- ---- a number that is not taken
+
+own_number : (n : ℕ) → eqb n n ≡ true
+own_number n = elim (cases_Bool (eqb n n)) [
+  | inl is ↦ is
+  | inr differs ↦ absurd (eqb-false n n differs refl)
+]
+
+awaited_by : (number : ℕ) (a : Allocation) → list_any (asks_for_permission number) a.pending_permissions ≡ true → is_awaited number a ≡ true
+unfolding is_awaited
+awaited_by number a is =
+    let rest : Bool = list_any (asks_for_channel number) a.pending_channels
+    || (list_any (is_refresh number) a.pending_refreshes || (list_any (is_connecting number) a.connecting || (list_any (is_attempt number) a.waiting || list_any (is_binding number) a.connections))) in
+    ap (λ b. list_any (renews_permission number) a.permissions || (list_any (renews_channel number) a.channels || (b || rest))) is
+    ∙ ap (λ b. list_any (renews_permission number) a.permissions || b) (or_true (list_any (renews_channel number) a.channels))
+    ∙ or_true (list_any (renews_permission number) a.permissions)
+
+listed_taken : (p : Protocol) (number : ℕ) → is_any_awaited number p.allocations ≡ true → is_taken p number ≡ true
+unfolding is_taken
+listed_taken p number is =
+    ap (λ b. is_some (map.get p.agent.outstanding number) || (awaits number p.phase || b)) is
+    ∙ ap (λ b. is_some (map.get p.agent.outstanding number) || b) (or_true (awaits number p.phase))
+    ∙ or_true (is_some (map.get p.agent.outstanding number))
+
+-- a number that is not taken asks for no permission
+pub free_by : (p : Protocol) (number : ℕ) → is_taken p number ≡ false → IsFree (parts_of p) number
+free_by p number none a listed pending there has =
+    let one = any_passes (λ n. eqb n number) pending.numbers number has (own_number number) in
+    let two = any_passes (asks_for_permission number) a.pending_permissions pending there one in
+    let three = any_passes (is_awaited number) p.allocations a listed (awaited_by number a two) in
+    Prim.cc (sym none ∙ listed_taken p number three)
+
+-- nothing is outstanding under it
+pub none_outstanding : (p : Protocol) (number : ℕ) (found : Option Transaction) → map.get p.agent.outstanding number ≡ found → is_taken p number ≡ false → found ≡ None
+unfolding is_taken
+none_outstanding p number None at none = refl
+none_outstanding p number (Some t) at none = absurd (Prim.cc (sym (ap (λ o. is_some o || (awaits number p.phase || is_any_awaited number p.allocations)) at) ∙ none))

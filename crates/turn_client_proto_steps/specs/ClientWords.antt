@@ -15,10 +15,10 @@ use Rattle.turn_runs.specs.Messages as run
 use Rattle.turn_runs.specs.Words.{ClientWords, DeskWords, Words}
 use Rattle.turn_runs_stun.specs.StunWire.{stun_wire}
 use Rattle.turn_client_proto_steps.specs.Held.{Allocation, Binding, Channel, Connecting, Connection, PendingChannel, PendingPermission, PendingRefresh, Permission, Waiting}
-use Rattle.turn_client_proto_api.specs.declared.event.TurnEvent.{TurnEvent}
-use Rattle.turn_client_proto_api.specs.declared.event.TurnEvent.TheVariants.{AllocationCreated, AllocationCreateFailed, PermissionCreated, PermissionCreateFailed, ChannelCreated, ChannelCreateFailed, TcpConnected, TcpConnectFailed}
-use Rattle.turn_client_proto_core.specs.Authenticating.{numbers_sent}
-use Rattle.turn_client_proto_core.specs.Waiting.{Queued}
+use Rattle.turn_client_proto_poll.specs.Api.declared.event.TurnEvent.{TurnEvent}
+use Rattle.turn_client_proto_poll.specs.Api.declared.event.TurnEvent.TheVariants.{AllocationCreated, AllocationCreateFailed, PermissionCreated, PermissionCreateFailed, ChannelCreated, ChannelCreateFailed, TcpConnected, TcpConnectFailed}
+use Rattle.turn_client_proto_poll.specs.Core.Authenticating.{numbers_sent}
+use Rattle.turn_client_proto_poll.specs.Core.Waiting.{Queued}
 use Rattle.turn_client_proto_steps.specs.RunClient.{Client, Incoming, Control, Unbound, Bound, Parts, parts_of}
 
 -- ---- requests

@@ -13,12 +13,13 @@ use Rattle.stun_proto.specs.Numbers.{ShowsNumbers}
 use Rattle.stun_proto.specs.State.{Agent}
 use Rattle.turn_types.specs.TurnRegistry.{allocate_method}
 use Rattle.turn_runs.specs.Members.{IsIn}
+use Rattle.turn_runs.specs.Messages.{Asks, Holds, Permission}
 use Rattle.turn_runs_stun.specs.StunWire.{told_by}
-use Rattle.turn_client_proto_core.specs.Waiting.{Queued}
-use Rattle.turn_client_proto_core.specs.declared.protocol.Phase.{Phase}
-use Rattle.turn_client_proto_core.specs.declared.protocol.Phase.TheVariants.{Initial, InitialSent, Authenticating, Authenticated, Ended}
-use Rattle.turn_client_proto_request.specs.ShortTexts.{HasShortTexts}
-use Rattle.turn_client_proto_steps.specs.Held.{Allocation, PendingRefresh}
+use Rattle.turn_client_proto_poll.specs.Core.Waiting.{Queued}
+use Rattle.turn_client_proto_poll.specs.Core.declared.protocol.Phase.{Phase}
+use Rattle.turn_client_proto_poll.specs.Core.declared.protocol.Phase.TheVariants.{Initial, InitialSent, Authenticating, Authenticated, Ended}
+use Rattle.turn_client_proto_poll.specs.Request.ShortTexts.{HasShortTexts}
+use Rattle.turn_client_proto_steps.specs.Held.{Allocation, PendingPermission, PendingRefresh}
 use Rattle.turn_client_proto_steps.specs.RunClient.{Client, Parts, parts_of}
 
 -- ---- what is outstanding
@@ -44,14 +45,22 @@ BeforeAllocated Ended Is = Unit {0}
 abbrev pub AreShort : List PendingRefresh → Type 0
 AreShort refreshes = (r : PendingRefresh) → IsIn r refreshes → r.lifetime < 2 ^ 32
 
+-- ---- what is asked for
+
+-- an outstanding request under a number of a permission that was asked for asks for that very permission
+abbrev pub AreAsked : Agent → Allocation → Type 0
+AreAsked agent a = (p : PendingPermission) → IsIn p a.pending_permissions → (number : ℕ) → IsIn number p.numbers
+    → (t : Transaction) → map.get agent.outstanding number ≡ Some t → Asks (told_by t.bytes) (Holds (Permission a.transport p.ip))
+
 -- each outstanding request is a message, kept under its own number; until the server has allocated it is an
--- ALLOCATE for the client's transport; and what waits to be sent is requests
+-- ALLOCATE for the client's transport; what waits to be sent is requests; and what allocations await was asked for
 pub record IsOrderly (p : Parts) : Type 0 where
   pub numbers : ShowsNumbers p.agent
   pub messages : AreMessages p.agent
   pub allocates : BeforeAllocated p.phase (AreAllocates p.allocates p.agent)
   pub queued : (q : Queued) → IsIn q p.queue → q.is_request ≡ true
   pub lifetimes : (a : Allocation) → IsIn a p.allocations → AreShort a.pending_refreshes
+  pub permissions : (a : Allocation) → IsIn a p.allocations → AreAsked p.agent a
 
 -- ---- what a client needs to ask for something
 

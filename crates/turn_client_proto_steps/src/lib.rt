@@ -8,17 +8,19 @@
 #![tactic(auto)]
 
 ghost use Rattle.std.specs.Prelude.{◌≤◌, ℕ, List, length, ◌≡◌, ◌++◌, Bool, [], Option, None, Result, option_to_list};
+ghost use Rattle.std.specs.declared.net.ip_addr.IpAddr.{IpAddr};
 ghost use Rattle.std.specs.declared.net.socket_addr.SocketAddr.{SocketAddr};
 ghost use Rattle.stun_types.specs.Registry.{longest_username};
 ghost use Rattle.stun_types.specs.declared.transport.TransportType.{TransportType};
 ghost use Rattle.turn_runs.specs.Members.{IsIn};
-ghost use Rattle.turn_runs.specs.Messages.{Allocation};
+ghost use Rattle.turn_runs.specs.Messages.{Allocation, Permission};
 ghost use Rattle.turn_runs.specs.Runs.{IsNew as IsNewInRun};
 ghost use Rattle.turn_runs.specs.Words.{DeskWords};
-ghost use Rattle.turn_client_proto_allocation.specs.Listed.{relayed_shown};
-ghost use Rattle.turn_client_proto_api.specs.Config.{Config};
-ghost use Rattle.turn_client_proto_core.specs.Beginning.{IsNew};
-ghost use Rattle.turn_client_proto_core.specs.declared.protocol.Protocol.{Protocol};
+ghost use Rattle.turn_client_proto_poll.specs.Allocation.Listed.{relayed_shown};
+ghost use Rattle.turn_client_proto_poll.specs.Api.Config.{Config};
+ghost use Rattle.turn_client_proto_poll.specs.Permission.Shown.{addresses_of, permissions_at};
+ghost use Rattle.turn_client_proto_poll.specs.Core.Beginning.{IsNew};
+ghost use Rattle.turn_client_proto_poll.specs.Core.declared.protocol.Protocol.{Protocol};
 ghost use Rattle.turn_client_proto_steps.specs.Beginning.{first_client};
 ghost use Rattle.turn_client_proto_steps.specs.ClientWords.{client_words, run_words, notice_of};
 ghost use Rattle.turn_client_proto_steps.specs.RunClient.{Client};
@@ -27,14 +29,16 @@ ghost use Rattle.std.specs.List.{filter_map};
 ghost use Rattle.std.specs.Option.{option_map};
 ghost use Rattle.stun_types.specs.Grammar.{refusal};
 ghost use Rattle.stun_types.specs.Headers.{AreBytes};
-ghost use Rattle.turn_client_proto_api.specs.declared.answer.TurnPollRet.{TurnPollRet};
-ghost use Rattle.turn_client_proto_api.specs.declared.error.DeleteError.{DeleteError};
-ghost use Rattle.turn_client_proto_api.specs.declared.event.TurnEvent.{TurnEvent};
-ghost use Rattle.turn_client_proto_core.specs.Deleting.{IsDeleteAnswered};
-ghost use Rattle.turn_client_proto_core.specs.Drawing.{IsDrawn, Sent};
-ghost use Rattle.turn_client_proto_core.specs.Ending.{HasFailed, ended};
-ghost use Rattle.turn_client_proto_core.specs.Polling.{IsPolled};
-ghost use Rattle.turn_client_proto_core.specs.Receiving.{IsHeard};
+ghost use Rattle.turn_client_proto_poll.specs.Api.declared.answer.TurnPollRet.{TurnPollRet};
+ghost use Rattle.turn_client_proto_poll.specs.Api.declared.error.CreatePermissionError.{CreatePermissionError};
+ghost use Rattle.turn_client_proto_poll.specs.Api.declared.error.DeleteError.{DeleteError};
+ghost use Rattle.turn_client_proto_poll.specs.Core.Permitting.{IsPermissionAnswered};
+ghost use Rattle.turn_client_proto_poll.specs.Api.declared.event.TurnEvent.{TurnEvent};
+ghost use Rattle.turn_client_proto_poll.specs.Core.Deleting.{IsDeleteAnswered};
+ghost use Rattle.turn_client_proto_poll.specs.Drawing.{IsDrawn, Sent};
+ghost use Rattle.turn_client_proto_poll.specs.Core.Ending.{HasFailed, ended};
+ghost use Rattle.turn_client_proto_poll.specs.Polling.{IsPolled};
+ghost use Rattle.turn_client_proto_poll.specs.Core.Receiving.{IsHeard};
 ghost use Rattle.turn_client_proto_steps.specs.RunSteps.{IsReceiving, IsRunStep, IsSilent};
 
 /// What a run tells of a desk. It has no code; the law of new clients holds for every one.
@@ -72,6 +76,14 @@ pub fn shown_addresses_are_held()
         → client_words.IsHeld c (Allocation transport address) }
 {}
 
+/// The addresses whose permissions a client shows are held, in the words of a run, over the transport of
+/// their allocation.
+pub fn shown_permissions_are_held()
+    ensures { (c : Client) (transport : TransportType) (relayed : SocketAddr) (ip : IpAddr)
+        → IsIn ip (addresses_of (permissions_at transport relayed c.core.allocations))
+        → (own : TransportType) × client_words.IsHeld c (Permission own ip) }
+{}
+
 /// `poll_event` is a step in which what an event tells as created is answered.
 pub fn events_are_steps()
     ensures { (c : Client) (event : Option TurnEvent) (new : Protocol)
@@ -101,6 +113,17 @@ pub fn deletions_are_steps()
         → IsSilent c new }
 {}
 
+/// `create_permission` is a step in which a CREATE_PERMISSION is made, where it is answered so. Refused
+/// it changes nothing but that an allocation may be marked as expired; where memory is refused, the
+/// number that was drawn counts, and nothing else changes.
+pub fn permissions_are_steps()
+    ensures { (c : Client) (transport : TransportType) (ip : IpAddr) (now : ℕ)
+        (answer : Result (Unit {0}) CreatePermissionError) (new : Protocol)
+        → IsSound c
+        → IsPermissionAnswered c.core transport ip now answer new
+        → IsSilent c new }
+{}
+
 /// `poll` is a step in which nothing is asked for and nothing gained: requests and allocations may
 /// go.
 pub fn polls_are_steps()
@@ -120,9 +143,9 @@ pub fn draws_are_steps()
 {}
 
 /// A message that came is a step. What the client then holds in addition was brought by that
-/// message: it validates under a key of the client's, answers an ALLOCATE that was outstanding, and
-/// is outstanding no more (RFC 8656, section 7.3). A challenge may make a request (RFC 8489,
-/// section 9.2.5).
+/// message: it validates under a key of the client's, answers an ALLOCATE that was outstanding, or a
+/// CREATE_PERMISSION for that very address, and that is outstanding no more (RFC 8656, sections 7.3
+/// and 10.3). A challenge may make a request (RFC 8489, section 9.2.5).
 pub fn messages_are_steps()
     ensures { (c : Client) (bytes : List ℕ) (now : ℕ) (handled : Bool) (new : Protocol)
         → IsSound c

@@ -1,12 +1,12 @@
 //! What events in a world are answered.
 
-use std::net::SocketAddr;
+use std::net::{IpAddr, SocketAddr};
 use stun_proto::Instant;
 use stun_types::data::Data;
 use stun_types::{Transmit, TransportType};
 use turn_client_proto_api::answer::Socket5Tuple;
 use turn_client_proto_api::data::TurnPeerData;
-use turn_client_proto_api::error::DeleteError;
+use turn_client_proto_api::error::{CreatePermissionError, DeleteError};
 use turn_client_proto_api::event::TurnEvent;
 
 /// Why a client refuses a call.
@@ -14,6 +14,8 @@ use turn_client_proto_api::event::TurnEvent;
 pub enum Refusal {
     /// Why allocations are not deleted.
     Delete(DeleteError),
+    /// Why no permission is asked for.
+    CreatePermission(CreatePermissionError),
 }
 
 /// What an event is answered.
@@ -70,8 +72,12 @@ pub enum Answer {
     Done,
     /// The call was refused.
     Refused(Refusal),
+    /// Whether a permission stands.
+    Have(bool),
     /// The relayed addresses that the client shows, with their transports.
     Relayed(Vec<(TransportType, SocketAddr)>),
+    /// The addresses of the permissions that stand.
+    Permissions(Vec<IpAddr>),
     /// There is no client, or the moment is past `CLIENT_END`. Nothing was done.
     OutOfRange,
 }

@@ -1,7 +1,8 @@
 //! What happens in a world.
 
-use std::net::SocketAddr;
+use std::net::{IpAddr, SocketAddr};
 use stun_proto::Instant;
+use stun_types::TransportType;
 use turn_desk_grant::decision::Decision;
 
 /// A call of a client by its user.
@@ -13,6 +14,12 @@ pub enum ClientCall {
     PollEvent,
     /// `delete`.
     Delete,
+    /// `create_permission`.
+    CreatePermission(TransportType, IpAddr),
+    /// `have_permission`.
+    HavePermission(TransportType, IpAddr),
+    /// `permissions` of the allocation with this transport and relayed address.
+    Permissions(TransportType, SocketAddr),
     /// `protocol_error`.
     ProtocolError,
     /// `relayed_addresses`.

@@ -68,7 +68,7 @@ impl Progress {
                 Ok(()) => Ok(None),
                 Err(error) => Err(error),
             },
-            Ok(Line::Event(event)) => match self.tell(&event) {
+            Ok(Line::Event(event)) => match self.tell(event) {
                 Ok(text) => Ok(Some(text)),
                 Err(error) => Err(error),
             },
@@ -176,13 +176,13 @@ impl Progress {
 impl Progress {
     /// Lets an event happen, and answers the line that tells what it was answered. `Bad` where there is
     /// no desk, or an event of the client comes with no client.
-    fn tell(&mut self, event: &Event) -> Result<String, LineError>
-        ensures ok { IfOk result (λ text. IsTold (progress_of self.old) event.now
+    fn tell(&mut self, event: Event) -> Result<String, LineError>
+        ensures ok { IfOk result (λ text. IsTold (progress_of self.old) event
             (string_bytes text) (progress_of self.new)) }
         ensures bad { result ≡ Err LineError.Bad
-            → can_happen (progress_of self.old) event.now ≡ false }
+            → can_happen (progress_of self.old) event ≡ false }
     {
-        let answer = self.happen(event)?;
+        let answer = self.happen(&event)?;
         let text = answer_line(self.alloc, &answer)?;
         Ok(text)
     }

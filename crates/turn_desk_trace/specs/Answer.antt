@@ -1,8 +1,9 @@
 -- What answers are printed as, and which of their bytes later lines name.
-use Rattle.std.specs.Prelude.{ℕ, List, [], ◌++◌, Option, Some, None, codes}
+use Rattle.std.specs.Prelude.{ℕ, List, [], ◌++◌, Bool, true, false, Option, Some, None, codes}
 use Rattle.std.specs.Fmt.{decimal}
 use Rattle.std.specs.List.{flat_map}
 use Rattle.std.specs.Net.Text.{ip_text, socket_text}
+use Rattle.std.specs.declared.net.ip_addr.IpAddr.{IpAddr}
 use Rattle.std.specs.declared.net.socket_addr.SocketAddr.{SocketAddr}
 use Rattle.program_lines.specs.LowerHex.{hex_text}
 use Rattle.stun_types.specs.Data.{data_bytes}
@@ -10,6 +11,8 @@ use Rattle.stun_types.specs.declared.family.AddressFamily.{AddressFamily}
 use Rattle.stun_types.specs.declared.family.AddressFamily.TheVariants.{IPV4, IPV6}
 use Rattle.stun_types.specs.declared.transport.TransportType.{TransportType}
 use Rattle.stun_types.specs.declared.transport.TransportType.TheVariants.{Udp, Tcp}
+use Rattle.turn_client_proto_api.specs.declared.error.CreatePermissionError.{CreatePermissionError}
+use Rattle.turn_client_proto_api.specs.declared.error.CreatePermissionError.TheVariants as Permits
 use Rattle.turn_client_proto_api.specs.declared.error.DeleteError.{DeleteError}
 use Rattle.turn_client_proto_api.specs.declared.error.DeleteError.TheVariants as Deletes
 use Rattle.turn_client_proto_api.specs.declared.event.TurnEvent.{TurnEvent}
@@ -17,7 +20,7 @@ use Rattle.turn_client_proto_api.specs.declared.event.TurnEvent.TheVariants as E
 use Rattle.turn_desk_event.specs.declared.answer.Answer.{Answer}
 use Rattle.turn_desk_event.specs.declared.answer.Answer.TheVariants as Answers
 use Rattle.turn_desk_event.specs.declared.answer.Refusal.{Refusal}
-use Rattle.turn_desk_event.specs.declared.answer.Refusal.TheVariants.{Delete}
+use Rattle.turn_desk_event.specs.declared.answer.Refusal.TheVariants.{CreatePermission, Delete}
 
 -- the word for a transport
 abbrev pub transport_word : TransportType → List ℕ
@@ -49,13 +52,29 @@ abbrev pub delete_error_text : DeleteError → List ℕ
 delete_error_text Deletes.NoAllocation = codes "NoAllocation"
 delete_error_text Deletes.NoMemory = codes "NoMemory"
 
+-- why no permission is asked for
+abbrev pub permission_error_text : CreatePermissionError → List ℕ
+permission_error_text Permits.AlreadyExists = codes "AlreadyExists"
+permission_error_text Permits.NoAllocation = codes "NoAllocation"
+permission_error_text Permits.NoMemory = codes "NoMemory"
+
 -- why a client refuses a call
 abbrev pub refusal_text : Refusal → List ℕ
 refusal_text (Delete error) = delete_error_text error
+refusal_text (CreatePermission error) = permission_error_text error
+
+-- whether a permission stands
+abbrev pub have_text : Bool → List ℕ
+have_text true = codes "yes"
+have_text false = codes "no"
 
 -- a relayed address with its transport, behind a space
 abbrev pub relayed_text : TransportType × SocketAddr → List ℕ
 relayed_text relayed = codes " " ++ placed_text relayed.0 (socket_text relayed.1)
+
+-- an IP address, behind a space
+abbrev pub permitted_text : IpAddr → List ℕ
+permitted_text ip = codes " " ++ ip_text ip
 
 -- two addresses with a space between
 abbrev pub between_text : SocketAddr → SocketAddr → List ℕ
@@ -85,7 +104,9 @@ answer_words Answers.Closed = codes "closed"
 answer_words (Answers.Event event) = codes "event " ++ event_text event
 answer_words Answers.Done = codes "ok"
 answer_words (Answers.Refused refusal) = codes "refused " ++ refusal_text refusal
+answer_words (Answers.Have stands) = have_text stands
 answer_words (Answers.Relayed list) = codes "relayed" ++ flat_map relayed_text list.items
+answer_words (Answers.Permissions list) = codes "permissions" ++ flat_map permitted_text list.items
 answer_words Answers.OutOfRange = codes "out of range"
 
 -- the printed line of an answer
@@ -108,7 +129,9 @@ answered_bytes Answers.Closed = None
 answered_bytes (Answers.Event event) = None
 answered_bytes Answers.Done = None
 answered_bytes (Answers.Refused refusal) = None
+answered_bytes (Answers.Have stands) = None
 answered_bytes (Answers.Relayed list) = None
+answered_bytes (Answers.Permissions list) = None
 answered_bytes Answers.OutOfRange = None
 
 -- the bytes, or none

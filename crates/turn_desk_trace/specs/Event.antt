@@ -1,10 +1,14 @@
 -- Event lines of a trace.
 use Rattle.std.specs.Prelude.{ℕ, ◌≡◌, List, [], ◌∷◌, Some, codes}
-use Rattle.std.specs.Net.Grammar.{IsSocketText}
+use Rattle.std.specs.Net.Grammar.{IsIpText, IsSocketText}
+use Rattle.std.specs.declared.net.ip_addr.IpAddr.{IpAddr}
+use Rattle.std.specs.declared.net.socket_addr.SocketAddr.{SocketAddr}
+use Rattle.stun_types.specs.declared.transport.TransportType.{TransportType}
 use Rattle.turn_desk_event.specs.declared.event.ClientCall.{ClientCall}
-use Rattle.turn_desk_event.specs.declared.event.ClientCall.TheVariants.{Poll, PollEvent, Delete, ProtocolError, RelayedAddresses}
+use Rattle.turn_desk_event.specs.declared.event.ClientCall.TheVariants.{Poll, PollEvent, Delete, CreatePermission, HavePermission, Permissions, ProtocolError, RelayedAddresses}
 use Rattle.turn_desk_event.specs.declared.event.Event.{Event}
 use Rattle.turn_desk_event.specs.declared.event.Event.TheVariants.{Call, Draw, ToClient, ToDesk}
+use Rattle.turn_desk_trace.specs.Answer.{transport_word}
 use Rattle.turn_desk_trace.specs.Bytes.{first_bytes, named_bytes}
 use Rattle.turn_desk_trace.specs.Decision.{IsDecision}
 use Rattle.turn_desk_trace.specs.TraceNumbers.{number, seed_of}
@@ -20,11 +24,38 @@ abbrev pub IsNoMoment : List (List ℕ) → ℕ → Type 0
 IsNoMoment [] moment = moment ≡ 0
 IsNoMoment (word ∷ rest) moment = ⊥
 
+-- the words are two, and they spell this transport and this IP address
+abbrev pub IsPlacedIp : List (List ℕ) → TransportType → IpAddr → Type 0
+IsPlacedIp [] transport ip = ⊥
+IsPlacedIp (a ∷ []) transport ip = ⊥
+IsPlacedIp (name ∷ address ∷ []) transport ip =
+    (name ≡ transport_word transport) × IsIpText address ip
+IsPlacedIp (a ∷ b ∷ more ∷ rest) transport ip = ⊥
+
+-- the words are two, and they spell this transport and this transport address
+abbrev pub IsPlacedSocket : List (List ℕ) → TransportType → SocketAddr → Type 0
+IsPlacedSocket [] transport socket = ⊥
+IsPlacedSocket (a ∷ []) transport socket = ⊥
+IsPlacedSocket (name ∷ address ∷ []) transport socket =
+    (name ≡ transport_word transport) × IsSocketText address socket
+IsPlacedSocket (a ∷ b ∷ more ∷ rest) transport socket = ⊥
+
+-- the words behind `permission` spell a moment, and this transport and this IP address
+abbrev pub IsPermission : List (List ℕ) → TransportType → IpAddr → ℕ → Type 0
+IsPermission [] transport ip moment = ⊥
+IsPermission (now ∷ rest) transport ip moment = (number now ≡ Some moment) × IsPlacedIp rest transport ip
+
 -- a name and the words behind it spell a call of the client at a moment
 abbrev pub IsCall : List ℕ → List (List ℕ) → ClientCall → ℕ → Type 0
 IsCall name rest Poll moment = (name ≡ codes "poll") × IsMoment rest moment
 IsCall name rest PollEvent moment = (name ≡ codes "event") × IsNoMoment rest moment
 IsCall name rest Delete moment = (name ≡ codes "delete") × IsMoment rest moment
+IsCall name rest (CreatePermission transport ip) moment =
+    (name ≡ codes "permission") × IsPermission rest transport ip moment
+IsCall name rest (HavePermission transport ip) moment =
+    (name ≡ codes "have") × IsPlacedIp rest transport ip × (moment ≡ 0)
+IsCall name rest (Permissions transport socket) moment =
+    (name ≡ codes "permissions") × IsPlacedSocket rest transport socket × (moment ≡ 0)
 IsCall name rest ProtocolError moment = (name ≡ codes "error") × IsNoMoment rest moment
 IsCall name rest RelayedAddresses moment = (name ≡ codes "relayed") × IsNoMoment rest moment
 

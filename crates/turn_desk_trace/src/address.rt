@@ -1,16 +1,19 @@
-//! Addresses of a trace, as std reads and prints them.
+//! Addresses of a trace, as std reads and prints them, and their transports.
 
-ghost use Rattle.std.specs.Prelude.{◌≡◌, [], ◌∷◌, List, Err, IfOk, MatchOption, ◌==◌, map};
+ghost use Rattle.std.specs.Prelude.{◌≡◌, ◌≢◌, [], ◌∷◌, List, Err, IfOk, MatchOption, ◌==◌, map};
 ghost use Rattle.std.specs.List.{slice_split};
-ghost use Rattle.std.specs.Net.Grammar.{IsSocketText};
+ghost use Rattle.std.specs.Net.Grammar.{IsIpText, IsSocketText};
+ghost use Rattle.std.specs.declared.net.ip_addr.IpAddr.{IpAddr};
 ghost use Rattle.std.specs.declared.net.socket_addr.SocketAddr.{SocketAddr};
+ghost use Rattle.stun_types.specs.declared.transport.TransportType.{TransportType};
 ghost use Rattle.turn_desk_trace.specs.Address.{AreAddresses};
+ghost use Rattle.turn_desk_trace.specs.Answer.{transport_word};
 
 use program_lines::refusal::LineError;
 use program_lines::word::pieces;
 use std::alloc::Global;
-use std::net::SocketAddr;
-use stun_types::{ListOf, NoMemory};
+use std::net::{IpAddr, SocketAddr};
+use stun_types::{ListOf, NoMemory, TransportType};
 
 /// The transport address that a word spells, as `192.0.2.1:3478` or `[2001:db8::1]:3478`. None
 /// where it spells none.
@@ -19,6 +22,25 @@ pub fn read_address(word: &str) -> Option<SocketAddr>
         (IsSocketText word.now) }
 {
     word.parse::<SocketAddr>().ok()
+}
+
+/// The IP address that a word spells, as `192.0.2.1` or `2001:db8::1`. None where it spells none.
+pub fn read_ip(word: &str) -> Option<IpAddr>
+    ensures { MatchOption result ((a : IpAddr) → ¬ (IsIpText word.now a)) (IsIpText word.now) }
+{
+    word.parse::<IpAddr>().ok()
+}
+
+/// The transport that a word names. None where it names none.
+pub fn read_transport(word: &str) -> Option<TransportType>
+    ensures { MatchOption result ((t : TransportType) → word.now ≢ transport_word t)
+        (λ t. word.now ≡ transport_word t) }
+{
+    match word {
+        "udp" => Some(TransportType::Udp),
+        "tcp" => Some(TransportType::Tcp),
+        _ => None,
+    }
 }
 
 /// One transport address, or two with a comma between. Two of one family are read: whether they

@@ -1,18 +1,23 @@
 //! Event lines: what happens to the client or to the desk.
 
 ghost use Rattle.std.specs.Prelude.{◌≡◌, ℕ, Err, IfOk, MatchOption, map};
+ghost use Rattle.std.specs.declared.net.ip_addr.IpAddr.{IpAddr};
+ghost use Rattle.std.specs.declared.net.socket_addr.SocketAddr.{SocketAddr};
+ghost use Rattle.stun_types.specs.declared.transport.TransportType.{TransportType};
 ghost use Rattle.turn_desk_event.specs.declared.event.ClientCall.{ClientCall};
 ghost use Rattle.turn_desk_event.specs.declared.event.Event.{Event};
-ghost use Rattle.turn_desk_trace.specs.Event.{IsCall, IsEvent, IsMoment, IsNoMoment, IsToClient, IsToClientFrom, IsToClientOf, IsToDesk, IsToDeskFrom, IsToDeskOf};
+ghost use Rattle.turn_desk_trace.specs.Event.{IsCall, IsEvent, IsMoment, IsNoMoment, IsPermission, IsPlacedIp, IsPlacedSocket, IsToClient, IsToClientFrom, IsToClientOf, IsToDesk, IsToDeskFrom, IsToDeskOf};
 
-use crate::address::read_address;
+use crate::address::{read_address, read_ip, read_transport};
 use crate::bytes::read_bytes;
 use crate::decision::read_decision;
 use crate::named::Named;
 use crate::number::{read_seed, read_u64};
 use program_lines::refusal::LineError;
 use std::alloc::Global;
+use std::net::{IpAddr, SocketAddr};
 use stun_proto::Instant;
+use stun_types::TransportType;
 use turn_desk_event::event::{ClientCall, Event};
 
 /// The event that some words spell. `answers` are those of the event lines so far. Refused with
@@ -187,6 +192,24 @@ fn read_call(name: &str, words: &[&str]) -> Option<(ClientCall, Instant)>
         "poll" => Some((ClientCall::Poll, read_moment(words)?)),
         "event" => Some((ClientCall::PollEvent, read_no_moment(words)?)),
         "delete" => Some((ClientCall::Delete, read_moment(words)?)),
+        "permission" => {
+            let (transport, ip, now) = read_permission(words)?;
+            Some((ClientCall::CreatePermission(transport, ip), now))
+        }
+        "have" => {
+            let (transport, ip) = read_placed_ip(words)?;
+            Some((
+                ClientCall::HavePermission(transport, ip),
+                Instant::from_nanos(0),
+            ))
+        }
+        "permissions" => {
+            let (transport, relayed) = read_placed_socket(words)?;
+            Some((
+                ClientCall::Permissions(transport, relayed),
+                Instant::from_nanos(0),
+            ))
+        }
         "error" => Some((ClientCall::ProtocolError, read_no_moment(words)?)),
         "relayed" => Some((ClientCall::RelayedAddresses, read_no_moment(words)?)),
         _ => None,
@@ -214,6 +237,52 @@ fn read_no_moment(words: &[&str]) -> Option<Instant>
 {
     match words {
         [] => Some(Instant::from_nanos(0)),
+        _ => None,
+    }
+}
+
+/// The transport, the IP address and the moment of a line that begins with `permission`, from the
+/// words behind it.
+fn read_permission(words: &[&str]) -> Option<(TransportType, IpAddr, Instant)>
+    ensures { MatchOption result ((transport : TransportType) (ip : IpAddr) (moment : ℕ)
+        → ¬ (IsPermission (map (λ x. x.now) words.now) transport ip moment))
+        (λ read. IsPermission (map (λ x. x.now) words.now) read.0 read.1 read.2) }
+{
+    match words {
+        [now, rest @ ..] => match (read_u64(now), read_placed_ip(rest)) {
+            (Some(now), Some((transport, ip))) => Some((transport, ip, Instant::from_nanos(now))),
+            _ => None,
+        },
+        _ => None,
+    }
+}
+
+/// The transport and the IP address that the last two words of a line spell.
+fn read_placed_ip(words: &[&str]) -> Option<(TransportType, IpAddr)>
+    ensures { MatchOption result ((transport : TransportType) (ip : IpAddr)
+        → ¬ (IsPlacedIp (map (λ x. x.now) words.now) transport ip))
+        (λ read. IsPlacedIp (map (λ x. x.now) words.now) read.0 read.1) }
+{
+    match words {
+        [transport, ip] => match (read_transport(transport), read_ip(ip)) {
+            (Some(transport), Some(ip)) => Some((transport, ip)),
+            _ => None,
+        },
+        _ => None,
+    }
+}
+
+/// The transport and the transport address that the last two words of a line spell.
+fn read_placed_socket(words: &[&str]) -> Option<(TransportType, SocketAddr)>
+    ensures { MatchOption result ((transport : TransportType) (socket : SocketAddr)
+        → ¬ (IsPlacedSocket (map (λ x. x.now) words.now) transport socket))
+        (λ read. IsPlacedSocket (map (λ x. x.now) words.now) read.0 read.1) }
+{
+    match words {
+        [transport, socket] => match (read_transport(transport), read_address(socket)) {
+            (Some(transport), Some(socket)) => Some((transport, socket)),
+            _ => None,
+        },
         _ => None,
     }
 }

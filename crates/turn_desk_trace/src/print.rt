@@ -4,14 +4,14 @@ ghost use Rattle.std.specs.Prelude.{◌≡◌, ◌++◌, IfOk, OnOk, codes, deci
 ghost use Rattle.std.specs.List.{flat_map};
 ghost use Rattle.std.specs.Net.Text.{socket_text};
 ghost use Rattle.program_lines.specs.LowerHex.{hex_text};
-ghost use Rattle.turn_desk_trace.specs.Answer.{answer_text, answer_words, between_text, event_text, family_word, icmp_text, placed_text, refusal_text, relayed_text, transport_word};
+ghost use Rattle.turn_desk_trace.specs.Answer.{answer_text, answer_words, between_text, event_text, family_word, have_text, icmp_text, permission_error_text, permitted_text, placed_text, refusal_text, relayed_text, transport_word};
 
 use program_lines::lower_hex::write_hex;
 use std::alloc::{AllocError, Global};
-use std::net::SocketAddr;
+use std::net::{IpAddr, SocketAddr};
 use stun_types::{AddressFamily, TransportType};
 use turn_client_proto_api::answer::Socket5Tuple;
-use turn_client_proto_api::error::DeleteError;
+use turn_client_proto_api::error::{CreatePermissionError, DeleteError};
 use turn_client_proto_api::event::TurnEvent;
 use turn_desk_event::answer::{Answer, Refusal};
 
@@ -50,7 +50,9 @@ fn print_words(alloc: Global, answer: &Answer) -> Result<String, AllocError>
         Answer::Event(event) => print_event(alloc, *event),
         Answer::Done => String::from_str(alloc, "ok"),
         Answer::Refused(refusal) => format!(in alloc; "refused {}", name_of_refusal(*refusal)),
+        Answer::Have(stands) => String::from_str(alloc, name_of_have(*stands)),
         Answer::Relayed(list) => print_relayed(alloc, list.as_slice()),
+        Answer::Permissions(list) => print_permissions(alloc, list.as_slice()),
         Answer::OutOfRange => String::from_str(alloc, "out of range"),
     }
 }
@@ -197,6 +199,33 @@ fn push_relayed(
     text.push_str(words.as_str())
 }
 
+/// `permissions`, and the address of each.
+fn print_permissions(alloc: Global, list: &[IpAddr]) -> Result<String, AllocError>
+    ensures { IfOk result (λ text. string_bytes text
+        ≡ codes "permissions" ++ flat_map permitted_text list.now) }
+{
+    let mut text = String::from_str(alloc, "permissions")?;
+    for ip in list {
+        push_permitted(alloc, &mut text, *ip)?;
+    }
+    Ok(text)
+}
+
+/// Appends the address of a permission behind a space.
+fn push_permitted(alloc: Global, text: &mut String, ip: IpAddr) -> Result<(), AllocError>
+    ensures { OnOk result (string_bytes text.new ≡ string_bytes text.old ++ permitted_text ip) }
+{
+    let word = format!(in alloc; " {ip}")?;
+    text.push_str(word.as_str())
+}
+
+/// The word for whether a permission stands.
+fn name_of_have(stands: bool) -> &'static str
+    ensures { result.now ≡ have_text stands }
+{
+    if stands { "yes" } else { "no" }
+}
+
 /// The word for a transport.
 fn name_of_transport(transport: TransportType) -> &'static str
     ensures { result.now ≡ transport_word transport }
@@ -224,5 +253,17 @@ fn name_of_refusal(refusal: Refusal) -> &'static str
     match refusal {
         Refusal::Delete(DeleteError::NoAllocation) => "NoAllocation",
         Refusal::Delete(_) => "NoMemory",
+        Refusal::CreatePermission(error) => name_of_permission_error(error),
+    }
+}
+
+/// The name of the reason for which no permission is asked for.
+fn name_of_permission_error(error: CreatePermissionError) -> &'static str
+    ensures { result.now ≡ permission_error_text error }
+{
+    match error {
+        CreatePermissionError::AlreadyExists => "AlreadyExists",
+        CreatePermissionError::NoAllocation => "NoAllocation",
+        _ => "NoMemory",
     }
 }

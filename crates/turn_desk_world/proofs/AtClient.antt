@@ -1,16 +1,19 @@
 -- What the client of a world answers is a step of a run.
 use Rattle.std.proofs.Common.{◌≡◌, ℕ, Bool, true, false, List, [], ◌∷◌, Option, Some, None, Ok, Err, refl, sym, ap, ◌∙◌, subst}
 use Rattle.std.specs.Borrow.{Bor}
+use Rattle.std.specs.declared.net.ip_addr.IpAddr.{IpAddr}
 use Rattle.std.specs.declared.net.socket_addr.SocketAddr.{SocketAddr}
 use Rattle.stun_types.specs.Grammar.{refusal}
 use Rattle.stun_types.specs.Headers.{AreBytes}
 use Rattle.stun_types.specs.ParseErrors.{StunParseError}
 use Rattle.stun_types.specs.declared.transmit.Transmit.{Transmit}
+use Rattle.stun_types.specs.declared.transport.TransportType.{TransportType}
 use Rattle.turn_runs.specs.Messages.{Notice}
-use Rattle.turn_client_proto_allocation.specs.Listed.{relayed_shown}
-use Rattle.turn_client_proto_api.specs.declared.answer.TurnPollRet.TheVariants as poll
-use Rattle.turn_client_proto_api.specs.declared.answer.TurnRecvRet.{TurnRecvRet}
-use Rattle.turn_client_proto_api.specs.declared.answer.TurnRecvRet.TheVariants as recv
+use Rattle.turn_client_proto.specs.Allocation.Listed.{relayed_shown}
+use Rattle.turn_client_proto.specs.Permission.Shown.{addresses_of, permissions_at}
+use Rattle.turn_client_proto.specs.Api.declared.answer.TurnPollRet.TheVariants as poll
+use Rattle.turn_client_proto.specs.Api.declared.answer.TurnRecvRet.{TurnRecvRet}
+use Rattle.turn_client_proto.specs.Api.declared.answer.TurnRecvRet.TheVariants as recv
 use Rattle.turn_client_proto.specs.Drawing.{sent_of}
 use Rattle.turn_client_proto.specs.Kept.{Protocol}
 use Rattle.turn_client_proto.specs.Receipts.{Foreign, Heard, IsGivenBack, IsHandledAs, IsMessageTaken, IsRead, IsReceived, Lost, Own}
@@ -22,12 +25,13 @@ use Rattle.turn_client_proto_steps.proofs.Ending.{ended_step, event_step, failed
 use Rattle.turn_client_proto_steps.proofs.Polling.{poll_step}
 use Rattle.turn_client_proto_steps.proofs.Receiving.{receive_step}
 use Rattle.turn_client_proto_steps.proofs.Refreshing.{delete_step}
+use Rattle.turn_client_proto_steps.proofs.Requesting.{permission_step}
 use Rattle.turn_desk_event.specs.declared.answer.Answer.{Answer}
 use Rattle.turn_desk_event.specs.declared.answer.Answer.TheVariants as answer
-use Rattle.turn_desk_event.specs.declared.answer.Refusal.TheVariants.{Delete as DeleteRefused}
+use Rattle.turn_desk_event.specs.declared.answer.Refusal.TheVariants.{CreatePermission as PermissionRefused, Delete as DeleteRefused}
 use Rattle.turn_desk_event.specs.declared.event.ClientCall.{ClientCall}
-use Rattle.turn_desk_event.specs.declared.event.ClientCall.TheVariants.{Poll, PollEvent, Delete, ProtocolError, RelayedAddresses}
-use Rattle.turn_desk_world.specs.Calls.{IsCalled, IsDeleteTold, IsDrawnAs, IsEndTold, IsEventTold, IsFed, IsPolledAs, IsRelayedTold, IsTold}
+use Rattle.turn_desk_event.specs.declared.event.ClientCall.TheVariants.{Poll, PollEvent, Delete, CreatePermission, HavePermission, Permissions, ProtocolError, RelayedAddresses}
+use Rattle.turn_desk_world.specs.Calls.{ArePermissionsTold, IsCalled, IsDeleteTold, IsDrawnAs, IsEndTold, IsEventTold, IsFed, IsHaveTold, IsPermissionTold, IsPolledAs, IsRelayedTold, IsTold}
 use Rattle.turn_desk_world.specs.Told.{bytes_sent, notices_in, payloads_in}
 use Rattle.turn_desk_world.proofs.Shown.{ShowsOf}
 
@@ -55,6 +59,23 @@ module _ (c : Client) (sound : IsSound c) (now : ℕ) (new : Protocol) where
   delete_told (answer.Refused (DeleteRefused error)) is = record { step = delete_step c now (Err error) new sound is; no_payload = refl; shows = tt }
   delete_told _ is = absurd is
 
+  permission_told : (transport : TransportType) (ip : IpAddr) (ret : Answer) → IsPermissionTold ret transport ip c.core now new → IsAnswered c [] ret new
+  permission_told transport ip answer.Done is = record { step = permission_step c transport ip now (Ok tt) new sound is; no_payload = refl; shows = tt }
+  permission_told transport ip (answer.Refused (PermissionRefused error)) is = record { step = permission_step c transport ip now (Err error) new sound is; no_payload = refl; shows = tt }
+  permission_told transport ip _ is = absurd is
+
+  have_told : (transport : TransportType) (ip : IpAddr) (ret : Answer) → IsHaveTold ret transport ip c.core new → IsAnswered c [] ret new
+  have_told transport ip (answer.Have has) is = record { step = still c [] new sound is.1; no_payload = refl; shows = tt }
+  have_told transport ip _ is = absurd is
+
+  permissions_told : (transport : TransportType) (relayed : SocketAddr) (ret : Answer) → ArePermissionsTold ret transport relayed c.core new → IsAnswered c [] ret new
+  permissions_told transport relayed (answer.Permissions list) is = record {
+    step = still c [] new sound is.1;
+    no_payload = refl;
+    shows = (transport, relayed, is.0 ∙ ap (λ (p : Protocol). addresses_of (permissions_at transport relayed p.allocations)) (sym is.1));
+  }
+  permissions_told transport relayed _ is = absurd is
+
   end_told : (ret : Answer) → IsEndTold ret c.core new → IsAnswered c [] ret new
   end_told answer.Done is = record { step = subst (λ (p : Protocol). IsRunStep c [] None [] p) (sym is) (ended_step c sound); no_payload = refl; shows = tt }
   end_told _ is = absurd is
@@ -68,6 +89,9 @@ module _ (c : Client) (sound : IsSound c) (now : ℕ) (new : Protocol) where
   called Poll ret is = polled ret is
   called PollEvent ret is = event_told ret is
   called Delete ret is = delete_told ret is
+  called (CreatePermission transport ip) ret is = permission_told transport ip ret is
+  called (HavePermission transport ip) ret is = have_told transport ip ret is
+  called (Permissions transport relayed) ret is = permissions_told transport relayed ret is
   called ProtocolError ret is = end_told ret is
   called RelayedAddresses ret is = relayed_told ret is
 

@@ -46,4 +46,6 @@ module _ (old new : World) (bytes : List ℕ) (from : SocketAddr) (now : ℕ) (d
     where
       none : (ret : Answer) → IsReply ret old.desk bytes from now decision seed new.desk → ShowsAt (AtDesk (desk_call old bytes from now decision seed ret new)) ret
       none (answer.Relayed list) is = absurd is
+      none (answer.Have has) is = absurd is
+      none (answer.Permissions list) is = absurd is
       none _ is = tt

@@ -1,20 +1,22 @@
 -- What the client's getters show is held, and so was granted.
 use Rattle.std.proofs.Common.{◌≡◌, List, [], ◌∷◌, ◌++◌, sym, ap, ◌∙◌, subst, inl, inr}
 use Rattle.std.specs.List.{AllByRecursion}
+use Rattle.std.specs.declared.net.ip_addr.IpAddr.{IpAddr}
 use Rattle.std.specs.declared.net.socket_addr.SocketAddr.{SocketAddr}
 use Rattle.stun_types.specs.declared.transport.TransportType.{TransportType}
 use Rattle.turn_runs.specs.Headline.{IsSafe, Traced}
 use Rattle.turn_runs.specs.Members.{IsIn}
-use Rattle.turn_runs.specs.Messages.{Held, Allocation}
+use Rattle.turn_runs.specs.Messages.{Held, Allocation, Permission}
 use Rattle.turn_runs.specs.Runs.{Step, AtClient, AtDesk, AtEach, AtSome}
 use Rattle.turn_runs.specs.Steps.{Call}
 use Rattle.turn_runs.proofs.Keeps.{traced_later}
 use Rattle.turn_runs_stun.proofs.Lawful.{lawful}
-use Rattle.turn_client_proto_allocation.specs.Listed.{relayed_shown}
+use Rattle.turn_client_proto.specs.Allocation.Listed.{relayed_shown}
+use Rattle.turn_client_proto.specs.Permission.Shown.{addresses_of, permissions_at}
 use Rattle.turn_client_proto.specs.Kept.{Protocol}
 use Rattle.turn_client_proto_steps.specs.ClientWords.{client_words}
 use Rattle.turn_client_proto_steps.specs.RunClient.{Client}
-use Rattle.turn_client_proto_steps.proofs.Shown.{shown_held}
+use Rattle.turn_client_proto_steps.proofs.Shown.{permission_held, shown_held}
 use Rattle.turn_desk_event.specs.declared.answer.Answer.{Answer}
 use Rattle.turn_desk_event.specs.declared.answer.Answer.TheVariants as answer
 use Rattle.turn_desk_event.specs.declared.event.Event.{Event}
@@ -26,6 +28,8 @@ use Rattle.turn_desk_world.specs.Safety.{ShowsGranted, words}
 -- it shows the addresses of a client with this core
 abbrev pub ShowsOf : Answer → Protocol → Type 0
 ShowsOf (answer.Relayed list) core = list.items ≡ relayed_shown core.allocations
+ShowsOf (answer.Permissions list) core =
+    (transport : TransportType) × (relayed : SocketAddr) × (list.items ≡ addresses_of (permissions_at transport relayed core.allocations))
 ShowsOf _ core = Unit {0}
 
 -- the client holds something when a step ends
@@ -36,18 +40,24 @@ HoldsAfter h (AtDesk d) = ⊥
 -- each address in an answer is held when a step ends
 abbrev pub ShowsAt : Step Client DeskCall → Answer → Type 0
 ShowsAt one (answer.Relayed list) = (transport : TransportType) (address : SocketAddr) → IsIn (transport, address) list.items → HoldsAfter (Allocation transport address) one
+ShowsAt one (answer.Permissions list) = (ip : IpAddr) → IsIn ip list.items → (transport : TransportType) × HoldsAfter (Permission transport ip) one
 ShowsAt one _ = Unit {0}
 
 -- each address in an answer is held when some step of a run ends
 abbrev pub ShowsIn : List (Step Client DeskCall) → Answer → Type 0
 ShowsIn run (answer.Relayed list) =
     (transport : TransportType) (address : SocketAddr) → IsIn (transport, address) list.items → AtSome (λ s _. HoldsAfter (Allocation transport address) s) run
+ShowsIn run (answer.Permissions list) =
+    (ip : IpAddr) → IsIn ip list.items → (transport : TransportType) × AtSome (λ s _. HoldsAfter (Permission transport ip) s) run
 ShowsIn run _ = Unit {0}
 
 pub shows_held : (ret : Answer) (core : Protocol) (call : Call Client) → call.after.core ≡ core → ShowsOf ret core → ShowsAt (AtClient call) ret
 shows_held (answer.Relayed list) core call same is = λ transport address listed.
     shown_held call.after.core.allocations transport address
     (subst (λ (l : List (TransportType × SocketAddr)). IsIn (transport, address) l) (is ∙ ap (λ (p : Protocol). relayed_shown p.allocations) (sym same)) listed)
+shows_held (answer.Permissions list) core call same is = λ ip listed.
+    permission_held call.after.core.allocations is.0 is.1 ip
+    (subst (λ (l : List IpAddr). IsIn ip l) (is.2 ∙ ap (λ (p : Protocol). addresses_of (permissions_at is.0 is.1 p.allocations)) (sym same)) listed)
 shows_held _ core call same is = tt
 
 -- ---- in a run
@@ -62,10 +72,12 @@ at_front P one (s ∷ later) some = elim some [ inl is ↦ inl is | inr rest ↦
 
 pub shows_last : (one : Step Client DeskCall) (later : List (Step Client DeskCall)) (ret : Answer) → ShowsAt one ret → ShowsIn (later ++ one ∷ []) ret
 shows_last one later (answer.Relayed list) is = λ transport address listed. at_last (HoldsAfter (Allocation transport address)) one later (is transport address listed)
+shows_last one later (answer.Permissions list) is = λ ip listed. let h = is ip listed in (h.0, at_last (HoldsAfter (Permission h.0 ip)) one later h.1)
 shows_last one later _ is = tt
 
 shows_front : (one : Step Client DeskCall) (later : List (Step Client DeskCall)) (ret : Answer) → ShowsIn later ret → ShowsIn (later ++ one ∷ []) ret
 shows_front one later (answer.Relayed list) is = λ transport address listed. at_front (HoldsAfter (Allocation transport address)) one later (is transport address listed)
+shows_front one later (answer.Permissions list) is = λ ip listed. let h = is ip listed in (h.0, at_front (HoldsAfter (Permission h.0 ip)) one later h.1)
 shows_front one later _ is = tt
 
 pub all_front : (one : Step Client DeskCall) (later : List (Step Client DeskCall)) (pairs : List (Event × Answer)) → AllByRecursion (λ (pair : Event × Answer). ShowsIn later pair.1) pairs
@@ -89,6 +101,7 @@ module _ (first last : Client) where
 
   shows_granted : (run : List (Step Client DeskCall)) (ret : Answer) → AtEach (IsSafe words first last) run → ShowsIn run ret → ShowsGranted run ret
   shows_granted run (answer.Relayed list) safe is = λ transport address listed. traced (Allocation transport address) run safe (is transport address listed)
+  shows_granted run (answer.Permissions list) safe is = λ ip listed. let h = is ip listed in (h.0, traced (Permission h.0 ip) run safe h.1)
   shows_granted run _ safe is = tt
 
   pub all_granted : (run : List (Step Client DeskCall)) (pairs : List (Event × Answer)) → AtEach (IsSafe words first last) run → AllByRecursion (λ (pair : Event × Answer). ShowsIn run pair.1) pairs

@@ -1,24 +1,27 @@
 -- What a client answers in a world.
 use Rattle.std.specs.Prelude.{◌≡◌, ℕ, List, [], ◌∷◌, Some, None, Ok, Err}
 use Rattle.std.specs.Borrow.{Bor}
+use Rattle.std.specs.declared.net.ip_addr.IpAddr.{IpAddr}
 use Rattle.std.specs.declared.net.socket_addr.SocketAddr.{SocketAddr}
 use Rattle.stun_types.specs.Headers.{AreBytes}
 use Rattle.stun_types.specs.declared.transmit.Transmit.{Transmit}
-use Rattle.turn_client_proto_api.specs.declared.answer.TurnPollRet.TheVariants as poll
-use Rattle.turn_client_proto_api.specs.declared.answer.TurnRecvRet.{TurnRecvRet}
-use Rattle.turn_client_proto_api.specs.declared.answer.TurnRecvRet.TheVariants as recv
-use Rattle.turn_client_proto.specs.Getters.{relayed_of}
+use Rattle.stun_types.specs.declared.transport.TransportType.{TransportType}
+use Rattle.turn_client_proto.specs.Api.declared.answer.TurnPollRet.TheVariants as poll
+use Rattle.turn_client_proto.specs.Api.declared.answer.TurnRecvRet.{TurnRecvRet}
+use Rattle.turn_client_proto.specs.Api.declared.answer.TurnRecvRet.TheVariants as recv
+use Rattle.turn_client_proto.specs.Getters.{has_permission, permissions_of, relayed_of}
 use Rattle.turn_client_proto.specs.Receipts.{IsReceived}
 use Rattle.turn_client_proto.specs.Deleting.{IsDeleteAnswered}
 use Rattle.turn_client_proto.specs.Drawing.{IsDrawn, sent_of}
 use Rattle.turn_client_proto.specs.Ending.{ended}
+use Rattle.turn_client_proto.specs.Permitting.{IsPermissionAnswered}
 use Rattle.turn_client_proto.specs.Polling.{IsPolled}
 use Rattle.turn_client_proto.specs.Kept.{Protocol}
 use Rattle.turn_desk_event.specs.declared.answer.Answer.{Answer}
 use Rattle.turn_desk_event.specs.declared.answer.Answer.TheVariants as answer
-use Rattle.turn_desk_event.specs.declared.answer.Refusal.TheVariants.{Delete as DeleteRefused}
+use Rattle.turn_desk_event.specs.declared.answer.Refusal.TheVariants.{CreatePermission as PermissionRefused, Delete as DeleteRefused}
 use Rattle.turn_desk_event.specs.declared.event.ClientCall.{ClientCall}
-use Rattle.turn_desk_event.specs.declared.event.ClientCall.TheVariants.{Poll, PollEvent, Delete, ProtocolError, RelayedAddresses}
+use Rattle.turn_desk_event.specs.declared.event.ClientCall.TheVariants.{Poll, PollEvent, Delete, CreatePermission, HavePermission, Permissions, ProtocolError, RelayedAddresses}
 
 -- ---- calls
 
@@ -42,6 +45,22 @@ IsDeleteTold answer.Done old now new = IsDeleteAnswered old now (Ok tt) new
 IsDeleteTold (answer.Refused (DeleteRefused error)) old now new = IsDeleteAnswered old now (Err error) new
 IsDeleteTold _ old now new = ⊥
 
+-- `create_permission`
+abbrev pub IsPermissionTold : Answer → TransportType → IpAddr → Protocol → ℕ → Protocol → Type 0
+IsPermissionTold answer.Done transport ip old now new = IsPermissionAnswered old transport ip now (Ok tt) new
+IsPermissionTold (answer.Refused (PermissionRefused error)) transport ip old now new = IsPermissionAnswered old transport ip now (Err error) new
+IsPermissionTold _ transport ip old now new = ⊥
+
+-- `have_permission`
+abbrev pub IsHaveTold : Answer → TransportType → IpAddr → Protocol → Protocol → Type 0
+IsHaveTold (answer.Have is) transport ip old new = (is ≡ has_permission transport ip old) × (new ≡ old)
+IsHaveTold _ transport ip old new = ⊥
+
+-- `permissions`
+abbrev pub ArePermissionsTold : Answer → TransportType → SocketAddr → Protocol → Protocol → Type 0
+ArePermissionsTold (answer.Permissions list) transport relayed old new = (list.items ≡ permissions_of transport relayed old) × (new ≡ old)
+ArePermissionsTold _ transport relayed old new = ⊥
+
 -- `protocol_error`
 abbrev pub IsEndTold : Answer → Protocol → Protocol → Type 0
 IsEndTold answer.Done old new = new ≡ ended old
@@ -57,6 +76,9 @@ unfoldable pub IsCalled : ClientCall → Answer → Protocol → ℕ → Protoco
 IsCalled Poll answer old now new = IsPolledAs answer old now new
 IsCalled PollEvent answer old now new = IsEventTold answer old new
 IsCalled Delete answer old now new = IsDeleteTold answer old now new
+IsCalled (CreatePermission transport ip) answer old now new = IsPermissionTold answer transport ip old now new
+IsCalled (HavePermission transport ip) answer old now new = IsHaveTold answer transport ip old new
+IsCalled (Permissions transport relayed) answer old now new = ArePermissionsTold answer transport relayed old new
 IsCalled ProtocolError answer old now new = IsEndTold answer old new
 IsCalled RelayedAddresses answer old now new = IsRelayedTold answer old new
 

@@ -1,12 +1,13 @@
 -- What holds of a run of a client and a desk over a network that loses, repeats, reorders and invents.
 use Rattle.std.specs.Prelude.{◌≡◌, ◌≤◌, ℕ, List, length, Some}
 use Rattle.std.specs.List.{AllByRecursion}
+use Rattle.std.specs.declared.net.ip_addr.IpAddr.{IpAddr}
 use Rattle.std.specs.declared.net.socket_addr.SocketAddr.{SocketAddr}
 use Rattle.stun_types.specs.Registry.{longest_username}
 use Rattle.stun_types.specs.declared.transport.TransportType.{TransportType}
 use Rattle.turn_runs.specs.Headline.{AnswersOnce, IsSafe, Traced}
 use Rattle.turn_runs.specs.Members.{IsIn}
-use Rattle.turn_runs.specs.Messages.{Allocation}
+use Rattle.turn_runs.specs.Messages.{Allocation, Permission}
 use Rattle.turn_runs.specs.Runs.{Step, AreDistinct, AtEach, IsLawful, Leads, NoForgery}
 use Rattle.turn_runs.specs.Words.{Words}
 use Rattle.turn_client_proto.specs.Beginning.{IsNew}
@@ -34,16 +35,19 @@ pub record BeginsNew (transport : TransportType) (here server : SocketAddr) (con
   pub short : length config.credentials.username ≤ longest_username
   pub few : length config.families ≤ 2
 
--- each relayed address in an answer was granted by the desk, in answer to a request that the client drew
+-- each relayed address in an answer was granted by the desk, in answer to a request that the client drew; and so was each
+-- permission, over some transport
 abbrev pub ShowsGranted : List (Step Client DeskCall) → Answer → Type 0
 ShowsGranted run (answer.Relayed list) =
     (transport : TransportType) (address : SocketAddr) → IsIn (transport, address) list.items → Traced words run (Allocation transport address)
+ShowsGranted run (answer.Permissions list) =
+    (ip : IpAddr) → IsIn ip list.items → (transport : TransportType) × Traced words run (Permission transport ip)
 ShowsGranted run _ = Unit {0}
 
 -- what the answers to some events come to: each is a step of a run by the contracts, and they lead the client from one
 -- state to another; and where nothing that arrives was forged under a key of the client's, and no number is drawn twice,
--- each step is safe, nothing is answered as created twice for one request, and each relayed address that is shown was
--- granted
+-- each step is safe, nothing is answered as created twice for one request, and each relayed address and each permission
+-- that is shown was granted
 pub record AreSafe (first : Client) (old : World) (pairs : List (Event × Answer)) (new : World) : Type 0 where
   pub run : List (Step Client DeskCall)
   pub told : IsToldBy old pairs run new

@@ -2,17 +2,19 @@
 
 ghost use Rattle.std.specs.Prelude.{◌≡◌, IfOk};
 ghost use Rattle.turn_client_proto.specs.Clients.{protocol_of};
-ghost use Rattle.turn_client_proto.specs.Getters.{relayed_of};
-ghost use Rattle.turn_desk_world.specs.Calls.{IsCalled, IsDrawnAs, IsEventTold, IsFed, IsPolledAs, IsDeleteTold};
+ghost use Rattle.turn_client_proto.specs.Getters.{permissions_of, relayed_of};
+ghost use Rattle.turn_desk_world.specs.Calls.{IsCalled, IsDeleteTold, IsDrawnAs, IsEventTold, IsFed, IsPermissionTold, IsPolledAs};
 ghost use Rattle.turn_desk_world.specs.Runs.{IsAtClient, IsInRange, is_in_range};
 
 use crate::typed::are_bytes;
 use std::alloc::Global;
 use std::marker::Model;
-use std::net::SocketAddr;
+use std::net::{IpAddr, SocketAddr};
 use stun_proto::Instant;
 use stun_types::{NoMemory, Transmit, TransportType};
-use turn_client_proto::api::{CLIENT_END, DeleteError, TurnPollRet, TurnRecvRet};
+use turn_client_proto::api::{
+    CLIENT_END, CreatePermissionError, DeleteError, TurnPollRet, TurnRecvRet,
+};
 use turn_client_proto::client::TurnClient;
 use turn_client_proto::prelude::TurnClientApi;
 use turn_desk_event::answer::{Answer, Refusal};
@@ -33,6 +35,16 @@ fn call(
         ClientCall::Poll => poll(client, now),
         ClientCall::PollEvent => Ok(poll_event(client)),
         ClientCall::Delete => delete(client, now),
+        ClientCall::CreatePermission(transport, ip) => {
+            create_permission(client, transport, ip, now)
+        }
+        ClientCall::HavePermission(transport, ip) => {
+            Ok(Answer::Have(client.have_permission(transport, ip)))
+        }
+        ClientCall::Permissions(transport, relayed) => {
+            let list = permissions(alloc, client, transport, relayed)?;
+            Ok(Answer::Permissions(list))
+        }
         ClientCall::ProtocolError => {
             client.protocol_error()?;
             Ok(Answer::Done)
@@ -92,6 +104,40 @@ fn delete(client: &mut TurnClient, now: Instant) -> Result<Answer, NoMemory>
         Err(DeleteError::NoMemory) => Err(NoMemory),
         Err(error) => Ok(Answer::Refused(Refusal::Delete(error))),
     }
+}
+
+/// The client is to ask for a permission.
+fn create_permission(
+    client: &mut TurnClient,
+    transport: TransportType,
+    ip: IpAddr,
+    now: Instant,
+) -> Result<Answer, NoMemory>
+    ensures { IfOk result (λ answer. IsPermissionTold answer transport ip
+        (protocol_of client.old) now (protocol_of client.new)) }
+{
+    match client.create_permission(transport, ip, now) {
+        Ok(()) => Ok(Answer::Done),
+        Err(CreatePermissionError::NoMemory) => Err(NoMemory),
+        Err(error) => Ok(Answer::Refused(Refusal::CreatePermission(error))),
+    }
+}
+
+/// The addresses whose permissions the client shows.
+fn permissions(
+    alloc: Global,
+    client: &TurnClient,
+    transport: TransportType,
+    relayed: SocketAddr,
+) -> Result<Vec<IpAddr>, NoMemory>
+    ensures { IfOk result (λ list.
+        list.items ≡ permissions_of transport relayed (protocol_of client.now)) }
+{
+    let mut list = Vec::new(alloc);
+    for ip in client.permissions(transport, relayed) {
+        list.push(ip)?;
+    }
+    Ok(list)
 }
 
 /// The relayed addresses that the client shows.

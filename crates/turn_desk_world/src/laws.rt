@@ -11,7 +11,7 @@ ghost use Rattle.stun_types.specs.Headers.{AreBytes};
 ghost use Rattle.stun_types.specs.declared.transmit.Transmit.{Transmit};
 ghost use Rattle.turn_client_proto.specs.Kept.{Protocol};
 ghost use Rattle.turn_client_proto.specs.Receipts.{IsReceived};
-ghost use Rattle.turn_client_proto_api.specs.declared.answer.TurnRecvRet.{TurnRecvRet};
+ghost use Rattle.turn_client_proto.specs.Api.declared.answer.TurnRecvRet.{TurnRecvRet};
 ghost use Rattle.turn_client_proto_steps.specs.RunClient.{Client};
 ghost use Rattle.turn_client_proto_steps.specs.RunSteps.{IsReceiving};
 ghost use Rattle.turn_client_proto_steps.specs.Sound.{IsSound};

@@ -1,7 +1,8 @@
 use Rattle.turn_client_proto_core.proofs.Numbers.{still_first}
+use Rattle.turn_client_proto_core.proofs.Results.{if_ok}
 use Rattle.turn_client_proto_core.specs.Numbering.{drawn}
 use Rattle.turn_client_proto_core.proofs.protocol.Protocol.draw_number.Goals as goal
 
 pub returns-clause-number : goal.returns-clause-number
 returns-clause-number c =
-    still_first c.args.self.now c.drawn-drawn.new.rng c.drawn-drawn.result (drawn c.args.self.now.rng) c.first_free.result c.drawn-drawn.ensures.number c.first_free.ensures
+    if_ok c.first_free.result (λ number is. still_first c.args.self.now c.drawn-drawn.new.rng c.drawn-drawn.result (drawn c.args.self.now.rng) number c.drawn-drawn.ensures.number is) c.first_free.ensures

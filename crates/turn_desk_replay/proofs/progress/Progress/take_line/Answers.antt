@@ -19,8 +19,8 @@ returns-in-Ok-tell-clause-done c =
     let spelled = subst (λ (line : Line). IsLine c.args.self.now.named.items c.args.line.now line) c.in-Ok-Event.field-0-is read in
     Answered c.in-Ok-Event.event spelled c.in-Ok-tell.ensures.ok
 
-pub returns-clause-bad : goal.returns-clause-bad
-returns-clause-bad c = λ e.
+pub returns-in-Err-clause-bad : goal.returns-in-Err-clause-bad
+returns-in-Err-clause-bad c = λ e.
     let bad : c.in-Err.error ≡ error.Bad = cc in
     unspelled _ c.args.line.now (sym c.is_skipped.ensures ∙ c.if-is_skipped.false) (λ line spelled.
     c.in-Err.ensures.bad (ap Err bad) line

@@ -1,8 +1,0 @@
-use Rattle.std.proofs.Common.{sym, ◌∙◌}
-use Rattle.turn_client_proto_allocation.specs.Refreshing.{refreshing, wants_refresh}
-use Rattle.turn_client_proto_allocation.proofs.Changes.{changed_at, on_ok}
-use Rattle.turn_client_proto_allocation.proofs.listed.refresh_first.Goals as goal
-
-pub returns-clause-ok : goal.returns-clause-ok
-returns-clause-ok c =
-    on_ok c.await_at.result (changed_at (wants_refresh c.args.now) (refreshing c.args.refresh.now) c.args.allocations.now c.await_at.new.allocations c.in-Some.place (sym c.place_wanting.ensures ∙ c.in-Some.is)) c.await_at.ensures.ok

@@ -1,0 +1,8 @@
+-- What a call answers.
+use Rattle.std.proofs.Common.{Result, Ok, Err}
+use Rattle.std.specs.Prelude.{IfOk}
+
+-- what follows from an answer
+pub if_ok : {R E : Type 0} {P Q : R → Type 0} (r : Result R E) → ((x : R) → P x → Q x) → IfOk r P → IfOk r Q
+if_ok (Ok x) f h = f x h
+if_ok (Err e) f h = tt

@@ -1,0 +1,236 @@
+//! Permissions that a client is asked for, and the responses to its requests for them (RFC 8656,
+//! section 10).
+
+ghost use Rattle.std.specs.Prelude.{◌≡◌, ◌<◌, ℕ, ◌∷◌, [], List, IfOk, IfSome, OnErr, OnOk, false, length, slice_get, slice_set};
+ghost use Rattle.stun_proto.specs.Handling.{is_awaited};
+ghost use Rattle.stun_types.specs.Grammar.{number_at};
+ghost use Rattle.turn_client_proto_permission.specs.Asking.{all_asked_again, all_renewed_again, asking, peer_asked, peer_renewed};
+ghost use Rattle.turn_client_proto_request.specs.ToldRequests.{IsLawfulRequest};
+ghost use Rattle.turn_client_proto_request.specs.declared.request.TurnRequest.TheVariants.{CreatePermission};
+ghost use Rattle.turn_client_proto_core.specs.Asking.{asked};
+ghost use Rattle.turn_client_proto_core.specs.Ending.{IsUnderWay};
+ghost use Rattle.turn_client_proto_core.specs.Numbering.{IsNextNumber, after_number};
+ghost use Rattle.turn_client_proto_core.specs.Permitting.{IsAskingAgain, IsGrantedFor, IsPermissionAnswered, IsPermissionResponded, IsPermittingAgain, IsRefusedFor, IsRenewingAgain, family_of_ip, permits_again};
+ghost use Rattle.turn_client_proto_core.specs.Responding.{is_tired};
+
+use crate::protocol::Protocol;
+use std::net::IpAddr;
+use stun_proto::Instant;
+use stun_types::message::{Message, MessageClass, TransactionId};
+use stun_types::{AddressFamily, NoMemory, TransportType};
+use turn_client_proto_allocation::permission::PendingPermission;
+use turn_client_proto_api::error::CreatePermissionError;
+use turn_client_proto_api::event::TurnEvent;
+use turn_client_proto_permission::{asking, granted, one};
+use turn_client_proto_request::laws::requests_are_lawful;
+use turn_client_proto_request::request::TurnRequest;
+
+/// The family of an address.
+fn family_of_ip(ip: &IpAddr) -> AddressFamily
+    ensures { result ≡ family_of_ip ip.now }
+{
+    match ip {
+        IpAddr::V4(_) => AddressFamily::IPV4,
+        IpAddr::V6(_) => AddressFamily::IPV6,
+    }
+}
+
+impl Protocol {
+    /// Asks for a permission for an address (RFC 8656, section 10.1), in the first allocation of a
+    /// transport whose address is of the same family. Refused with `NoAllocation` where there is none,
+    /// or its time is over: then it is marked as expired; with `AlreadyExists` where a permission for
+    /// the address stands there, or was asked for; and with `NoAllocation` where the client has ended.
+    /// Where memory is refused, `NoMemory`, and nothing changes but the words that were drawn.
+    pub fn create_permission(
+        &mut self,
+        transport: TransportType,
+        ip: IpAddr,
+        now: Instant,
+    ) -> Result<(), CreatePermissionError>
+        ensures { IsPermissionAnswered self.old transport ip now result self.new }
+    {
+        let family = family_of_ip(&ip);
+        let Some(place) = asking::place_of(self.allocations.as_slice(), transport, family) else {
+            return Err(CreatePermissionError::NoAllocation);
+        };
+        let allocation = &self.allocations.as_slice()[place];
+        if one::is_past(allocation, now) {
+            asking::mark_at(&mut self.allocations, place);
+            return Err(CreatePermissionError::NoAllocation);
+        }
+        if one::knows(allocation, ip) {
+            return Err(CreatePermissionError::AlreadyExists);
+        }
+        if !self.is_authenticated() {
+            return Err(CreatePermissionError::NoAllocation);
+        }
+        match self.ask_permission(place, ip, now) {
+            Ok(()) => Ok(()),
+            Err(NoMemory) => Err(CreatePermissionError::NoMemory),
+        }
+    }
+
+    /// Asks for a permission for an address in the allocation at a place. Where memory is refused,
+    /// nothing changes but the words that were drawn.
+    fn ask_permission(&mut self, place: usize, ip: IpAddr, now: Instant) -> Result<(), NoMemory>
+        requires { place < length self.old.allocations }
+        ensures ok { OnOk result ((number : ℕ) × IsNextNumber self.old number
+            × IsLawfulRequest (CreatePermission ip)
+            × IfSome (slice_get self.old.allocations place) (λ a. self.new
+            ≡ record (asked (after_number self.old) (CreatePermission ip) number now) {
+              allocations = slice_set self.old.allocations place
+                  (asking (record { ip = ip; numbers = number ∷ [] }) a);
+            })) }
+        ensures err { OnErr result (self.new ≡ after_number self.old) }
+    {
+        let number = self.draw_number()?;
+        self.ask_by(place, ip, number, now)
+    }
+
+    /// The same, by a request of this number. Where memory is refused, nothing changes.
+    #[tactic(auto, unfolding(crate::specs::Asking::asked))]
+    fn ask_by(
+        &mut self,
+        place: usize,
+        ip: IpAddr,
+        number: TransactionId,
+        now: Instant,
+    ) -> Result<(), NoMemory>
+        requires { place < length self.old.allocations }
+        ensures lawful { IsLawfulRequest (CreatePermission ip) }
+        ensures ok { OnOk result (IfSome (slice_get self.old.allocations place) (λ a. self.new
+            ≡ record (asked self.old (CreatePermission ip) number now) {
+              allocations = slice_set self.old.allocations place
+                  (asking (record { ip = ip; numbers = number ∷ [] }) a);
+            })) }
+        ensures err { OnErr result (self.new ≡ self.old) }
+    {
+        let request = TurnRequest::CreatePermission(ip);
+        requests_are_lawful(&request);
+        let pending = PendingPermission::new(self.alloc, ip, number)?;
+        asking::ask_at(&mut self.allocations, place, pending)?;
+        match self.ask(number, request, now) {
+            Ok(()) => Ok(()),
+            Err(e) => {
+                asking::forget_at(&mut self.allocations, place);
+                Err(e)
+            }
+        }
+    }
+
+    /// A challenge came to a request that asks for a permission, or was to renew one.
+    #[tactic(auto, using(turn_client_proto_allocation::proofs::Prefixes::front_kept, turn_client_proto_allocation::proofs::Prefixes::whole_kept), unfolding(crate::specs::Permitting::permits_again, crate::specs::Asking::asked))]
+    pub(crate) fn permit_again(
+        &mut self,
+        message: &Message<'_>,
+        now: Instant,
+    ) -> Result<bool, NoMemory>
+        requires { is_tired self.old ≡ false }
+        ensures ok { IfOk result (λ handled. IsAskingAgain
+            (peer_asked (number_at message.now) self.old.allocations) self.old message.now now
+            handled self.new) }
+        ensures err { OnErr result (IsUnderWay self.old self.new) }
+    {
+        let old = message.transaction_id();
+        let Some((_, ip)) = asking::peer_asked(self.allocations.as_slice(), old) else {
+            return self.renew_again(message, now);
+        };
+        let number = self.ask_for(ip, now)?;
+        asking::ask_again(self.allocations.as_mut_slice(), old, number)?;
+        self.count_challenge(message)?;
+        Ok(true)
+    }
+
+    /// A challenge came to a request that was to renew a permission.
+    #[tactic(auto, using(turn_client_proto_allocation::proofs::Prefixes::front_kept, turn_client_proto_allocation::proofs::Prefixes::whole_kept), unfolding(crate::specs::Permitting::permits_again, crate::specs::Asking::asked))]
+    fn renew_again(&mut self, message: &Message<'_>, now: Instant) -> Result<bool, NoMemory>
+        requires { is_tired self.old ≡ false }
+        ensures ok { IfOk result (λ handled. IsRenewingAgain
+            (peer_renewed (number_at message.now) self.old.allocations) self.old message.now now
+            handled self.new) }
+        ensures err { OnErr result (IsUnderWay self.old self.new) }
+    {
+        let old = message.transaction_id();
+        let Some((_, ip)) = asking::peer_renewed(self.allocations.as_slice(), old) else {
+            return Ok(false);
+        };
+        let number = self.ask_for(ip, now)?;
+        asking::renew_again(self.allocations.as_mut_slice(), old, number)?;
+        self.count_challenge(message)?;
+        Ok(true)
+    }
+
+    /// Makes a CREATE_PERMISSION for an address, of the next number.
+    #[tactic(auto, using(turn_client_proto_allocation::proofs::Prefixes::front_kept, turn_client_proto_allocation::proofs::Prefixes::whole_kept), unfolding(crate::specs::Asking::asked))]
+    fn ask_for(&mut self, ip: IpAddr, now: Instant) -> Result<TransactionId, NoMemory>
+        ensures ok { IfOk result (λ number. IsNextNumber self.old number
+            × IsLawfulRequest (CreatePermission ip)
+            × (self.new ≡ asked (after_number self.old) (CreatePermission ip) number now)) }
+        ensures err { OnErr result (IsUnderWay self.old self.new) }
+    {
+        let number = self.draw_number()?;
+        let request = TurnRequest::CreatePermission(ip);
+        requests_are_lawful(&request);
+        self.ask(number, request, now)?;
+        Ok(number)
+    }
+
+    /// The response to a CREATE_PERMISSION was accepted.
+    pub(crate) fn take_permission(
+        &mut self,
+        message: &Message<'_>,
+        now: Instant,
+    ) -> Result<bool, NoMemory>
+        ensures ok { IfOk result (λ handled.
+            IsPermissionResponded self.old message.now now handled self.new) }
+        ensures err { OnErr result (IsUnderWay self.old self.new) }
+    {
+        let number = message.transaction_id();
+        match message.class() {
+            MessageClass::Error => self.refuse_permission(number),
+            MessageClass::Success | MessageClass::Request | MessageClass::Indication => {
+                self.grant_permission(number, now)
+            }
+        }
+    }
+
+    /// The request of this number was granted: the permission that it asks for stands, and that is
+    /// told; or those that it was to renew stand on.
+    #[tactic(auto, using(turn_client_proto_allocation::proofs::Prefixes::front_kept, turn_client_proto_allocation::proofs::Prefixes::whole_kept), unfolding(crate::specs::Permitting::granted, crate::specs::Permitting::renews))]
+    fn grant_permission(&mut self, number: TransactionId, now: Instant) -> Result<bool, NoMemory>
+        ensures ok { IfOk result (λ handled. IsGrantedFor
+            (peer_asked number self.old.allocations) self.old number now handled self.new) }
+        ensures err { OnErr result (IsUnderWay self.old self.new) }
+    {
+        if let Some((transport, ip)) = asking::peer_asked(self.allocations.as_slice(), number) {
+            self.events
+                .push_back(TurnEvent::PermissionCreated(transport, ip))?;
+            granted::permit(self.alloc, self.allocations.as_mut_slice(), number, now)?;
+            return Ok(true);
+        }
+        if asking::peer_renewed(self.allocations.as_slice(), number).is_none() {
+            return Ok(false);
+        }
+        granted::renew(self.allocations.as_mut_slice(), number, now);
+        Ok(true)
+    }
+
+    /// The request of this number was refused: the permissions that it asked for, or was to renew, go,
+    /// and the first of them is told.
+    #[tactic(auto, using(turn_client_proto_allocation::proofs::Prefixes::front_kept, turn_client_proto_allocation::proofs::Prefixes::whole_kept), unfolding(crate::specs::Permitting::refused))]
+    fn refuse_permission(&mut self, number: TransactionId) -> Result<bool, NoMemory>
+        ensures ok { IfOk result (λ handled. IsRefusedFor
+            (peer_asked number self.old.allocations) self.old number handled self.new) }
+        ensures err { OnErr result (IsUnderWay self.old self.new) }
+    {
+        let asked = asking::peer_asked(self.allocations.as_slice(), number);
+        let renewed = asking::peer_renewed(self.allocations.as_slice(), number);
+        let Some((transport, ip)) = asked.or(renewed) else {
+            return Ok(false);
+        };
+        self.events
+            .push_back(TurnEvent::PermissionCreateFailed(transport, ip))?;
+        granted::turn_down(self.allocations.as_mut_slice(), number);
+        Ok(true)
+    }
+}

@@ -1,0 +1,6 @@
+pub mod Asking
+pub mod Granted
+pub mod Same
+pub mod Shown
+pub mod Telling
+pub mod Wanting

@@ -1,0 +1,65 @@
+//! What the response to a CREATE_PERMISSION makes of permissions (RFC 8656, section 10.3).
+
+ghost use Rattle.std.specs.Prelude.{◌≡◌, ◌<◌, OnOk, OnErr, IfSome, length, map, slice_get, slice_set};
+ghost use Rattle.turn_client_proto_permission.specs.Granted.{all_permitted, permitted, renewed, turned_down};
+
+use crate::asking::place_asked;
+use crate::one;
+use std::alloc::Global;
+use stun_proto::Instant;
+use stun_types::NoMemory;
+use stun_types::message::TransactionId;
+use turn_client_proto_allocation::allocation::Allocation;
+
+/// In the allocation at a place, the request of this number was granted. Where memory is refused,
+/// nothing changes.
+fn permit_at(
+    alloc: Global,
+    allocations: &mut [Allocation],
+    place: usize,
+    number: TransactionId,
+    now: Instant,
+) -> Result<(), NoMemory>
+    requires { place < length allocations.old }
+    ensures ok { OnOk result (IfSome (slice_get allocations.old place)
+        (λ a. allocations.new ≡ slice_set allocations.old place (permitted number now a))) }
+    ensures err { OnErr result (allocations.new ≡ allocations.old) }
+{
+    one::permit(alloc, &mut allocations[place], number, now)
+}
+
+/// The request of this number was granted: the first permission that it asks for stands from now on.
+/// Where memory is refused, nothing changes.
+#[tactic(auto, using(turn_client_proto_allocation::proofs::Changes::change_first_at, turn_client_proto_allocation::proofs::Changes::change_first_none))]
+pub fn permit(
+    alloc: Global,
+    allocations: &mut [Allocation],
+    number: TransactionId,
+    now: Instant,
+) -> Result<(), NoMemory>
+    ensures ok { OnOk result (allocations.new ≡ all_permitted number now allocations.old) }
+    ensures err { OnErr result (allocations.new ≡ allocations.old) }
+{
+    let Some(place) = place_asked(allocations, number) else {
+        return Ok(());
+    };
+    permit_at(alloc, allocations, place, number, now)
+}
+
+/// The request of this number was granted: the permissions that it was to renew stand on.
+pub fn renew(allocations: &mut [Allocation], number: TransactionId, now: Instant)
+    ensures { allocations.new ≡ map (renewed number now) allocations.old }
+{
+    for allocation in allocations.iter_mut() {
+        one::renew(allocation, number, now);
+    }
+}
+
+/// The request of this number was refused: the permissions that it asked for, or was to renew, go.
+pub fn turn_down(allocations: &mut [Allocation], number: TransactionId)
+    ensures { allocations.new ≡ map (turned_down number) allocations.old }
+{
+    for allocation in allocations.iter_mut() {
+        one::turn_down(allocation, number);
+    }
+}

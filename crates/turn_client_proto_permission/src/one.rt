@@ -1,0 +1,229 @@
+//! The permissions of one allocation.
+
+ghost use Rattle.std.specs.Prelude.{◌≡◌, OnOk, OnErr, find};
+ghost use Rattle.std.specs.Option.{option_map};
+ghost use Rattle.turn_client_proto_allocation.specs.Permissions.{wants_renewal};
+ghost use Rattle.turn_client_proto_allocation.specs.declared.allocation.Allocation.{Allocation as Kept};
+ghost use Rattle.turn_client_proto_allocation.specs.declared.permission.PendingPermission.{PendingPermission as Pending};
+ghost use Rattle.turn_client_proto_allocation.specs.declared.permission.Permission.{Permission as Standing};
+ghost use Rattle.turn_client_proto_allocation.specs.Refreshing.{wants_refresh};
+ghost use Rattle.turn_client_proto_permission.specs.Asking.{address_asked, address_renewed, asking, asks_for, at_transport, has_asked, has_renewed, is_of, is_past, knows, permits, permits_over};
+ghost use Rattle.turn_client_proto_permission.specs.Granted.{granted_for, permission_end, permitted, renewed, turned_down};
+ghost use Rattle.turn_client_proto_permission.specs.Telling.{polled};
+ghost use Rattle.turn_client_proto_permission.specs.Wanting.{renewal_wanted, stands, want, wants};
+
+use crate::wanting::Want;
+use std::alloc::Global;
+use std::net::IpAddr;
+use std::time::Duration;
+use stun_proto::Instant;
+use stun_types::message::TransactionId;
+use stun_types::{AddressFamily, ListOf, NoMemory, TransportType};
+use turn_client_proto_allocation::allocation::Allocation;
+use turn_client_proto_allocation::permission::Permission;
+
+/// A permission stands so long, in seconds, unless it is renewed (RFC 8656, section 9).
+const PERMISSION_LIFETIME: u64 = 300;
+
+/// The end of a permission that is granted at a moment.
+pub(crate) fn permission_end(now: Instant) -> Instant
+    ensures { result ≡ permission_end now }
+{
+    now.saturating_add(Duration::from_secs(PERMISSION_LIFETIME))
+}
+
+/// Whether an allocation is of this transport, and its address of this family.
+pub(crate) fn is_of(a: &Allocation, transport: TransportType, family: AddressFamily) -> bool
+    ensures { result ≡ is_of transport family a.now }
+{
+    a.transport == transport && AddressFamily::from(&a.address) == family
+}
+
+/// Whether the time of an allocation is over.
+pub fn is_past(a: &Allocation, now: Instant) -> bool
+    ensures { result ≡ is_past now a.now }
+{
+    a.expiry <= now
+}
+
+/// Whether a permission for an address stands.
+pub fn permits(a: &Allocation, ip: IpAddr) -> bool
+    ensures { result ≡ permits ip a.now }
+{
+    a.permissions.as_slice().iter().any(|p| p.ip == ip)
+}
+
+/// Whether a permission for an address was asked for.
+fn asks_for(a: &Allocation, ip: IpAddr) -> bool
+    ensures { result ≡ asks_for ip a.now }
+{
+    a.pending_permissions.as_slice().iter().any(|p| p.ip == ip)
+}
+
+/// Whether a permission for an address stands, or was asked for.
+pub fn knows(a: &Allocation, ip: IpAddr) -> bool
+    ensures { result ≡ knows ip a.now }
+{
+    permits(a, ip) || asks_for(a, ip)
+}
+
+/// Whether a permission for an address stands, where the allocation is of a transport, and is not marked
+/// as expired.
+pub(crate) fn permits_over(a: &Allocation, transport: TransportType, ip: IpAddr) -> bool
+    ensures { result ≡ permits_over transport ip a.now }
+{
+    !a.is_expired && a.transport == transport && permits(a, ip)
+}
+
+/// Whether the request of this number asks for a permission.
+pub(crate) fn has_asked(a: &Allocation, number: TransactionId) -> bool
+    ensures { result ≡ has_asked number a.now }
+{
+    a.pending_permissions
+        .as_slice()
+        .iter()
+        .any(|p| p.is_asked_by(number))
+}
+
+/// Whether the request of this number is to renew a permission.
+pub(crate) fn has_renewed(a: &Allocation, number: TransactionId) -> bool
+    ensures { result ≡ has_renewed number a.now }
+{
+    a.permissions
+        .as_slice()
+        .iter()
+        .any(|p| p.is_renewed_by(number))
+}
+
+/// The address for which the request of this number asks.
+pub(crate) fn address_asked(a: &Allocation, number: TransactionId) -> Option<IpAddr>
+    ensures { result ≡ address_asked number a.now }
+{
+    let pending = a.pending_permissions.as_slice();
+    let found = pending.iter().find(|p| p.is_asked_by(number))?;
+    Some(found.ip)
+}
+
+/// The address whose permission the request of this number is to renew.
+pub(crate) fn address_renewed(a: &Allocation, number: TransactionId) -> Option<IpAddr>
+    ensures { result ≡ address_renewed number a.now }
+{
+    let permissions = a.permissions.as_slice();
+    let found = permissions.iter().find(|p| p.is_renewed_by(number))?;
+    Some(found.ip)
+}
+
+/// The transport and the address for which the request of this number asks.
+pub(crate) fn peer_asked(a: &Allocation, number: TransactionId) -> Option<(TransportType, IpAddr)>
+    ensures { result ≡ at_transport a.now (address_asked number a.now) }
+{
+    let ip = address_asked(a, number)?;
+    Some((a.transport, ip))
+}
+
+/// The transport and the address whose permission the request of this number is to renew.
+pub(crate) fn peer_renewed(a: &Allocation, number: TransactionId) -> Option<(TransportType, IpAddr)>
+    ensures { result ≡ at_transport a.now (address_renewed number a.now) }
+{
+    let ip = address_renewed(a, number)?;
+    Some((a.transport, ip))
+}
+
+/// The permission that was asked for last is forgotten.
+pub(crate) fn forget(a: &mut Allocation)
+    ensures { (before : Kept) (pending : Pending) → a.old ≡ asking pending before
+        → a.new ≡ before }
+{
+    a.pending_permissions.forget_last();
+}
+
+/// The request of this number was granted: the permission that it asks for stands. Where memory is
+/// refused, nothing changes.
+#[tactic(auto, unfolding(crate::specs::Granted::permitted))]
+pub(crate) fn permit(
+    alloc: Global,
+    a: &mut Allocation,
+    number: TransactionId,
+    now: Instant,
+) -> Result<(), NoMemory>
+    ensures ok { OnOk result (a.new ≡ permitted number now a.old) }
+    ensures err { OnErr result (a.new ≡ a.old) }
+{
+    let Some(ip) = address_asked(a, number) else {
+        return Ok(());
+    };
+    let permission = Permission {
+        ip,
+        expiry: permission_end(now),
+        renewals: ListOf::new(alloc),
+    };
+    a.permissions.push(permission)?;
+    a.pending_permissions.forget(number);
+    Ok(())
+}
+
+/// The request of this number was granted: the permissions that it was to renew stand on.
+#[tactic(auto, unfolding(crate::specs::Granted::renewed))]
+pub(crate) fn renew(a: &mut Allocation, number: TransactionId, now: Instant)
+    ensures { a.new ≡ renewed number now a.old }
+{
+    a.permissions.renew(number, permission_end(now));
+}
+
+/// The request of this number was refused: the permissions that it asked for, or was to renew, go.
+#[tactic(auto, unfolding(crate::specs::Granted::turned_down))]
+pub(crate) fn turn_down(a: &mut Allocation, number: TransactionId)
+    ensures { a.new ≡ turned_down number a.old }
+{
+    a.permissions.refuse(number);
+    a.pending_permissions.forget(number);
+}
+
+/// Time has come to a moment, and the transaction of this number has ended.
+#[tactic(auto, unfolding(crate::specs::Telling::polled))]
+pub(crate) fn poll(a: &mut Allocation, ended: &Option<TransactionId>, now: Instant)
+    ensures { a.new ≡ polled ended.now now a.old }
+{
+    a.permissions.poll(ended, now);
+    a.pending_permissions.poll(ended);
+}
+
+/// The address of the first permission that is to be renewed at a moment.
+fn first_renewal(permissions: &[Permission], now: Instant) -> Option<IpAddr>
+    ensures { result ≡ option_map (λ (p : Standing). p.ip)
+        (find (wants_renewal now) permissions.now) }
+{
+    let found = permissions.iter().find(|p| p.wants_renewal(now))?;
+    Some(found.ip)
+}
+
+/// The address of the first permission that is to be renewed at a moment, where the allocation stands.
+#[tactic(auto, unfolding(crate::specs::Wanting::renewal_wanted))]
+fn renewal_wanted(a: &Allocation, now: Instant) -> Option<IpAddr>
+    ensures { result ≡ renewal_wanted now a.now }
+{
+    if !a.is_expired && now <= a.expiry {
+        first_renewal(a.permissions.as_slice(), now)
+    } else {
+        None
+    }
+}
+
+/// What is to be sent for an allocation at a moment.
+#[tactic(auto, unfolding(crate::specs::Wanting::want))]
+pub(crate) fn want(a: &Allocation, now: Instant) -> Option<Want>
+    ensures { result ≡ want now a.now }
+{
+    if a.wants_refresh(now) {
+        return Some(Want::Refresh);
+    }
+    let ip = renewal_wanted(a, now)?;
+    Some(Want::Permission(ip))
+}
+
+/// Whether something is to be sent for an allocation at a moment.
+pub(crate) fn wants(a: &Allocation, now: Instant) -> bool
+    ensures { result ≡ wants now a.now }
+{
+    want(a, now).is_some()
+}

@@ -1,0 +1,138 @@
+//! What becomes of permissions as time goes on (RFC 8656, section 9), and what is told of it.
+
+ghost use Rattle.std.specs.Prelude.{◌≡◌, ◌++◌, OnOk, OnErr, length, map, take};
+ghost use Rattle.stun_proto.specs.Least.{IsLeastOf};
+ghost use Rattle.turn_client_proto_api.specs.declared.event.TurnEvent.TheVariants.{PermissionCreateFailed};
+ghost use Rattle.turn_client_proto_permission.specs.Telling.{addresses_lapsed, addresses_over, all_failures, all_nexts, earlier_of, failures, polled};
+
+use crate::one;
+use stun_proto::Instant;
+use stun_types::message::TransactionId;
+use stun_types::{NoMemory, TransportType};
+use turn_client_proto_allocation::allocation::Allocation;
+use turn_client_proto_allocation::permission::{PendingPermission, Permission};
+use turn_client_proto_api::event::TurnEvent;
+use turn_client_proto_queue::queue::QueueOf;
+
+/// Tells the permissions whose request ended without a response. Where memory is refused, `NoMemory`,
+/// and the events that were there still come first.
+#[tactic(auto, using(turn_client_proto_allocation::proofs::Prefixes::front_kept, turn_client_proto_allocation::proofs::Prefixes::whole_kept))]
+fn tell_over(
+    events: &mut QueueOf<TurnEvent>,
+    transport: TransportType,
+    pending: &[PendingPermission],
+    ended: &Option<TransactionId>,
+) -> Result<(), NoMemory>
+    ensures ok { OnOk result (events.new ≡ events.old
+        ++ map (PermissionCreateFailed transport) (addresses_over ended.now pending.now)) }
+    ensures err { OnErr result (take (length events.old) events.new ≡ events.old) }
+{
+    for permission in pending {
+        if permission.is_over(ended) {
+            events.push_back(TurnEvent::PermissionCreateFailed(transport, permission.ip))?;
+        }
+    }
+    Ok(())
+}
+
+/// Tells the permissions that have lapsed. Where memory is refused, `NoMemory`, and the events that were
+/// there still come first.
+#[tactic(auto, using(turn_client_proto_allocation::proofs::Prefixes::front_kept, turn_client_proto_allocation::proofs::Prefixes::whole_kept))]
+fn tell_lapsed(
+    events: &mut QueueOf<TurnEvent>,
+    transport: TransportType,
+    permissions: &[Permission],
+    now: Instant,
+) -> Result<(), NoMemory>
+    ensures ok { OnOk result (events.new ≡ events.old
+        ++ map (PermissionCreateFailed transport) (addresses_lapsed now permissions.now)) }
+    ensures err { OnErr result (take (length events.old) events.new ≡ events.old) }
+{
+    for permission in permissions {
+        if permission.has_lapsed(now) {
+            events.push_back(TurnEvent::PermissionCreateFailed(transport, permission.ip))?;
+        }
+    }
+    Ok(())
+}
+
+/// Tells the permissions of an allocation that go. Where memory is refused, `NoMemory`, and the events
+/// that were there still come first.
+#[tactic(auto, using(turn_client_proto_allocation::proofs::Prefixes::front_kept, turn_client_proto_allocation::proofs::Prefixes::whole_kept), unfolding(crate::specs::Telling::failures))]
+fn tell_of(
+    events: &mut QueueOf<TurnEvent>,
+    a: &Allocation,
+    ended: &Option<TransactionId>,
+    now: Instant,
+) -> Result<(), NoMemory>
+    ensures ok { OnOk result (events.new ≡ events.old ++ failures ended.now now a.now) }
+    ensures err { OnErr result (take (length events.old) events.new ≡ events.old) }
+{
+    tell_over(events, a.transport, a.pending_permissions.as_slice(), ended)?;
+    tell_lapsed(events, a.transport, a.permissions.as_slice(), now)
+}
+
+/// Tells the permissions that go, of each allocation: those whose request ended without a response, and
+/// then those that have lapsed. Where memory is refused, `NoMemory`, and the events that were there
+/// still come first.
+#[tactic(auto, using(turn_client_proto_allocation::proofs::Prefixes::front_kept, turn_client_proto_allocation::proofs::Prefixes::whole_kept, crate::proofs::Fronts::front_of))]
+pub fn tell_failures(
+    events: &mut QueueOf<TurnEvent>,
+    allocations: &[Allocation],
+    ended: &Option<TransactionId>,
+    now: Instant,
+) -> Result<(), NoMemory>
+    ensures ok { OnOk result (events.new
+        ≡ events.old ++ all_failures ended.now now allocations.now) }
+    ensures err { OnErr result (take (length events.old) events.new ≡ events.old) }
+{
+    for allocation in allocations {
+        tell_of(events, allocation, ended, now)?;
+    }
+    Ok(())
+}
+
+/// Time has come to a moment, and the transaction of this number has ended: permissions that have lapsed
+/// go, and so do those whose request has ended; those that it was to renew may be renewed again.
+pub fn poll(allocations: &mut [Allocation], ended: &Option<TransactionId>, now: Instant)
+    ensures { allocations.new ≡ map (polled ended.now now) allocations.old }
+{
+    for allocation in allocations.iter_mut() {
+        one::poll(allocation, ended, now);
+    }
+}
+
+/// The earliest of a wait and of the moments at which a permission has something to do.
+fn earliest_of(
+    permissions: &[Permission],
+    ended: &Option<TransactionId>,
+    ready: Instant,
+    now: Instant,
+    wait: Instant,
+) -> Instant
+    ensures { result ≡ earlier_of ended.now ready now wait permissions.now }
+{
+    let mut next = wait;
+    for permission in permissions {
+        next = next.min(permission.next(ended, ready, now));
+    }
+    next
+}
+
+/// The earliest of a wait and of the moments at which a permission of one of the allocations has
+/// something to do.
+pub fn earliest(
+    allocations: &[Allocation],
+    ended: &Option<TransactionId>,
+    ready: Instant,
+    now: Instant,
+    wait: Instant,
+) -> Instant
+    ensures { IsLeastOf wait (all_nexts ended.now ready now allocations.now) result }
+{
+    let mut next = wait;
+    for allocation in allocations {
+        next = earliest_of(allocation.permissions.as_slice(), ended, ready, now, next);
+    }
+    next
+}

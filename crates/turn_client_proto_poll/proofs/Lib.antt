@@ -1,0 +1,6 @@
+pub mod Draws
+pub mod Polls
+pub mod Prefixes
+pub mod Quiet
+-- What stands above this crate has these through it.
+pub use Rattle.turn_client_proto_core.proofs.Request

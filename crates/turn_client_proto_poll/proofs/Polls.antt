@@ -1,0 +1,37 @@
+-- What a poll answers.
+use Rattle.std.proofs.Common.{◌≡◌, ◌≢◌, ℕ, ◌≤◌, List, [], ◌∷◌, length, Option, refl, subst, arith}
+use Rattle.stun_proto.specs.AgentPolls.{StunAgentPollRet}
+use Rattle.stun_proto.specs.State as agents
+use Rattle.turn_client_proto_core.specs.Api.declared.answer.TurnPollRet.{TurnPollRet}
+use Rattle.turn_client_proto_core.specs.Api.declared.answer.TurnPollRet.TheVariants as answer
+use Rattle.turn_client_proto_core.specs.Api.declared.event.TurnEvent.{TurnEvent}
+use Rattle.turn_client_proto_poll.specs.Polling.{IsPolled, IsPolledBy, IsPolledIn, IsTicked, ended_of, longest_pause, wait_of, wait_to_send}
+use Rattle.stun_proto.specs.Moments.{moment_after}
+use Rattle.turn_client_proto_core.specs.declared.protocol.Protocol.{Protocol}
+
+-- an answer that isn't want of memory
+pub named : (old : Protocol) (now : ℕ) (ret : TurnPollRet) (new : Protocol) → ret ≢ answer.NoMemory → IsPolledBy old.events old now ret new → IsPolled old now ret new
+named old now (answer.WaitUntil moment) new other is = is
+named old now (answer.AllocateTcpSocket id socket peer) new other is = is
+named old now (answer.TcpClose here there) new other is = is
+named old now answer.Closed new other is = is
+named old now answer.NoMemory new other is = absurd (other refl)
+
+-- no event waits
+pub no_events : (events : List TurnEvent) (count : ℕ) (old : Protocol) (now : ℕ) (ret : TurnPollRet) (new : Protocol) → count ≡ length events → count ≤ 0 → IsTicked old now ret new → IsPolledBy events old now ret new
+no_events [] count old now ret new is none ticked = ticked
+no_events (e ∷ events) count old now ret new is none ticked = absurd (omega (arith, is, none))
+
+pub ticked_by : (old : Protocol) (now : ℕ) (ticked : StunAgentPollRet) (agent : agents.Agent) (over : Option ℕ) (wait : ℕ) (ret : TurnPollRet) (new : Protocol)
+    → agents.IsPolled old.agent now ticked agent
+    → over ≡ ended_of ticked
+    → wait ≡ wait_of (wait_to_send old.last_send old.queue now (moment_after now longest_pause)) ticked
+    → IsPolledIn old.phase over wait (record old { agent = agent }) now ret new → IsTicked old now ret new
+ticked_by old now ticked agent over wait ret new polled over_is wait_is is =
+    let by_over = subst (λ (o : Option ℕ). IsPolledIn old.phase o wait (record old { agent = agent }) now ret new) over_is is in
+    record {
+      ticked = ticked;
+      agent = agent;
+      is_ticked = polled;
+      outcome = subst (λ (w : ℕ). IsPolledIn old.phase (ended_of ticked) w (record old { agent = agent }) now ret new) wait_is by_over;
+    }

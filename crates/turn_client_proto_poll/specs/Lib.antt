@@ -1,0 +1,9 @@
+pub mod Drawing
+pub mod Polling
+-- What stands above this crate has these through it.
+pub use Rattle.turn_client_proto_core.specs as Core
+pub use Rattle.turn_client_proto_core.specs.Allocation
+pub use Rattle.turn_client_proto_core.specs.Api
+pub use Rattle.turn_client_proto_core.specs.Permission
+pub use Rattle.turn_client_proto_core.specs.Request
+pub use Rattle.turn_client_proto_core.specs.Response

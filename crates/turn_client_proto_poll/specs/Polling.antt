@@ -1,0 +1,123 @@
+-- What a client does as time goes on (RFC 8489, section 6.2.1; RFC 8656, section 8).
+use Rattle.std.specs.Prelude.{◌≡◌, ℕ, min, max, Bool, false, List, [], ◌∷◌, ◌++◌, map, Option, Some, None}
+use Rattle.std.specs.Bool.{MatchBool}
+use Rattle.stun_proto.specs.AgentPolls.{StunAgentPollRet, TransactionTimedOut, TransactionCancelled, WaitUntil}
+use Rattle.stun_proto.specs.Least.{IsLeastOf}
+use Rattle.stun_proto.specs.Moments.{moment_after}
+use Rattle.stun_proto.specs.State as agents
+use Rattle.turn_client_proto_core.specs.Allocation.Awaited.{is_among}
+use Rattle.turn_client_proto_core.specs.Allocation.Polling.{kept, nexts, polled}
+use Rattle.turn_client_proto_core.specs.Allocation.declared.allocation.Allocation.{Allocation}
+use Rattle.turn_client_proto_core.specs.Api.declared.answer.TurnPollRet.{TurnPollRet}
+use Rattle.turn_client_proto_core.specs.Api.declared.answer.TurnPollRet.TheVariants as answer
+use Rattle.turn_client_proto_core.specs.Api.declared.event.TurnEvent.{TurnEvent}
+use Rattle.turn_client_proto_core.specs.Permission.Telling as permissions
+use Rattle.turn_client_proto_core.specs.Ending.{HasFailed, ended}
+use Rattle.turn_client_proto_core.specs.Waiting.{Queued}
+use Rattle.turn_client_proto_core.specs.declared.protocol.Phase.{Phase}
+use Rattle.turn_client_proto_core.specs.declared.protocol.Phase.TheVariants.{Initial, InitialSent, Authenticating, Authenticated, Ended}
+use Rattle.turn_client_proto_core.specs.declared.protocol.Protocol.{Protocol}
+
+-- messages are sent this far apart, in nanoseconds
+abbrev pub cadence : ℕ
+cadence = 50_000_000
+
+-- the longest that a client tells to wait, in nanoseconds
+abbrev pub longest_pause : ℕ
+longest_pause = 9_999_000_000_000
+
+-- ---- when a message may be sent
+
+-- the earliest moment, by the last message that was sent
+abbrev pub ready_after : Option ℕ → ℕ → ℕ
+ready_after None now = now
+ready_after (Some last) now = max (moment_after last cadence) now
+
+-- a wait that ends where the first message of a queue may be sent: now, where none was sent before
+abbrev pub wait_to_send : Option ℕ → List Queued → (now wait : ℕ) → ℕ
+wait_to_send last [] now wait = wait
+wait_to_send None (q ∷ rest) now wait = now
+wait_to_send (Some last) (q ∷ rest) now wait = min wait (moment_after last cadence)
+
+-- ---- the agent
+
+-- the number of the transaction that ended
+abbrev pub ended_of : StunAgentPollRet → Option ℕ
+ended_of (TransactionTimedOut number) = Some number
+ended_of (TransactionCancelled number) = Some number
+ended_of (WaitUntil moment) = None
+
+-- the earlier of a wait and of what the agent waits for
+abbrev pub wait_of : ℕ → StunAgentPollRet → ℕ
+wait_of wait (TransactionTimedOut number) = wait
+wait_of wait (TransactionCancelled number) = wait
+wait_of wait (WaitUntil moment) = min wait moment
+
+-- ---- the answer
+
+-- a client that waits for a moment; but where a transaction has ended, for none
+abbrev pub waits_until : Option ℕ → ℕ → ℕ → TurnPollRet
+waits_until None now wait = answer.WaitUntil wait
+waits_until (Some number) now wait = answer.WaitUntil now
+
+-- a client has this answer, and is this afterwards
+abbrev pub Answers : TurnPollRet → Protocol → TurnPollRet → Protocol → Type 0
+Answers wanted after answer new = (answer ≡ wanted) × (new ≡ after)
+
+-- an ALLOCATE that ended ends the client
+abbrev pub IsPolledSent : List ℕ → Option ℕ → ℕ → Protocol → ℕ → TurnPollRet → Protocol → Type 0
+IsPolledSent numbers over wait p now ret new = MatchBool (is_among over numbers)
+    (Answers answer.Closed (ended p) ret new)
+    (Answers (waits_until over now wait) p ret new)
+
+-- the answer of a client that has these allocations
+abbrev pub answer_of : List Allocation → Option ℕ → ℕ → ℕ → TurnPollRet
+answer_of [] over now wait = answer.Closed
+answer_of (a ∷ rest) over now wait = waits_until over now (max wait now)
+
+-- the allocations that are left
+abbrev pub left : Option ℕ → ℕ → Protocol → List Allocation
+left over now p = map (polled over) (kept over now p.allocations)
+
+-- a client with the allocations and the permissions that are left, after the permissions that are gone were told
+unfoldable pub after_time : Option ℕ → ℕ → Protocol → Protocol
+after_time over now p = record p {
+  allocations = map (permissions.polled over now) (left over now p);
+  events = p.events ++ permissions.all_failures over now (left over now p);
+}
+
+-- the earliest moment at which an allocation that is left, or the client, has something to do; and then that at which a
+-- permission has
+pub record IsPolledStanding (over : Option ℕ) (wait : ℕ) (p : Protocol) (now : ℕ) (ret : TurnPollRet) (new : Protocol) : Type 0 where
+  pub next : ℕ
+  pub least : IsLeastOf wait (nexts over (ready_after p.last_send now) now (kept over now p.allocations)) next
+  pub earliest : ℕ
+  pub least_of_permissions : IsLeastOf next (permissions.all_nexts over (ready_after p.last_send now) now (left over now p)) earliest
+  pub outcome : Answers (answer_of (left over now p) over now earliest) (after_time over now p) ret new
+
+-- by how far the client is
+abbrev pub IsPolledIn : Phase → Option ℕ → ℕ → Protocol → ℕ → TurnPollRet → Protocol → Type 0
+IsPolledIn Initial over wait p now ret new = Answers (answer.WaitUntil now) p ret new
+IsPolledIn (InitialSent numbers) over wait p now ret new = IsPolledSent numbers over wait p now ret new
+IsPolledIn (Authenticating numbers) over wait p now ret new = IsPolledSent numbers over wait p now ret new
+IsPolledIn Authenticated over wait p now ret new = IsPolledStanding over wait p now ret new
+IsPolledIn Ended over wait p now ret new = Answers answer.Closed p ret new
+
+-- a client where no event waits: its agent is polled first
+pub record IsTicked (old : Protocol) (now : ℕ) (ret : TurnPollRet) (new : Protocol) : Type 0 where
+  pub ticked : StunAgentPollRet
+  pub agent : agents.Agent
+  pub is_ticked : agents.IsPolled old.agent now ticked agent
+  pub outcome : IsPolledIn old.phase (ended_of ticked)
+      (wait_of (wait_to_send old.last_send old.queue now (moment_after now longest_pause)) ticked)
+      (record old { agent = agent }) now ret new
+
+-- the events come first
+abbrev pub IsPolledBy : List TurnEvent → Protocol → ℕ → TurnPollRet → Protocol → Type 0
+IsPolledBy [] old now ret new = IsTicked old now ret new
+IsPolledBy (e ∷ events) old now ret new = Answers (answer.WaitUntil now) old ret new
+
+-- a client was polled at a moment; where memory was refused, it has failed
+abbrev pub IsPolled : Protocol → ℕ → TurnPollRet → Protocol → Type 0
+IsPolled old now answer.NoMemory new = HasFailed old new
+IsPolled old now ret new = IsPolledBy old.events old now ret new

@@ -1,0 +1,249 @@
+//! What a client sends.
+
+ghost use Rattle.std.specs.Prelude.{◌≡◌, ℕ, IfOk, MatchOption, OnErr, OnOk, Some, None};
+ghost use Rattle.std.specs.Option.{option_map};
+ghost use Rattle.stun_proto.specs.Sending.{NoneDue};
+ghost use Rattle.turn_client_proto_core.specs.Permission.Wanting.{wanted};
+ghost use Rattle.turn_client_proto_core.specs.Request.Requests.{request_text};
+ghost use Rattle.turn_client_proto_poll.specs.Drawing.{IsBegun, IsDrawn, IsFirstSent, IsFreshSent, IsNextSent, IsRefreshSent, IsRenewalSent, IsRenewed, IsRepeated, after_sending, first_allocated, first_permitted, first_refreshed, is_resting, sent_at_once, sent_of};
+ghost use Rattle.turn_client_proto_core.specs.Ending.{HasFailed, IsUnderWay};
+ghost use Rattle.turn_client_proto_core.specs.Numbering.{IsNextNumber};
+
+use crate::polling::next_send;
+use std::net::{IpAddr, SocketAddr};
+use stun_proto::Instant;
+use stun_types::data::{Data, DataOwned};
+use stun_types::message::TransactionId;
+use stun_types::{ListOf, NoMemory, Transmit, TransportType};
+use turn_client_proto_core::allocation::refresh::PendingRefresh;
+use turn_client_proto_core::permission::wanting::{Want, refresh_first, renew_first, wanted};
+use turn_client_proto_core::protocol::{Phase, Protocol};
+use turn_client_proto_core::request::laws::requests_are_lawful;
+use turn_client_proto_core::request::request::{ALLOCATION_LIFETIME, TurnRequest};
+
+/// What is to be sent at a moment, where there is something. A request that is due again comes
+/// first; then, 50 ms after the last message at the earliest, what waits longest; then the first
+/// ALLOCATE, or what renews something whose time has come: a REFRESH for an allocation, or a
+/// CREATE_PERMISSION for a permission. Call it again until it answers `None`. Where memory is
+/// refused, `NoMemory`, and the client has failed.
+pub fn poll_transmit(
+    protocol: &mut Protocol,
+    now: Instant,
+) -> Result<Option<Transmit<Data<'static>>>, NoMemory>
+    ensures ok { IfOk result (λ answer.
+        IsDrawn protocol.old now (option_map sent_of answer) protocol.new) }
+    ensures err { OnErr result (HasFailed protocol.old protocol.new) }
+{
+    let events = protocol.events.len();
+    match draw(protocol, now) {
+        Ok(answer) => Ok(answer),
+        Err(e) => {
+            protocol.fail(events);
+            Err(e)
+        }
+    }
+}
+
+/// The same; but where memory is refused, the client is under way still.
+#[tactic(auto, using(crate::proofs::Prefixes::front_kept, crate::proofs::Prefixes::whole_kept))]
+fn draw(protocol: &mut Protocol, now: Instant) -> Result<Option<Transmit<Data<'static>>>, NoMemory>
+    ensures ok { IfOk result (λ answer.
+        IsDrawn protocol.old now (option_map sent_of answer) protocol.new) }
+    ensures err { OnErr result (IsUnderWay protocol.old protocol.new) }
+{
+    if let Some(again) = draw_again(protocol, now)? {
+        return Ok(Some(again));
+    }
+    if is_resting(protocol, now) {
+        return Ok(None);
+    }
+    draw_next(protocol, now)
+}
+
+/// A request that is due again.
+#[tactic(auto, using(crate::proofs::Prefixes::front_kept, crate::proofs::Prefixes::whole_kept))]
+fn draw_again(
+    protocol: &mut Protocol,
+    now: Instant,
+) -> Result<Option<Transmit<Data<'static>>>, NoMemory>
+    ensures ok { IfOk result (λ answer. MatchOption answer
+        (NoneDue protocol.old.agent now × (protocol.new ≡ protocol.old))
+        (λ sent. IsRepeated protocol.old now (sent_of sent) protocol.new)) }
+    ensures err { OnErr result (IsUnderWay protocol.old protocol.new) }
+{
+    let Some(due) = protocol.agent.poll_transmit(now) else {
+        return Ok(None);
+    };
+    let bytes = Vec::from_slice(protocol.alloc, due.bytes)?;
+    let again = transmit(bytes, due.transport, due.from, due.to);
+    protocol.last_send = Some(now);
+    Ok(Some(again))
+}
+
+/// Whether a message was sent so short a time ago that no other one is sent yet.
+fn is_resting(protocol: &Protocol, now: Instant) -> bool
+    ensures { result ≡ is_resting protocol.now.last_send now }
+{
+    match protocol.last_send {
+        Some(last) => now < next_send(last),
+        None => false,
+    }
+}
+
+/// The first message that waits, or else one that is made now.
+#[tactic(auto, using(crate::proofs::Prefixes::front_kept, crate::proofs::Prefixes::whole_kept))]
+fn draw_next(
+    protocol: &mut Protocol,
+    now: Instant,
+) -> Result<Option<Transmit<Data<'static>>>, NoMemory>
+    ensures ok { IfOk result (λ answer.
+        IsNextSent protocol.old.queue protocol.old now (option_map sent_of answer) protocol.new) }
+    ensures err { OnErr result (IsUnderWay protocol.old protocol.new) }
+{
+    match protocol.queue.pop_front() {
+        Some(queued) => {
+            let transport = protocol.agent.transport();
+            let from = queued.from();
+            let sent = transmit(queued.into_bytes(), transport, from, protocol.server);
+            protocol.last_send = Some(now);
+            Ok(Some(sent))
+        }
+        None => begin(protocol, now),
+    }
+}
+
+/// A message that is made now: the first ALLOCATE, or what renews something whose time has come.
+#[tactic(auto, using(crate::proofs::Prefixes::front_kept, crate::proofs::Prefixes::whole_kept))]
+fn begin(protocol: &mut Protocol, now: Instant) -> Result<Option<Transmit<Data<'static>>>, NoMemory>
+    ensures ok { IfOk result (λ answer.
+        IsBegun protocol.old.phase protocol.old now (option_map sent_of answer) protocol.new) }
+    ensures err { OnErr result (IsUnderWay protocol.old protocol.new) }
+{
+    match &protocol.phase {
+        Phase::Initial => Ok(Some(send_first(protocol, now)?)),
+        Phase::Authenticated => renew(protocol, now),
+        Phase::InitialSent(_) | Phase::Authenticating(_) | Phase::Ended => Ok(None),
+    }
+}
+
+/// A REFRESH for an allocation, or a CREATE_PERMISSION for a permission, whose time has come.
+#[tactic(auto, using(crate::proofs::Prefixes::front_kept, crate::proofs::Prefixes::whole_kept))]
+fn renew(protocol: &mut Protocol, now: Instant) -> Result<Option<Transmit<Data<'static>>>, NoMemory>
+    ensures ok { IfOk result (λ answer. IsRenewed (wanted now protocol.old.allocations) protocol.old now
+        (option_map sent_of answer) protocol.new) }
+    ensures err { OnErr result (IsUnderWay protocol.old protocol.new) }
+{
+    match wanted(protocol.allocations.as_slice(), now) {
+        None => Ok(None),
+        Some(Want::Refresh) => Ok(Some(send_refresh(protocol, now)?)),
+        Some(Want::Permission(ip)) => Ok(Some(send_renewal(protocol, ip, now)?)),
+    }
+}
+
+/// Sends the first ALLOCATE.
+#[tactic(auto, using(crate::proofs::Prefixes::front_kept, crate::proofs::Prefixes::whole_kept), unfolding(crate::specs::Drawing::first_allocated, crate::specs::Drawing::sent_at_once))]
+fn send_first(protocol: &mut Protocol, now: Instant) -> Result<Transmit<Data<'static>>, NoMemory>
+    ensures ok { IfOk result (λ sent. IsFirstSent protocol.old now (sent_of sent) protocol.new) }
+    ensures err { OnErr result (IsUnderWay protocol.old protocol.new) }
+{
+    let number = protocol.draw_number()?;
+    let request = TurnRequest::FirstAllocate(protocol.allocates, protocol.families);
+    let sent = send_at_once(protocol, number, request, now)?;
+    let mut numbers = ListOf::new(protocol.alloc);
+    numbers.push(number)?;
+    protocol.phase = Phase::InitialSent(numbers);
+    protocol.last_send = Some(now);
+    Ok(sent)
+}
+
+/// Sends a REFRESH for the first allocation for which something is to be sent.
+#[tactic(auto, using(crate::proofs::Prefixes::front_kept, crate::proofs::Prefixes::whole_kept), unfolding(crate::specs::Drawing::first_refreshed, crate::specs::Drawing::sent_at_once))]
+fn send_refresh(protocol: &mut Protocol, now: Instant) -> Result<Transmit<Data<'static>>, NoMemory>
+    ensures ok { IfOk result (λ sent. IsRefreshSent protocol.old now (sent_of sent) protocol.new) }
+    ensures err { OnErr result (IsUnderWay protocol.old protocol.new) }
+{
+    let number = protocol.draw_number()?;
+    let sent = send_at_once(
+        protocol,
+        number,
+        TurnRequest::Refresh(ALLOCATION_LIFETIME),
+        now,
+    )?;
+    let refresh = PendingRefresh {
+        number,
+        lifetime: ALLOCATION_LIFETIME,
+    };
+    refresh_first(protocol.allocations.as_mut_slice(), now, &refresh)?;
+    protocol.last_send = Some(now);
+    Ok(sent)
+}
+
+/// Sends a CREATE_PERMISSION for an address, by which the first permission that is to be renewed is.
+#[tactic(auto, using(crate::proofs::Prefixes::front_kept, crate::proofs::Prefixes::whole_kept), unfolding(crate::specs::Drawing::first_permitted, crate::specs::Drawing::sent_at_once))]
+fn send_renewal(
+    protocol: &mut Protocol,
+    ip: IpAddr,
+    now: Instant,
+) -> Result<Transmit<Data<'static>>, NoMemory>
+    ensures ok { IfOk result (λ sent. IsRenewalSent protocol.old ip now (sent_of sent) protocol.new) }
+    ensures err { OnErr result (IsUnderWay protocol.old protocol.new) }
+{
+    let number = protocol.draw_number()?;
+    let request = TurnRequest::CreatePermission(ip);
+    requests_are_lawful(&request);
+    let sent = send_at_once(protocol, number, request, now)?;
+    renew_first(protocol.allocations.as_mut_slice(), now, number)?;
+    protocol.last_send = Some(now);
+    Ok(sent)
+}
+
+/// Makes a request of this number that is sent at once, and is outstanding from now on. Where
+/// memory is refused, nothing changes.
+#[tactic(auto, unfolding(crate::specs::Drawing::sent_at_once))]
+fn send_at_once(
+    protocol: &mut Protocol,
+    number: TransactionId,
+    request: TurnRequest,
+    now: Instant,
+) -> Result<Transmit<Data<'static>>, NoMemory>
+    ensures sent { IfOk result (λ sent. sent_of sent ≡ record {
+      bytes = request_text protocol.old.auth request number;
+      transport = protocol.old.agent.transport;
+      from = protocol.old.agent.here;
+      to = protocol.old.server;
+    }) }
+    ensures ok { OnOk result (protocol.new ≡ sent_at_once protocol.old request number now) }
+    ensures err { OnErr result (protocol.new ≡ protocol.old) }
+{
+    let bytes = protocol
+        .auth
+        .write_request(protocol.alloc, number, request)?;
+    match protocol
+        .agent
+        .send_request(bytes.as_slice(), protocol.server, now)
+    {
+        Ok(_) => {}
+        Err(_) => return Err(NoMemory),
+    }
+    let transport = protocol.agent.transport();
+    let from = protocol.agent.local_addr();
+    Ok(transmit(bytes, transport, from, protocol.server))
+}
+
+/// Owned bytes that are sent.
+fn transmit(
+    bytes: Vec<u8>,
+    transport: TransportType,
+    from: SocketAddr,
+    to: SocketAddr,
+) -> Transmit<Data<'static>>
+    ensures { sent_of result ≡ record {
+      bytes = bytes.items;
+      transport = transport;
+      from = from;
+      to = to;
+    } }
+{
+    let owned = DataOwned::from(bytes.into_boxed_slice());
+    Transmit::new(Data::Owned(owned), transport, from, to)
+}

@@ -1,0 +1,192 @@
+//! What a client does as time goes on.
+
+ghost use Rattle.std.specs.Prelude.{◌≡◌, ◌≢◌, IfOk, OnErr, max, min};
+ghost use Rattle.stun_proto.specs.Moments.{moment_after};
+ghost use Rattle.turn_client_proto_core.specs.Ending.{HasFailed, IsUnderWay};
+ghost use Rattle.turn_client_proto_poll.specs.Polling.{IsPolled, IsPolledBy, IsPolledIn, IsPolledSent, IsPolledStanding, IsTicked, answer_of, cadence, ended_of, longest_pause, ready_after, wait_of, wait_to_send, waits_until};
+
+use std::time::Duration;
+use stun_proto::Instant;
+use stun_proto::agent::StunAgentPollRet;
+use stun_types::NoMemory;
+use stun_types::message::TransactionId;
+use turn_client_proto_core::allocation::allocation::Allocation;
+use turn_client_proto_core::allocation::numbers::is_among;
+use turn_client_proto_core::api::answer::TurnPollRet;
+use turn_client_proto_core::permission::telling;
+use turn_client_proto_core::protocol::{Phase, Protocol};
+
+/// Messages are sent this far apart, in milliseconds.
+const CADENCE: u64 = 50;
+
+/// The longest that a client tells to wait, in seconds.
+const LONGEST_PAUSE: u64 = 9999;
+
+/// The moment from which on another message may be sent than that of a moment.
+pub(crate) fn next_send(last: Instant) -> Instant
+    ensures { result ≡ moment_after last cadence }
+{
+    last.saturating_add(Duration::from_millis(CADENCE))
+}
+
+/// The end of the longest wait.
+fn longest_wait(now: Instant) -> Instant
+    ensures { result ≡ moment_after now longest_pause }
+{
+    now.saturating_add(Duration::from_secs(LONGEST_PAUSE))
+}
+
+/// The number of the transaction that ended.
+fn ended_of(ticked: &StunAgentPollRet) -> Option<TransactionId>
+    ensures { result ≡ ended_of ticked.now }
+{
+    match ticked {
+        StunAgentPollRet::TransactionTimedOut(number)
+        | StunAgentPollRet::TransactionCancelled(number) => Some(*number),
+        StunAgentPollRet::WaitUntil(_) => None,
+    }
+}
+
+/// The earlier of a wait and of what the agent waits for.
+fn wait_of(wait: Instant, ticked: &StunAgentPollRet) -> Instant
+    ensures { result ≡ wait_of wait ticked.now }
+{
+    match ticked {
+        StunAgentPollRet::WaitUntil(moment) => wait.min(*moment),
+        StunAgentPollRet::TransactionTimedOut(_) | StunAgentPollRet::TransactionCancelled(_) => {
+            wait
+        }
+    }
+}
+
+/// A wait until a moment; but where a transaction has ended, no wait.
+fn waits_until(ended: &Option<TransactionId>, now: Instant, wait: Instant) -> TurnPollRet
+    ensures { result ≡ waits_until ended.now now wait }
+{
+    match ended {
+        Some(_) => TurnPollRet::WaitUntil(now),
+        None => TurnPollRet::WaitUntil(wait),
+    }
+}
+
+/// The answer of a client that has these allocations.
+fn answer_of(
+    allocations: &[Allocation],
+    ended: &Option<TransactionId>,
+    now: Instant,
+    wait: Instant,
+) -> TurnPollRet
+    ensures { result ≡ answer_of allocations.now ended.now now wait }
+{
+    if allocations.is_empty() {
+        TurnPollRet::Closed
+    } else {
+        waits_until(ended, now, wait.max(now))
+    }
+}
+
+/// What is to be done at a moment. Where an event waits, the answer is to wait for that very
+/// moment: `poll_event` gives it. Else a request that has ended without a response is given up, and
+/// allocations and permissions whose time is over go. The answer is `Closed` where the client has
+/// ended or has no allocation left, and else the moment until which nothing is to be done, at most
+/// 9999 seconds from now; it is now where a request has ended. Where memory is refused, `NoMemory`,
+/// and the client has failed.
+pub fn poll(protocol: &mut Protocol, now: Instant) -> TurnPollRet
+    ensures { IsPolled protocol.old now result protocol.new }
+{
+    let events = protocol.events.len();
+    if events > 0 {
+        return TurnPollRet::WaitUntil(now);
+    }
+    match tick(protocol, now) {
+        Ok(answer) => answer,
+        Err(NoMemory) => {
+            protocol.fail(events);
+            TurnPollRet::NoMemory
+        }
+    }
+}
+
+/// A wait that ends where the first message of the queue may be sent.
+fn wait_to_send(protocol: &Protocol, now: Instant, wait: Instant) -> Instant
+    ensures { result ≡ wait_to_send protocol.now.last_send protocol.now.queue now wait }
+{
+    match (protocol.queue.front(), protocol.last_send) {
+        (None, _) => wait,
+        (Some(_), None) => now,
+        (Some(_), Some(last)) => wait.min(next_send(last)),
+    }
+}
+
+/// The earliest moment at which another message may be sent.
+fn ready_after(protocol: &Protocol, now: Instant) -> Instant
+    ensures { result ≡ ready_after protocol.now.last_send now }
+{
+    match protocol.last_send {
+        Some(last) => next_send(last).max(now),
+        None => now,
+    }
+}
+
+/// Polls the agent, and does what follows, where no event waits.
+#[tactic(auto, using(crate::proofs::Prefixes::front_kept, crate::proofs::Prefixes::whole_kept))]
+fn tick(protocol: &mut Protocol, now: Instant) -> Result<TurnPollRet, NoMemory>
+    ensures ok { IfOk result (λ answer. IsTicked protocol.old now answer protocol.new) }
+    ensures named { IfOk result (λ answer. answer ≢ TurnPollRet.NoMemory) }
+    ensures err { OnErr result (IsUnderWay protocol.old protocol.new) }
+{
+    let wait = wait_to_send(protocol, now, longest_wait(now));
+    let ticked = protocol.agent.poll(now);
+    let ended = ended_of(&ticked);
+    follow(protocol, &ended, wait_of(wait, &ticked), now)
+}
+
+/// Does what follows from what the agent told.
+#[tactic(auto, using(crate::proofs::Prefixes::front_kept, crate::proofs::Prefixes::whole_kept))]
+fn follow(
+    protocol: &mut Protocol,
+    ended: &Option<TransactionId>,
+    wait: Instant,
+    now: Instant,
+) -> Result<TurnPollRet, NoMemory>
+    ensures ok { IfOk result (λ answer.
+        IsPolledIn protocol.old.phase ended.now wait protocol.old now answer protocol.new) }
+    ensures named { IfOk result (λ answer. answer ≢ TurnPollRet.NoMemory) }
+    ensures err { OnErr result (IsUnderWay protocol.old protocol.new) }
+{
+    match &protocol.phase {
+        Phase::Initial => Ok(TurnPollRet::WaitUntil(now)),
+        Phase::Ended => Ok(TurnPollRet::Closed),
+        Phase::InitialSent(numbers) | Phase::Authenticating(numbers) => {
+            if is_among(ended, numbers.as_slice()) {
+                protocol.end()?;
+                return Ok(TurnPollRet::Closed);
+            }
+            Ok(waits_until(ended, now, wait))
+        }
+        Phase::Authenticated => poll_allocations(protocol, ended, wait, now),
+    }
+}
+
+/// Lets time come to a moment for the allocations and their permissions.
+#[tactic(auto, using(crate::proofs::Prefixes::front_kept, crate::proofs::Prefixes::whole_kept), unfolding(crate::specs::Polling::after_time))]
+fn poll_allocations(
+    protocol: &mut Protocol,
+    ended: &Option<TransactionId>,
+    wait: Instant,
+    now: Instant,
+) -> Result<TurnPollRet, NoMemory>
+    ensures ok { IfOk result (λ answer.
+        IsPolledStanding ended.now wait protocol.old now answer protocol.new) }
+    ensures named { IfOk result (λ answer. answer ≢ TurnPollRet.NoMemory) }
+    ensures err { OnErr result (IsUnderWay protocol.old protocol.new) }
+{
+    let ready = ready_after(protocol, now);
+    let next = protocol.allocations.poll(ended, ready, now, wait);
+    let allocations = protocol.allocations.as_slice();
+    let earliest = telling::earliest(allocations, ended, ready, now, next);
+    let answer = answer_of(allocations, ended, now, earliest);
+    telling::tell_failures(&mut protocol.events, allocations, ended, now)?;
+    telling::poll(protocol.allocations.as_mut_slice(), ended, now);
+    Ok(answer)
+}

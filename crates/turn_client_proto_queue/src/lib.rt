@@ -1,0 +1,4 @@
+//! The queues in which a TURN client keeps what waits to be told or sent.
+#![tactic(auto)]
+
+pub mod queue;
