@@ -4,14 +4,15 @@
 It knows nothing of the repository's code. Messages are written here by RFC 8489 and RFC 8656, signed by
 HMAC, and numbered from ChaCha20 words of a seed of zeros, three a number, the first of them highest. The
 moments were worked out by hand, from the waits that a client is documented to have. It was run once, and
-what it wrote is stored: three examples, and the traces of a client and a desk in the stored run of
-`turn_traces`, behind those of a desk alone.
+what it wrote is stored: four examples, and the traces of a client and a desk in the stored run of
+`turn_traces`, behind those of a desk alone. The traces of permissions are in `permissions.py`.
 """
 
 import hashlib
 import hmac
 import socket
 import struct
+import sys
 from pathlib import Path
 
 TOP = Path(__file__).resolve().parent.parent
@@ -57,7 +58,7 @@ def block(number):
     return [(a + b) & 0xFFFFFFFF for a, b in zip(w, start)]
 
 
-WORDS = block(0) + block(1) + block(2)
+WORDS = [word for k in range(5) for word in block(k)]
 
 
 def number(k):
@@ -122,6 +123,10 @@ def hashed(bits):
     return [(USERHASH, name), (REALM, b"realm"), (NONCE, NONCES[bits])]
 
 
+# what a client tells under the first nonce of a desk that knows SHA-1
+HASHED = hashed(b"QAAA")
+
+
 def first(*families):
     return message(ALLOCATE, number(0), [lifetime(1800), UDP, (DONT_FRAGMENT, b""), *families])
 
@@ -134,18 +139,19 @@ def refresh(k, seconds, credentials):
     return message(REFRESH, number(k), [lifetime(seconds), *credentials], SHA1)
 
 
-def permission(k, peer, credentials):
-    return message(CREATE_PERMISSION, number(k), [(PEER, xored(peer, number(k))), *credentials], SHA1)
+def create_permission(k, ip, credentials=HASHED):
+    peer = xored(f"[{ip}]:0" if ":" in ip else f"{ip}:0", number(k))
+    return message(CREATE_PERMISSION, number(k), [(PEER, peer), *credentials], SHA1)
 
 
-def challenge(k, bits=b"QAAA", lists=(), reason=code(401, b"Unauthorized")):
+def challenge(k, bits=b"QAAA", lists=(), reason=code(401, b"Unauthorized"), method=ALLOCATE):
     """The desk's own."""
-    return message(ALLOCATE | ERROR, number(k), [reason, (REALM, b"realm"), (NONCE, NONCES[bits]), *lists])
+    return message(method | ERROR, number(k), [reason, (REALM, b"realm"), (NONCE, NONCES[bits]), *lists])
 
 
-def grant(k, by=SHA1):
+def grant(k, by=SHA1, addresses=(RELAYED,)):
     """The desk's own."""
-    told = [relayed(RELAYED, k), lifetime(600), (MAPPED, xored(CLIENT, number(k)))]
+    told = [*(relayed(it, k) for it in addresses), lifetime(600), (MAPPED, xored(CLIENT, number(k)))]
     return message(ALLOCATE | SUCCESS, number(k), told, by)
 
 
@@ -215,6 +221,32 @@ class Trace:
         self.poll(now, None)
         return self.shows()
 
+    def permission(self, now, ip, answer="ok", transport="udp"):
+        return self.say(f"permission {now} {transport} {ip}", answer)
+
+    def has(self, ip, answer="yes", transport="udp"):
+        return self.say(f"have {transport} {ip}", answer)
+
+    def permits(self, *peers, at=RELAYED, transport="udp"):
+        return self.say(f"permissions {transport} {at}", " ".join(["permissions", *peers]))
+
+    def is_permitted(self, ip, *others, at=RELAYED):
+        """The client tells of a permission, and holds it behind others."""
+        self.event(f"PermissionCreated udp {ip}")
+        self.has(ip)
+        return self.permits(*others, ip, at=at)
+
+    def is_forbidden(self, ip, *others, at=RELAYED):
+        """The client tells that there is no such permission, and holds others alone."""
+        self.event(f"PermissionCreateFailed udp {ip}")
+        self.has(ip, "no")
+        return self.permits(*others, at=at)
+
+    def asks(self, now, k, ip, credentials=HASHED):
+        """A permission is asked for, and its request drawn as soon as may be behind a message of that moment."""
+        self.permission(now, ip)
+        return self.draw(now + 50 * MS, create_permission(k, ip, credentials))
+
     # ---- with a desk
 
     def is_granted(self, now, k, credentials, by=SHA1):
@@ -249,6 +281,19 @@ class Trace:
         line = self.granted()
         self.hear(50 * MS, f"@{line}")
         self.is_created(RELAYED)
+        return line
+
+    def decides(self, now, drawn, decision, text):
+        """The desk decides of what was drawn, and the client is told: the number of the reply's line."""
+        line = self.ask(now, f"@{drawn}", decision, text)
+        self.hear(now, f"@{line}")
+        return line
+
+    def permitted(self, now, k, ip, *others):
+        """A permission is asked for, granted and held: the number of the reply's line."""
+        drawn = self.asks(now, k, ip)
+        line = self.decides(now + 50 * MS, drawn, "grant", success(CREATE_PERMISSION, k))
+        self.is_permitted(ip, *others)
         return line
 
     # ---- with a server that is no desk of ours
@@ -516,20 +561,6 @@ def repeated_renewal():
     return "The grant of one REFRESH comes again where another is awaited: it doesn't count, and the time is over", t
 
 
-def repeated_permission():
-    t = Trace(setup())
-    t.held()
-    now, name = 100 * MS, hashed(b"QAAA")
-    asked = permission(2, "10.0.0.1:0", name)
-    line = t.ask(now, asked.hex(), "grant", success(CREATE_PERMISSION, 2))
-    t.hear(now, f"@{line}", "ignored")
-    t.ask(now, permission(3, "10.0.0.3:0", name).hex(), "grant", success(CREATE_PERMISSION, 3))
-    t.hear(now, f"@{line}", "ignored")
-    t.event("none")
-    t.shows(RELAYED)
-    return "The grant of one permission comes again behind another that was asked for: it doesn't count", t
-
-
 def error_above():
     t = Trace(setup())
     t.say("error", "ok")
@@ -771,6 +802,7 @@ def mismatched_deletion():
     t.shows()
     return "A deletion, answered by the error that there is no allocation", t
 
+
 # ---- settings of both sides
 
 
@@ -826,17 +858,20 @@ def each_setting():
 
 
 def good_traces():
+    # it takes its words from this file
+    from permissions import permission_traces
+
     yield from (
         handshake(), forged_grant(), repeated_grant(), reflected_request(),
         address_behind_the_signature(), added_signature(), foreign_datagrams(), forged_challenge(),
         repeated_challenge(), ten_challenges(), what_a_desk_passes_by(), both_algorithms(),
         the_weaker_algorithm(), no_common_algorithm(), no_hashed_names(), lost_replies(), lost_reply(),
-        nobody_answers(), deleted(), renewed(), repeated_renewal(), repeated_permission(), error_above(),
+        nobody_answers(), deleted(), renewed(), repeated_renewal(), error_above(),
         last_moment(), nothing_yet(), *first_answered(), request_for_a_response(), default_timeout(),
         *signed_answered(), signed_request(), expired(), stale_allocate(), half_stale(),
         family_unknown(), family_not_supported(), both_families(), refresh_times_out(),
         *refreshes_answered(), stale_refresh(), stale_refresh_lost(), stale_deletion(),
-        mismatched_deletion(), *each_setting(),
+        mismatched_deletion(), *each_setting(), *permission_traces(),
     )
 
 
@@ -858,6 +893,14 @@ def bad_traces():
     yield "One family twice", MADE.replace("udp 4", "udp 4,4"), "", 2
     yield "Behind an event", BOTH + "relayed\n" + rto, "relayed\n", 6
     yield "A moment too much", BOTH + "event 0\n", "", 5
+    yield "A permission of no peer", BOTH + "permission 0 udp\n", "", 5
+    yield "A permission, and no transport", BOTH + "permission 0 10.0.0.1\n", "", 5
+    yield "A permission over another transport", BOTH + "permission 0 sctp 10.0.0.1\n", "", 5
+    yield "A permission for a port", BOTH + "permission 0 udp 10.0.0.1:0\n", "", 5
+    yield "A permission for an address in brackets", BOTH + "permission 0 udp [::1]\n", "", 5
+    yield "A bad peer, at a moment out of range", BOTH + f"permission {2**62 + 1} udp x\n", "", 5
+    yield "A permission is looked for at a moment", BOTH + "have 0 udp 10.0.0.1\n", "", 5
+    yield "Permissions of an address without a port", BOTH + "permissions udp 203.0.113.5\n", "", 5
 
 
 def all_traces():
@@ -868,8 +911,17 @@ def all_traces():
         yield f"# {name}\n{lines}", f"{front}bad trace: line {at}\nstatus 1\n"
 
 
+def examples():
+    from permissions import granted_reply_again
+
+    yield "handshake", handshake()
+    yield "forged", forged_challenge()
+    yield "lost", lost_replies()
+    yield "permission", granted_reply_again()
+
+
 def store_examples():
-    for name, (remark, t) in (("handshake", handshake()), ("forged", forged_challenge()), ("lost", lost_replies())):
+    for name, (remark, t) in examples():
         (TOP / f"examples/{name}.trace").write_text(f"# {remark}\n{t.lines}")
         (TOP / f"examples/{name}.out").write_text(t.answers)
 
@@ -893,5 +945,7 @@ def store_traces():
 
 
 if __name__ == "__main__":
+    # what is imported leaves no folder of compiled files behind
+    sys.dont_write_bytecode = True
     store_examples()
     store_traces()
