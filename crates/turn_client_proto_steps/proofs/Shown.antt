@@ -4,9 +4,11 @@ use Rattle.std.specs.List.{filter, find}
 use Rattle.std.specs.declared.net.ip_addr.IpAddr.{IpAddr}
 use Rattle.std.specs.declared.net.socket_addr.SocketAddr.{SocketAddr}
 use Rattle.stun_types.specs.declared.transport.TransportType.{TransportType}
+use Rattle.stun_types.specs.declared.transport.TransportType.TheVariants.{Udp, Tcp}
 use Rattle.turn_runs.specs.Members.{IsIn}
 use Rattle.turn_runs.specs.Messages as run
 use Rattle.turn_client_proto_poll.specs.Allocation.Listed.{is_shown, relayed_shown}
+use Rattle.turn_client_proto_poll.specs.Permission.Same.{is_same_transport}
 use Rattle.turn_client_proto_poll.specs.Permission.Shown.{addresses_of, is_at, permissions_at, permissions_in}
 use Rattle.turn_client_proto_steps.specs.ClientWords.{Has, HasItself, HasPermission, IsHeld}
 use Rattle.turn_client_proto_steps.specs.Held.{Allocation, Permission}
@@ -16,6 +18,16 @@ use Rattle.turn_client_proto_steps.proofs.Lists.{found_in, found_passes, in_filt
 first_so : (x y : Bool) → (x && y) ≡ true → x ≡ true
 first_so true y h = refl
 first_so false y h = absurd (Prim.cc h)
+
+second_so : (x y : Bool) → (x && y) ≡ true → y ≡ true
+second_so true y h = h
+second_so false y h = absurd (Prim.cc h)
+
+same_transport : (a b : TransportType) → is_same_transport a b ≡ true → a ≡ b
+same_transport Udp Udp is = refl
+same_transport Tcp Tcp is = refl
+same_transport Udp Tcp is = absurd (Prim.cc is)
+same_transport Tcp Udp is = absurd (Prim.cc is)
 
 isnt : (b : Bool) → not b ≡ true → b ≡ false
 isnt true h = absurd (Prim.cc h)
@@ -34,18 +46,19 @@ shown_held allocations transport address h =
 
 -- an address whose permission is shown
 pub permission_held : (allocations : List Allocation) (transport : TransportType) (relayed : SocketAddr) (ip : IpAddr) → IsIn ip (addresses_of (permissions_at transport relayed allocations))
-    → (own : TransportType) × IsHeld allocations (run.Permission own ip)
+    → IsHeld allocations (run.Permission transport ip)
 permission_held allocations transport relayed ip h = by (find (is_at transport relayed) allocations) refl h
   where
-    by : (found : Option Allocation) → find (is_at transport relayed) allocations ≡ found → IsIn ip (addresses_of (permissions_in found)) → (own : TransportType) × IsHeld allocations (run.Permission own ip)
+    by : (found : Option Allocation) → find (is_at transport relayed) allocations ≡ found → IsIn ip (addresses_of (permissions_in found)) → IsHeld allocations (run.Permission transport ip)
     by None at listed = absurd listed
     by (Some a) at listed =
-        let image = in_map (λ (p : Permission). p.ip) ip a.permissions listed in (
-          a.transport,
-          record {
-            allocation = a;
-            listed = found_in (is_at transport relayed) allocations a at;
-            stands = isnt a.is_expired (first_so (not a.is_expired) _ (found_passes (is_at transport relayed) allocations a at));
-            has = subst (λ (x : IpAddr). Has a (run.Permission a.transport x)) (sym image.is) (HasPermission image.source image.listed);
-          },
-        )
+        let image = in_map (λ (p : Permission). p.ip) ip a.permissions listed in
+        let passes = found_passes (is_at transport relayed) allocations a at in
+        let own : a.transport ≡ transport = same_transport a.transport transport (first_so (is_same_transport a.transport transport) _ (second_so (not a.is_expired) _ passes)) in
+        record {
+          allocation = a;
+          listed = found_in (is_at transport relayed) allocations a at;
+          stands = isnt a.is_expired (first_so (not a.is_expired) _ passes);
+          has = subst (λ (t : TransportType). Has a (run.Permission t ip)) own
+              (subst (λ (x : IpAddr). Has a (run.Permission a.transport x)) (sym image.is) (HasPermission image.source image.listed));
+        }

@@ -77,11 +77,11 @@ pub fn shown_addresses_are_held()
 {}
 
 /// The addresses whose permissions a client shows are held, in the words of a run, over the transport of
-/// their allocation.
+/// the allocation that was asked for.
 pub fn shown_permissions_are_held()
     ensures { (c : Client) (transport : TransportType) (relayed : SocketAddr) (ip : IpAddr)
         → IsIn ip (addresses_of (permissions_at transport relayed c.core.allocations))
-        → (own : TransportType) × client_words.IsHeld c (Permission own ip) }
+        → client_words.IsHeld c (Permission transport ip) }
 {}
 
 /// `poll_event` is a step in which what an event tells as created is answered.

@@ -30,76 +30,81 @@ use Rattle.turn_desk_event.specs.declared.answer.Answer.{Answer}
 use Rattle.turn_desk_event.specs.declared.answer.Answer.TheVariants as answer
 use Rattle.turn_desk_event.specs.declared.answer.Refusal.TheVariants.{CreatePermission as PermissionRefused, Delete as DeleteRefused}
 use Rattle.turn_desk_event.specs.declared.event.ClientCall.{ClientCall}
-use Rattle.turn_desk_event.specs.declared.event.ClientCall.TheVariants.{Poll, PollEvent, Delete, CreatePermission, HavePermission, Permissions, ProtocolError, RelayedAddresses}
+use Rattle.turn_desk_event.specs.declared.event.ClientCall.TheVariants as call
+use Rattle.turn_desk_event.specs.declared.event.Event.{Event}
+use Rattle.turn_desk_event.specs.declared.event.Event.TheVariants as event
 use Rattle.turn_desk_world.specs.Calls.{ArePermissionsTold, IsCalled, IsDeleteTold, IsDrawnAs, IsEndTold, IsEventTold, IsFed, IsHaveTold, IsPermissionTold, IsPolledAs, IsRelayedTold, IsTold}
 use Rattle.turn_desk_world.specs.Told.{bytes_sent, notices_in, payloads_in}
 use Rattle.turn_desk_world.proofs.Shown.{ShowsOf}
 
--- a call that is answered so
-pub record IsAnswered (c : Client) (came : List (List ℕ)) (ret : Answer) (core : Protocol) : Type 0 where
+-- an event that is answered so
+pub record IsAnswered (happening : Event) (c : Client) (came : List (List ℕ)) (ret : Answer) (core : Protocol) : Type 0 where
   pub step : IsRunStep c came (bytes_sent ret) (notices_in ret) core
   pub no_payload : payloads_in ret ≡ []
-  pub shows : ShowsOf ret core
+  pub shows : ShowsOf happening ret core
 
-module _ (c : Client) (sound : IsSound c) (now : ℕ) (new : Protocol) where
-  polled : (ret : Answer) → IsPolledAs ret c.core now new → IsAnswered c [] ret new
+module _ (happening : Event) (c : Client) (sound : IsSound c) (now : ℕ) (new : Protocol) where
+  polled : (ret : Answer) → IsPolledAs ret c.core now new → IsAnswered happening c [] ret new
   polled (answer.Wait moment) is = record { step = poll_step c now (poll.WaitUntil moment) new sound is; no_payload = refl; shows = tt }
   polled (answer.Socket id socket peer) is = record { step = poll_step c now (poll.AllocateTcpSocket id socket peer) new sound is; no_payload = refl; shows = tt }
   polled (answer.Close local remote) is = record { step = poll_step c now (poll.TcpClose local remote) new sound is; no_payload = refl; shows = tt }
   polled answer.Closed is = record { step = poll_step c now poll.Closed new sound is; no_payload = refl; shows = tt }
   polled _ is = absurd is
 
-  event_told : (ret : Answer) → IsEventTold ret c.core new → IsAnswered c [] ret new
+  event_told : (ret : Answer) → IsEventTold ret c.core new → IsAnswered happening c [] ret new
   event_told (answer.Event event) is = record { step = event_step c (Some event) new sound is.0 is.1; no_payload = refl; shows = tt }
   event_told answer.Nothing is = record { step = still c [] new sound is.1; no_payload = refl; shows = tt }
   event_told _ is = absurd is
 
-  delete_told : (ret : Answer) → IsDeleteTold ret c.core now new → IsAnswered c [] ret new
+  delete_told : (ret : Answer) → IsDeleteTold ret c.core now new → IsAnswered happening c [] ret new
   delete_told answer.Done is = record { step = delete_step c now (Ok tt) new sound is; no_payload = refl; shows = tt }
   delete_told (answer.Refused (DeleteRefused error)) is = record { step = delete_step c now (Err error) new sound is; no_payload = refl; shows = tt }
   delete_told _ is = absurd is
 
-  permission_told : (transport : TransportType) (ip : IpAddr) (ret : Answer) → IsPermissionTold ret transport ip c.core now new → IsAnswered c [] ret new
+  permission_told : (transport : TransportType) (ip : IpAddr) (ret : Answer) → IsPermissionTold ret transport ip c.core now new → IsAnswered happening c [] ret new
   permission_told transport ip answer.Done is = record { step = permission_step c transport ip now (Ok tt) new sound is; no_payload = refl; shows = tt }
   permission_told transport ip (answer.Refused (PermissionRefused error)) is = record { step = permission_step c transport ip now (Err error) new sound is; no_payload = refl; shows = tt }
   permission_told transport ip _ is = absurd is
 
-  have_told : (transport : TransportType) (ip : IpAddr) (ret : Answer) → IsHaveTold ret transport ip c.core new → IsAnswered c [] ret new
+  have_told : (transport : TransportType) (ip : IpAddr) (ret : Answer) → IsHaveTold ret transport ip c.core new → IsAnswered happening c [] ret new
   have_told transport ip (answer.Have has) is = record { step = still c [] new sound is.1; no_payload = refl; shows = tt }
   have_told transport ip _ is = absurd is
 
-  permissions_told : (transport : TransportType) (relayed : SocketAddr) (ret : Answer) → ArePermissionsTold ret transport relayed c.core new → IsAnswered c [] ret new
-  permissions_told transport relayed (answer.Permissions list) is = record {
-    step = still c [] new sound is.1;
-    no_payload = refl;
-    shows = (transport, relayed, is.0 ∙ ap (λ (p : Protocol). addresses_of (permissions_at transport relayed p.allocations)) (sym is.1));
-  }
-  permissions_told transport relayed _ is = absurd is
-
-  end_told : (ret : Answer) → IsEndTold ret c.core new → IsAnswered c [] ret new
+  end_told : (ret : Answer) → IsEndTold ret c.core new → IsAnswered happening c [] ret new
   end_told answer.Done is = record { step = subst (λ (p : Protocol). IsRunStep c [] None [] p) (sym is) (ended_step c sound); no_payload = refl; shows = tt }
   end_told _ is = absurd is
 
-  relayed_told : (ret : Answer) → IsRelayedTold ret c.core new → IsAnswered c [] ret new
+  relayed_told : (ret : Answer) → IsRelayedTold ret c.core new → IsAnswered happening c [] ret new
   relayed_told (answer.Relayed list) is = record { step = still c [] new sound is.1; no_payload = refl; shows = is.0 ∙ ap (λ (p : Protocol). relayed_shown p.allocations) (sym is.1) }
   relayed_told _ is = absurd is
 
-  pub called : (call : ClientCall) (ret : Answer) → IsCalled call ret c.core now new → IsAnswered c [] ret new
-  unfolding IsCalled
-  called Poll ret is = polled ret is
-  called PollEvent ret is = event_told ret is
-  called Delete ret is = delete_told ret is
-  called (CreatePermission transport ip) ret is = permission_told transport ip ret is
-  called (HavePermission transport ip) ret is = have_told transport ip ret is
-  called (Permissions transport relayed) ret is = permissions_told transport relayed ret is
-  called ProtocolError ret is = end_told ret is
-  called RelayedAddresses ret is = relayed_told ret is
-
-  pub drawn : (ret : Answer) → IsDrawnAs ret c.core now new → IsAnswered c [] ret new
+  pub drawn : (ret : Answer) → IsDrawnAs ret c.core now new → IsAnswered happening c [] ret new
   unfolding IsDrawnAs
   drawn (answer.Transmit transmit) is = record { step = draw_step c now (Some (sent_of transmit)) new sound is; no_payload = refl; shows = tt }
   drawn answer.Nothing is = record { step = draw_step c now None new sound is; no_payload = refl; shows = tt }
   drawn _ is = absurd is
+
+-- ---- a call
+
+module _ (c : Client) (sound : IsSound c) (now : ℕ) (new : Protocol) where
+  permissions_told : (transport : TransportType) (relayed : SocketAddr) (ret : Answer) → ArePermissionsTold ret transport relayed c.core new → IsAnswered (event.Call (call.Permissions transport relayed) now) c [] ret new
+  permissions_told transport relayed (answer.Permissions list) is = record {
+    step = still c [] new sound is.1;
+    no_payload = refl;
+    shows = is.0 ∙ ap (λ (p : Protocol). addresses_of (permissions_at transport relayed p.allocations)) (sym is.1);
+  }
+  permissions_told transport relayed _ is = absurd is
+
+  pub called : (what : ClientCall) (ret : Answer) → IsCalled what ret c.core now new → IsAnswered (event.Call what now) c [] ret new
+  unfolding IsCalled
+  called call.Poll ret is = polled (event.Call call.Poll now) c sound now new ret is
+  called call.PollEvent ret is = event_told (event.Call call.PollEvent now) c sound now new ret is
+  called call.Delete ret is = delete_told (event.Call call.Delete now) c sound now new ret is
+  called (call.CreatePermission transport ip) ret is = permission_told (event.Call (call.CreatePermission transport ip) now) c sound now new transport ip ret is
+  called (call.HavePermission transport ip) ret is = have_told (event.Call (call.HavePermission transport ip) now) c sound now new transport ip ret is
+  called (call.Permissions transport relayed) ret is = permissions_told transport relayed ret is
+  called call.ProtocolError ret is = end_told (event.Call call.ProtocolError now) c sound now new ret is
+  called call.RelayedAddresses ret is = relayed_told (event.Call call.RelayedAddresses now) c sound now new ret is
 
 -- ---- what came
 
@@ -114,14 +119,14 @@ record IsQuiet (ret : Answer) : Type 0 where
   draws : bytes_sent ret ≡ None
   tells : notices_in ret ≡ []
   hands : payloads_in ret ≡ []
-  shows : (core : Protocol) → ShowsOf ret core
+  shows : (happening : Event) (core : Protocol) → ShowsOf happening ret core
 
 took_told : (ret : Answer) → IsTold recv.Handled ret → IsQuiet ret
-took_told answer.Handled is = record { draws = refl; tells = refl; hands = refl; shows = λ core. tt }
+took_told answer.Handled is = record { draws = refl; tells = refl; hands = refl; shows = λ happening core. tt }
 took_told _ is = absurd is
 
 gave_told : (came : Transmit (Bor (List ℕ))) (ret : Answer) → IsTold (recv.Ignored came) ret → IsQuiet ret
-gave_told came answer.Ignored is = record { draws = refl; tells = refl; hands = refl; shows = λ core. tt }
+gave_told came answer.Ignored is = record { draws = refl; tells = refl; hands = refl; shows = λ happening core. tt }
 gave_told came _ is = absurd is
 
 quiet : (came : Transmit (Bor (List ℕ))) (took : TurnRecvRet (Bor (List ℕ))) (ret : Answer) → IsPlain came took → IsTold took ret → IsQuiet ret
@@ -158,16 +163,16 @@ module _ {T : Type 0} (items : T → List ℕ) (c : Client) (sound : IsSound c) 
   received are_bytes (Foreign other is) = given_back is
 
 -- an answer that draws and tells nothing
-quiet_answer : (c : Client) (came : List (List ℕ)) (ret : Answer) (new : Protocol) → IsQuiet ret → IsRunStep c came None [] new → IsAnswered c came ret new
-quiet_answer c came ret new is step = record {
+quiet_answer : (happening : Event) (c : Client) (came : List (List ℕ)) (ret : Answer) (new : Protocol) → IsQuiet ret → IsRunStep c came None [] new → IsAnswered happening c came ret new
+quiet_answer happening c came ret new is step = record {
   step = subst (λ (o : Option (List ℕ)). IsRunStep c came o (notices_in ret) new) (sym is.draws) (subst (λ (l : List Notice). IsRunStep c came None l new) (sym is.tells) step);
   no_payload = is.hands;
-  shows = is.shows new;
+  shows = is.shows happening new;
 }
 
-pub fed : (c : Client) (sound : IsSound c) (ret : Answer) (bytes : List ℕ) (from to : SocketAddr) (now : ℕ) (new : Protocol) → IsFed ret c.core bytes from to now new → IsAnswered c (bytes ∷ []) ret new
-fed c sound ret bytes from to now new is =
+pub fed : (happening : Event) (c : Client) (sound : IsSound c) (ret : Answer) (bytes : List ℕ) (from to : SocketAddr) (now : ℕ) (new : Protocol) → IsFed ret c.core bytes from to now new → IsAnswered happening c (bytes ∷ []) ret new
+fed happening c sound ret bytes from to now new is =
     let came_bytes : AreBytes is.came.bytes.now = subst AreBytes (sym is.bytes_are) is.are_bytes in
     let up = received (λ (b : Bor (List ℕ)). b.now) c sound is.came now is.took new came_bytes is.received in
-    quiet_answer c (bytes ∷ []) ret new (quiet is.came is.took ret up.plain is.told)
+    quiet_answer happening c (bytes ∷ []) ret new (quiet is.came is.took ret up.plain is.told)
     (subst (λ (b : List ℕ). IsRunStep c (b ∷ []) None [] new) is.bytes_are up.step)

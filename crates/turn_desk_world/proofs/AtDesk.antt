@@ -10,6 +10,7 @@ use Rattle.turn_desk_grant.specs.declared.decision.Decision.{Decision}
 use Rattle.turn_desk_grant.specs.declared.decision.Decision.TheVariants as by
 use Rattle.turn_desk_event.specs.declared.answer.Answer.{Answer}
 use Rattle.turn_desk_event.specs.declared.answer.Answer.TheVariants as answer
+use Rattle.turn_desk_event.specs.declared.event.Event.{Event}
 use Rattle.turn_desk_steps.specs.DeskRun.{CanBeTold, IsHandled, IsReplied, desk_words}
 use Rattle.turn_desk_steps.proofs.Stepping.{desk_run}
 use Rattle.turn_desk_world.specs.Desks.{HasFourBytes, IsDeskAnswered, IsReply}
@@ -40,11 +41,11 @@ module _ (old new : World) (bytes : List ℕ) (from : SocketAddr) (now : ℕ) (d
   pub desk_step : (ret : Answer) → AreToldWhole (number_at bytes) decision → IsDeskAnswered ret old.desk bytes from now decision seed new.desk → DeskStep stun_wire desk_words (desk_call old bytes from now decision seed ret new)
   desk_step ret whole is = desk_run (desk_call old bytes from now decision seed ret new) (handled ret whole is)
 
-  -- it shows no relayed address
-  pub shows_none : (ret : Answer) → IsDeskAnswered ret old.desk bytes from now decision seed new.desk → ShowsAt (AtDesk (desk_call old bytes from now decision seed ret new)) ret
-  shows_none ret is = none ret is.reply
+  -- it shows no relayed address and no permission
+  pub shows_none : (happening : Event) (ret : Answer) → IsDeskAnswered ret old.desk bytes from now decision seed new.desk → ShowsAt (AtDesk (desk_call old bytes from now decision seed ret new)) happening ret
+  shows_none happening ret is = none ret is.reply
     where
-      none : (ret : Answer) → IsReply ret old.desk bytes from now decision seed new.desk → ShowsAt (AtDesk (desk_call old bytes from now decision seed ret new)) ret
+      none : (ret : Answer) → IsReply ret old.desk bytes from now decision seed new.desk → ShowsAt (AtDesk (desk_call old bytes from now decision seed ret new)) happening ret
       none (answer.Relayed list) is = absurd is
       none (answer.Have has) is = absurd is
       none (answer.Permissions list) is = absurd is

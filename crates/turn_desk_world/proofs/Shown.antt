@@ -19,46 +19,62 @@ use Rattle.turn_client_proto_steps.specs.RunClient.{Client}
 use Rattle.turn_client_proto_steps.proofs.Shown.{permission_held, shown_held}
 use Rattle.turn_desk_event.specs.declared.answer.Answer.{Answer}
 use Rattle.turn_desk_event.specs.declared.answer.Answer.TheVariants as answer
+use Rattle.turn_desk_event.specs.declared.event.ClientCall.TheVariants as call
 use Rattle.turn_desk_event.specs.declared.event.Event.{Event}
+use Rattle.turn_desk_event.specs.declared.event.Event.TheVariants as event
 use Rattle.turn_desk_steps.specs.DeskRun.{DeskCall}
-use Rattle.turn_desk_world.specs.Safety.{ShowsGranted, words}
+use Rattle.turn_desk_world.specs.Safety.{EachPermitted, EachShown, ShowsGranted, words}
 
 -- ---- one answer
 
--- it shows the addresses of a client with this core
-abbrev pub ShowsOf : Answer → Protocol → Type 0
-ShowsOf (answer.Relayed list) core = list.items ≡ relayed_shown core.allocations
-ShowsOf (answer.Permissions list) core =
-    (transport : TransportType) × (relayed : SocketAddr) × (list.items ≡ addresses_of (permissions_at transport relayed core.allocations))
-ShowsOf _ core = Unit {0}
+-- permissions that a call asks for are those of a client with this core
+abbrev pub ShowsCalled : Event → List IpAddr → Protocol → Type 0
+ShowsCalled (event.Call (call.Permissions transport relayed) now) ips core = ips ≡ addresses_of (permissions_at transport relayed core.allocations)
+ShowsCalled _ ips core = Unit {0}
+
+-- the answer to an event shows the addresses of a client with this core
+abbrev pub ShowsOf : Event → Answer → Protocol → Type 0
+ShowsOf happening (answer.Relayed list) core = list.items ≡ relayed_shown core.allocations
+ShowsOf happening (answer.Permissions list) core = ShowsCalled happening list.items core
+ShowsOf happening _ core = Unit {0}
 
 -- the client holds something when a step ends
 abbrev pub HoldsAfter : Held → Step Client DeskCall → Type 0
-HoldsAfter h (AtClient call) = client_words.IsHeld call.after h
+HoldsAfter h (AtClient step) = client_words.IsHeld step.after h
 HoldsAfter h (AtDesk d) = ⊥
 
--- each address in an answer is held when a step ends
-abbrev pub ShowsAt : Step Client DeskCall → Answer → Type 0
-ShowsAt one (answer.Relayed list) = (transport : TransportType) (address : SocketAddr) → IsIn (transport, address) list.items → HoldsAfter (Allocation transport address) one
-ShowsAt one (answer.Permissions list) = (ip : IpAddr) → IsIn ip list.items → (transport : TransportType) × HoldsAfter (Permission transport ip) one
-ShowsAt one _ = Unit {0}
+-- all that is shown is held when a step ends
+abbrev pub ShowsAt : Step Client DeskCall → Event → Answer → Type 0
+ShowsAt one happening ret = EachShown (λ (h : Held). HoldsAfter h one) happening ret
 
--- each address in an answer is held when some step of a run ends
-abbrev pub ShowsIn : List (Step Client DeskCall) → Answer → Type 0
-ShowsIn run (answer.Relayed list) =
-    (transport : TransportType) (address : SocketAddr) → IsIn (transport, address) list.items → AtSome (λ s _. HoldsAfter (Allocation transport address) s) run
-ShowsIn run (answer.Permissions list) =
-    (ip : IpAddr) → IsIn ip list.items → (transport : TransportType) × AtSome (λ s _. HoldsAfter (Permission transport ip) s) run
-ShowsIn run _ = Unit {0}
+-- all that is shown is held when some step of a run ends
+abbrev pub ShowsIn : List (Step Client DeskCall) → Event → Answer → Type 0
+ShowsIn run happening ret = EachShown (λ (h : Held). AtSome (λ s _. HoldsAfter h s) run) happening ret
 
-pub shows_held : (ret : Answer) (core : Protocol) (call : Call Client) → call.after.core ≡ core → ShowsOf ret core → ShowsAt (AtClient call) ret
-shows_held (answer.Relayed list) core call same is = λ transport address listed.
-    shown_held call.after.core.allocations transport address
+called_held : (happening : Event) (ips : List IpAddr) (core : Protocol) (step : Call Client) → step.after.core ≡ core → ShowsCalled happening ips core
+    → EachPermitted (λ (h : Held). HoldsAfter h (AtClient step)) happening ips
+called_held (event.Call (call.Permissions transport relayed) now) ips core step same is = λ ip listed.
+    permission_held step.after.core.allocations transport relayed ip
+    (subst (λ (l : List IpAddr). IsIn ip l) (is ∙ ap (λ (p : Protocol). addresses_of (permissions_at transport relayed p.allocations)) (sym same)) listed)
+called_held _ ips core step same is = tt
+
+pub shows_held : (happening : Event) (ret : Answer) (core : Protocol) (step : Call Client) → step.after.core ≡ core → ShowsOf happening ret core → ShowsAt (AtClient step) happening ret
+shows_held happening (answer.Relayed list) core step same is = λ transport address listed.
+    shown_held step.after.core.allocations transport address
     (subst (λ (l : List (TransportType × SocketAddr)). IsIn (transport, address) l) (is ∙ ap (λ (p : Protocol). relayed_shown p.allocations) (sym same)) listed)
-shows_held (answer.Permissions list) core call same is = λ ip listed.
-    permission_held call.after.core.allocations is.0 is.1 ip
-    (subst (λ (l : List IpAddr). IsIn ip l) (is.2 ∙ ap (λ (p : Protocol). addresses_of (permissions_at is.0 is.1 p.allocations)) (sym same)) listed)
-shows_held _ core call same is = tt
+shows_held happening (answer.Permissions list) core step same is = called_held happening list.items core step same is
+shows_held happening _ core step same is = tt
+
+-- ---- what follows of each
+
+each_permitted : (P Q : Held → Type 0) → ((h : Held) → P h → Q h) → (happening : Event) (ips : List IpAddr) → EachPermitted P happening ips → EachPermitted Q happening ips
+each_permitted P Q f (event.Call (call.Permissions transport relayed) now) ips is = λ ip listed. f (Permission transport ip) (is ip listed)
+each_permitted P Q f _ ips is = tt
+
+each_shown : (P Q : Held → Type 0) → ((h : Held) → P h → Q h) → (happening : Event) (ret : Answer) → EachShown P happening ret → EachShown Q happening ret
+each_shown P Q f happening (answer.Relayed list) is = λ transport address listed. f (Allocation transport address) (is transport address listed)
+each_shown P Q f happening (answer.Permissions list) is = each_permitted P Q f happening list.items is
+each_shown P Q f happening _ is = tt
 
 -- ---- in a run
 
@@ -70,26 +86,24 @@ at_front : {S : Type 0} (P : S → Type 0) (one : S) (later : List S) → AtSome
 at_front P one [] some = absurd some
 at_front P one (s ∷ later) some = elim some [ inl is ↦ inl is | inr rest ↦ inr (at_front P one later rest) ]
 
-pub shows_last : (one : Step Client DeskCall) (later : List (Step Client DeskCall)) (ret : Answer) → ShowsAt one ret → ShowsIn (later ++ one ∷ []) ret
-shows_last one later (answer.Relayed list) is = λ transport address listed. at_last (HoldsAfter (Allocation transport address)) one later (is transport address listed)
-shows_last one later (answer.Permissions list) is = λ ip listed. let h = is ip listed in (h.0, at_last (HoldsAfter (Permission h.0 ip)) one later h.1)
-shows_last one later _ is = tt
+pub shows_last : (one : Step Client DeskCall) (later : List (Step Client DeskCall)) (happening : Event) (ret : Answer) → ShowsAt one happening ret → ShowsIn (later ++ one ∷ []) happening ret
+shows_last one later happening ret is =
+    each_shown (λ (h : Held). HoldsAfter h one) (λ (h : Held). AtSome (λ s _. HoldsAfter h s) (later ++ one ∷ [])) (λ h held. at_last (HoldsAfter h) one later held) happening ret is
 
-shows_front : (one : Step Client DeskCall) (later : List (Step Client DeskCall)) (ret : Answer) → ShowsIn later ret → ShowsIn (later ++ one ∷ []) ret
-shows_front one later (answer.Relayed list) is = λ transport address listed. at_front (HoldsAfter (Allocation transport address)) one later (is transport address listed)
-shows_front one later (answer.Permissions list) is = λ ip listed. let h = is ip listed in (h.0, at_front (HoldsAfter (Permission h.0 ip)) one later h.1)
-shows_front one later _ is = tt
+shows_front : (one : Step Client DeskCall) (later : List (Step Client DeskCall)) (happening : Event) (ret : Answer) → ShowsIn later happening ret → ShowsIn (later ++ one ∷ []) happening ret
+shows_front one later happening ret is =
+    each_shown (λ (h : Held). AtSome (λ s _. HoldsAfter h s) later) (λ (h : Held). AtSome (λ s _. HoldsAfter h s) (later ++ one ∷ [])) (λ h held. at_front (HoldsAfter h) one later held) happening ret is
 
-pub all_front : (one : Step Client DeskCall) (later : List (Step Client DeskCall)) (pairs : List (Event × Answer)) → AllByRecursion (λ (pair : Event × Answer). ShowsIn later pair.1) pairs
-    → AllByRecursion (λ (pair : Event × Answer). ShowsIn (later ++ one ∷ []) pair.1) pairs
+pub all_front : (one : Step Client DeskCall) (later : List (Step Client DeskCall)) (pairs : List (Event × Answer)) → AllByRecursion (λ (pair : Event × Answer). ShowsIn later pair.0 pair.1) pairs
+    → AllByRecursion (λ (pair : Event × Answer). ShowsIn (later ++ one ∷ []) pair.0 pair.1) pairs
 all_front one later [] all = tt
-all_front one later (pair ∷ pairs) all = (shows_front one later pair.1 all.0, all_front one later pairs all.1)
+all_front one later (pair ∷ pairs) all = (shows_front one later pair.0 pair.1 all.0, all_front one later pairs all.1)
 
 -- ---- what is held was granted
 
 module _ (first last : Client) where
   holds_traced : (h : Held) (s : Step Client DeskCall) (earlier : List (Step Client DeskCall)) → IsSafe words first last s earlier → HoldsAfter h s → Traced words (s ∷ earlier) h
-  holds_traced h (AtClient call) earlier safe is = safe.holds h is
+  holds_traced h (AtClient step) earlier safe is = safe.holds h is
   holds_traced h (AtDesk d) earlier safe is = absurd is
 
   traced : (h : Held) (run : List (Step Client DeskCall)) → AtEach (IsSafe words first last) run → AtSome (λ s _. HoldsAfter h s) run → Traced words run h
@@ -99,12 +113,11 @@ module _ (first last : Client) where
     | inr rest ↦ traced_later words lawful s earlier h (traced h earlier safe.1 rest)
   ]
 
-  shows_granted : (run : List (Step Client DeskCall)) (ret : Answer) → AtEach (IsSafe words first last) run → ShowsIn run ret → ShowsGranted run ret
-  shows_granted run (answer.Relayed list) safe is = λ transport address listed. traced (Allocation transport address) run safe (is transport address listed)
-  shows_granted run (answer.Permissions list) safe is = λ ip listed. let h = is ip listed in (h.0, traced (Permission h.0 ip) run safe h.1)
-  shows_granted run _ safe is = tt
+  shows_granted : (run : List (Step Client DeskCall)) (happening : Event) (ret : Answer) → AtEach (IsSafe words first last) run → ShowsIn run happening ret → ShowsGranted run happening ret
+  shows_granted run happening ret safe is =
+      each_shown (λ (h : Held). AtSome (λ s _. HoldsAfter h s) run) (Traced words run) (λ h held. traced h run safe held) happening ret is
 
-  pub all_granted : (run : List (Step Client DeskCall)) (pairs : List (Event × Answer)) → AtEach (IsSafe words first last) run → AllByRecursion (λ (pair : Event × Answer). ShowsIn run pair.1) pairs
-      → AllByRecursion (λ (pair : Event × Answer). ShowsGranted run pair.1) pairs
+  pub all_granted : (run : List (Step Client DeskCall)) (pairs : List (Event × Answer)) → AtEach (IsSafe words first last) run → AllByRecursion (λ (pair : Event × Answer). ShowsIn run pair.0 pair.1) pairs
+      → AllByRecursion (λ (pair : Event × Answer). ShowsGranted run pair.0 pair.1) pairs
   all_granted run [] safe all = tt
-  all_granted run (pair ∷ pairs) safe all = (shows_granted run pair.1 safe all.0, all_granted run pairs safe all.1)
+  all_granted run (pair ∷ pairs) safe all = (shows_granted run pair.0 pair.1 safe all.0, all_granted run pairs safe all.1)

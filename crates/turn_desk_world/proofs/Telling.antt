@@ -33,40 +33,34 @@ record IsOne (event : Event) (ret : Answer) (c : Client) (old new : World) : Typ
   sound : IsSound after
   leads : Leads c (one ∷ []) after
   lawful : IsLawful words one
-  shown : ShowsAt one ret
-
--- what the client came to by an answer
-record Came (c : Client) (came : List (List ℕ)) (ret : Answer) (new : World) : Type 0 where
-  core : Protocol
-  left : new.client ≡ Some core
-  answered : IsAnswered c came ret core
+  shown : ShowsAt one event ret
 
 inside : {A : Type 0} {a b : A} → Some a ≡ Some b → a ≡ b
 inside p = Prim.cc p
 
-module _ (c : Client) (sound : IsSound c) (came : List (List ℕ)) (ret : Answer) where
-  out_of_range : (new : Protocol) → (ret ≡ OutOfRange) × (new ≡ c.core) → IsAnswered c came ret new
+module _ (event : Event) (c : Client) (sound : IsSound c) (came : List (List ℕ)) (ret : Answer) where
+  out_of_range : (new : Protocol) → (ret ≡ OutOfRange) × (new ≡ c.core) → IsAnswered event c came ret new
   out_of_range new is =
-      subst (λ (r : Answer). IsAnswered c came r new) (sym is.0) (record { step = still c came new sound is.1; no_payload = refl; shows = tt })
+      subst (λ (r : Answer). IsAnswered event c came r new) (sym is.0) (record { step = still c came new sound is.1; no_payload = refl; shows = tt })
 
-  in_range : (now : ℕ) (Does : Protocol → Protocol → Type 0) (new : Protocol) → ((q : Protocol) → Does c.core q → IsAnswered c came ret q) → IsInRange now Does c.core ret new → IsAnswered c came ret new
+  in_range : (now : ℕ) (Does : Protocol → Protocol → Type 0) (new : Protocol) → ((q : Protocol) → Does c.core q → IsAnswered event c came ret q) → IsInRange now Does c.core ret new → IsAnswered event c came ret new
   unfolding IsInRange
   in_range now Does new f h =
       by_test (is_in_range now)
       (λ (_ : is_in_range now ≡ true) is. f new is)
       (λ (_ : is_in_range now ≡ false) is. out_of_range new is) h
 
-  at_client : (now : ℕ) (Does : Protocol → Protocol → Type 0) (before left : Option Protocol) → before ≡ Some c.core → ((q : Protocol) → Does c.core q → IsAnswered c came ret q)
-      → IsAtClient now Does before ret left → (core : Protocol) × (left ≡ Some core) × IsAnswered c came ret core
+  at_client : (now : ℕ) (Does : Protocol → Protocol → Type 0) (before left : Option Protocol) → before ≡ Some c.core → ((q : Protocol) → Does c.core q → IsAnswered event c came ret q)
+      → IsAtClient now Does before ret left → (core : Protocol) × (left ≡ Some core) × IsAnswered event c came ret core
   unfolding IsAtClient
   at_client now Does None left is f h = absurd (Prim.cc is)
   at_client now Does (Some p) None is f h = absurd h
   at_client now Does (Some p) (Some q) is f h = (q, refl, in_range now Does q f (subst (λ (x : Protocol). IsInRange now Does x ret q) (inside is) h))
 
   -- so it is a step
-  client_step : (event : Event) (old new : World) → old.client ≡ Some c.core → ((one : _) → IsCallOf old new came ret one → IsStepBy event ret old (AtClient one) new)
-      → (core : Protocol) × (new.client ≡ Some core) × IsAnswered c came ret core → IsOne event ret c old new
-  client_step event old new held by h =
+  client_step : (old new : World) → old.client ≡ Some c.core → ((one : _) → IsCallOf old new came ret one → IsStepBy event ret old (AtClient one) new)
+      → (core : Protocol) × (new.client ≡ Some core) × IsAnswered event c came ret core → IsOne event ret c old new
+  client_step old new held by h =
       let step = h.2.step in
       let left : new.client ≡ Some step.after.core = h.1 ∙ ap (λ (p : Protocol). Some p) (sym step.core_is) in
       record {
@@ -85,19 +79,19 @@ module _ (c : Client) (sound : IsSound c) (came : List (List ℕ)) (ret : Answer
         sound = step.sound;
         leads = (refl, refl);
         lawful = step.step;
-        shown = shows_held ret h.0 (call_of c came (bytes_sent ret) (notices_in ret) step.after) step.core_is h.2.shows;
+        shown = shows_held event ret h.0 (call_of c came (bytes_sent ret) (notices_in ret) step.after) step.core_is h.2.shows;
       }
 
 by_event : (event : Event) (ret : Answer) (c : Client) (old new : World) → IsSound c → old.client ≡ Some c.core → IsFairEvent event → IsStep event old ret new → IsOne event ret c old new
 by_event (Call call now) ret c old new sound held fair is =
-    client_step c sound [] ret (Call call now) old new held (λ one h. h)
-    (at_client c sound [] ret now _ old.client new.client held (λ q h. called c sound now q call ret h) is.0)
+    client_step (Call call now) c sound [] ret old new held (λ one h. h)
+    (at_client (Call call now) c sound [] ret now _ old.client new.client held (λ q h. called c sound now q call ret h) is.0)
 by_event (Draw now) ret c old new sound held fair is =
-    client_step c sound [] ret (Draw now) old new held (λ one h. h)
-    (at_client c sound [] ret now _ old.client new.client held (λ q h. drawn c sound now q ret h) is.0)
+    client_step (Draw now) c sound [] ret old new held (λ one h. h)
+    (at_client (Draw now) c sound [] ret now _ old.client new.client held (λ q h. drawn (Draw now) c sound now q ret h) is.0)
 by_event (ToClient bytes from to now) ret c old new sound held fair is =
-    client_step c sound (bytes.items ∷ []) ret (ToClient bytes from to now) old new held (λ one h. h)
-    (at_client c sound (bytes.items ∷ []) ret now _ old.client new.client held (λ q h. fed c sound ret bytes.items from to now q h) is.0)
+    client_step (ToClient bytes from to now) c sound (bytes.items ∷ []) ret old new held (λ one h. h)
+    (at_client (ToClient bytes from to now) c sound (bytes.items ∷ []) ret now _ old.client new.client held (λ q h. fed (ToClient bytes from to now) c sound ret bytes.items from to now q h) is.0)
 by_event (ToDesk bytes from now decision seed) ret c old new sound held fair is = record {
   one = AtDesk (desk_call old bytes.items from now decision seed ret new);
   told = refl;
@@ -106,7 +100,7 @@ by_event (ToDesk bytes from now decision seed) ret c old new sound held fair is 
   sound = sound;
   leads = refl;
   lawful = desk_step old new bytes.items from now decision seed ret fair is.0;
-  shown = shows_none old new bytes.items from now decision seed ret is.0;
+  shown = shows_none old new bytes.items from now decision seed (ToDesk bytes from now decision seed) ret is.0;
 }
 
 -- ---- all of them
@@ -119,7 +113,7 @@ pub record AreTold (c : Client) (old : World) (pairs : List (Event × Answer)) (
   pub leads : Leads c run last
   pub lawful : AtEach (λ s _. IsLawful words s) run
   pub sound : IsSound last
-  pub shown : AllByRecursion (λ (pair : Event × Answer). ShowsIn run pair.1) pairs
+  pub shown : AllByRecursion (λ (pair : Event × Answer). ShowsIn run pair.0 pair.1) pairs
 
 pub all_told : (pairs : List (Event × Answer)) (c : Client) (old new : World) → IsSound c → old.client ≡ Some c.core → AllByRecursion IsFair pairs → IsRun old pairs new → AreTold c old pairs new
 unfolding IsRun IsToldBy
@@ -144,5 +138,5 @@ all_told (pair ∷ pairs) c old new sound held fair is =
       leads = leads_behind c one.after rest.last one.one rest.run one.leads rest.leads;
       lawful = each_behind (λ s. IsLawful words s) one.one rest.run one.lawful rest.lawful;
       sound = rest.sound;
-      shown = (shows_last one.one rest.run pair.1 one.shown, all_front one.one rest.run pairs rest.shown);
+      shown = (shows_last one.one rest.run pair.0 pair.1 one.shown, all_front one.one rest.run pairs rest.shown);
     }

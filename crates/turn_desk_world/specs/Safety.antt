@@ -7,7 +7,7 @@ use Rattle.stun_types.specs.Registry.{longest_username}
 use Rattle.stun_types.specs.declared.transport.TransportType.{TransportType}
 use Rattle.turn_runs.specs.Headline.{AnswersOnce, IsSafe, Traced}
 use Rattle.turn_runs.specs.Members.{IsIn}
-use Rattle.turn_runs.specs.Messages.{Allocation, Permission}
+use Rattle.turn_runs.specs.Messages.{Held, Allocation, Permission}
 use Rattle.turn_runs.specs.Runs.{Step, AreDistinct, AtEach, IsLawful, Leads, NoForgery}
 use Rattle.turn_runs.specs.Words.{Words}
 use Rattle.turn_client_proto.specs.Beginning.{IsNew}
@@ -19,7 +19,9 @@ use Rattle.turn_client_proto_steps.specs.RunClient.{Client}
 use Rattle.turn_client_proto_steps.specs.Sound.{IsSound}
 use Rattle.turn_desk_event.specs.declared.answer.Answer.{Answer}
 use Rattle.turn_desk_event.specs.declared.answer.Answer.TheVariants as answer
+use Rattle.turn_desk_event.specs.declared.event.ClientCall.TheVariants as call
 use Rattle.turn_desk_event.specs.declared.event.Event.{Event}
+use Rattle.turn_desk_event.specs.declared.event.Event.TheVariants as event
 use Rattle.turn_desk_steps.specs.DeskRun.{DeskCall, desk_words}
 use Rattle.turn_desk_world.specs.Model.{World}
 use Rattle.turn_desk_world.specs.Told.{IsFair, IsToldBy}
@@ -35,14 +37,21 @@ pub record BeginsNew (transport : TransportType) (here server : SocketAddr) (con
   pub short : length config.credentials.username ≤ longest_username
   pub few : length config.families ≤ 2
 
--- each relayed address in an answer was granted by the desk, in answer to a request that the client drew; and so was each
--- permission, over some transport
-abbrev pub ShowsGranted : List (Step Client DeskCall) → Answer → Type 0
-ShowsGranted run (answer.Relayed list) =
-    (transport : TransportType) (address : SocketAddr) → IsIn (transport, address) list.items → Traced words run (Allocation transport address)
-ShowsGranted run (answer.Permissions list) =
-    (ip : IpAddr) → IsIn ip list.items → (transport : TransportType) × Traced words run (Permission transport ip)
-ShowsGranted run _ = Unit {0}
+-- each of the permissions that a call asks for, over the transport that it names
+abbrev pub EachPermitted : (Held → Type 0) → Event → List IpAddr → Type 0
+EachPermitted Is (event.Call (call.Permissions transport relayed) now) ips = (ip : IpAddr) → IsIn ip ips → Is (Permission transport ip)
+EachPermitted Is _ ips = Unit {0}
+
+-- each relayed address and each permission in the answer to an event
+abbrev pub EachShown : (Held → Type 0) → Event → Answer → Type 0
+EachShown Is happening (answer.Relayed list) =
+    (transport : TransportType) (address : SocketAddr) → IsIn (transport, address) list.items → Is (Allocation transport address)
+EachShown Is happening (answer.Permissions list) = EachPermitted Is happening list.items
+EachShown Is happening _ = Unit {0}
+
+-- each was granted by the desk, in answer to a request that the client drew
+abbrev pub ShowsGranted : List (Step Client DeskCall) → Event → Answer → Type 0
+ShowsGranted run happening answer = EachShown (Traced words run) happening answer
 
 -- what the answers to some events come to: each is a step of a run by the contracts, and they lead the client from one
 -- state to another; and where nothing that arrives was forged under a key of the client's, and no number is drawn twice,
@@ -60,7 +69,7 @@ pub record AreSafe (first : Client) (old : World) (pairs : List (Event × Answer
   pub safe : NoForgery words first last.drawn run → AreDistinct words first.seed last.drawn → AtEach (IsSafe words first last) run
   pub once : NoForgery words first last.drawn run → AreDistinct words first.seed last.drawn → AnswersOnce words run
   pub shown : NoForgery words first last.drawn run → AreDistinct words first.seed last.drawn
-      → AllByRecursion (λ (pair : Event × Answer). ShowsGranted run pair.1) pairs
+      → AllByRecursion (λ (pair : Event × Answer). ShowsGranted run pair.0 pair.1) pairs
 
 -- the same, of each client that begins new in that world
 abbrev pub IsSafeRun : World → List (Event × Answer) → World → Type 0
