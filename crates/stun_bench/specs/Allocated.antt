@@ -31,16 +31,6 @@ granted_type = type_of Success allocate_method
 abbrev pub shows_kind : ℕ → List ℕ → Bool
 shows_kind kind bytes = is_some (find (λ a. a.kind == kind) (shown bytes))
 
--- a message shows the two addresses and the LIFETIME of an allocation
-abbrev pub ShowsAllocated : List ℕ → Type 0
-ShowsAllocated bytes = IsTrue (shows_kind xor_relayed_address_kind bytes) × IsTrue (shows_kind lifetime_kind bytes)
-    × IsTrue (shows_kind xor_mapped_address_kind bytes)
-
--- a message shows SOFTWARE, MESSAGE-INTEGRITY and FINGERPRINT
-abbrev pub ShowsEnd : List ℕ → Type 0
-ShowsEnd bytes = IsTrue (shows_kind software_kind bytes) × IsTrue (shows_kind integrity_kind bytes)
-    × IsTrue (shows_kind fingerprint_kind bytes)
-
 -- the first attribute of this type that a message shows tells this address of IPv4
 abbrev pub TellsAddress : ℕ → List ℕ → SocketAddrV4 → Type 0
 TellsAddress kind bytes addr =

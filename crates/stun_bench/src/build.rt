@@ -1,16 +1,18 @@
 //! The building and the signing of a response into memory of its own.
 
-ghost use Rattle.std.specs.Prelude.{◌≡◌, IfOk, IfSome};
+ghost use Rattle.std.specs.Prelude.{◌≡◌, [], IfOk};
 ghost use Rattle.stun_types.specs.IntegrityAlgorithms.{Sha1, Sha256};
 ghost use Rattle.stun_types.specs.Adding.{IsBegun};
-ghost use Rattle.stun_bench.specs.Allocated.{WritesOut, allocated_text, marked_text, signed_text};
+ghost use Rattle.stun_types.specs.Text.{message_text};
+ghost use Rattle.stun_bench.specs.Allocated.{BeginsResponse, WritesOut, allocated_text, marked_text, signed_text};
 
 use crate::allocation::Allocation;
 use crate::key::key_of_password;
 use crate::response::{add_response, mark_response, response_type};
 use std::alloc::Global;
+use stun_types::NoMemory;
 use stun_types::message::{
-    IntegrityAlgorithm, Message, MessageWriteVec, StunWriteError, TransactionId,
+    IntegrityAlgorithm, IntegrityKey, Message, MessageType, MessageWriteVec, TransactionId,
 };
 use stun_types::prelude::MessageWriteExt;
 
@@ -30,8 +32,12 @@ pub extern "C" fn stun_bench_build(
 ) -> usize
     ensures { WritesOut (allocated_text told.now number software.now) out.old out.new result }
 {
-    match build(alloc, told, number, software) {
-        Ok(writer) => copy_out(writer.as_slice(), out),
+    match begin(alloc, response_type(), number) {
+        Ok(mut writer) => {
+            let size = build(&mut writer, told, number, software, out);
+            drop(writer);
+            size
+        }
         Err(_) => 0,
     }
 }
@@ -51,10 +57,7 @@ pub extern "C" fn stun_bench_sign_sha1(
         (signed_text Sha1 password.now told.now number software.now) out.old out.new result }
 {
     let algorithm = IntegrityAlgorithm::Sha1;
-    match sign(alloc, password, algorithm, told, number, software) {
-        Some(writer) => copy_out(writer.as_slice(), out),
-        None => 0,
-    }
+    sign(alloc, password, algorithm, told, number, software, out)
 }
 
 /// The same with a MESSAGE-INTEGRITY-SHA256.
@@ -71,10 +74,7 @@ pub extern "C" fn stun_bench_sign_sha256(
         (signed_text Sha256 password.now told.now number software.now) out.old out.new result }
 {
     let algorithm = IntegrityAlgorithm::Sha256;
-    match sign(alloc, password, algorithm, told, number, software) {
-        Some(writer) => copy_out(writer.as_slice(), out),
-        None => 0,
-    }
+    sign(alloc, password, algorithm, told, number, software, out)
 }
 
 /// Writes the same response with a MESSAGE-INTEGRITY and a FINGERPRINT at its end, six attributes.
@@ -91,10 +91,16 @@ pub extern "C" fn stun_bench_mark_sha1(
     ensures { WritesOut
         (marked_text Sha1 password.now told.now number software.now) out.old out.new result }
 {
-    let algorithm = IntegrityAlgorithm::Sha1;
-    match mark(alloc, password, algorithm, told, number, software) {
-        Some(writer) => copy_out(writer.as_slice(), out),
-        None => 0,
+    let Some(key) = key_of_password(password, IntegrityAlgorithm::Sha1) else {
+        return 0;
+    };
+    match begin(alloc, response_type(), number) {
+        Ok(mut writer) => {
+            let size = mark(&mut writer, &key, told, number, software, out);
+            drop(writer);
+            size
+        }
+        Err(_) => 0,
     }
 }
 
@@ -111,26 +117,8 @@ pub(crate) fn copy_out(text: &[u8], out: &mut [u8]) -> usize
     text.len()
 }
 
-/// The signed response with its FINGERPRINT, in a writer. None where `sign` answers none.
-fn mark(
-    alloc: Global,
-    password: &[u8],
-    algorithm: IntegrityAlgorithm,
-    told: &Allocation,
-    number: u64,
-    software: &[u8],
-) -> Option<MessageWriteVec>
-    ensures { IfSome result (λ writer. writer.bytes
-        ≡ marked_text algorithm password.now told.now number software.now) }
-{
-    let key = key_of_password(password, algorithm)?;
-    let mut writer = build(alloc, told, number, software).ok()?;
-    mark_response(&mut writer, &key).ok()?;
-    Some(writer)
-}
-
-/// The signed response, in a writer. None where the password is not UTF-8, where SOFTWARE has more
-/// than 763 bytes, and where memory is refused.
+/// Writes the signed response to the front of `out`, under the key that a password makes for an algorithm.
+/// Answers how many bytes it has; 0, with nothing written, where `stun_bench_sign_sha1` does.
 fn sign(
     alloc: Global,
     password: &[u8],
@@ -138,32 +126,102 @@ fn sign(
     told: &Allocation,
     number: u64,
     software: &[u8],
-) -> Option<MessageWriteVec>
-    ensures { IfSome result (λ writer. writer.bytes
-        ≡ signed_text algorithm password.now told.now number software.now) }
+    out: &mut [u8],
+) -> usize
+    ensures { WritesOut
+        (signed_text algorithm password.now told.now number software.now) out.old out.new result }
 {
-    let key = key_of_password(password, algorithm)?;
-    let mut writer = build(alloc, told, number, software).ok()?;
-    writer.add_message_integrity_with_key(&key, algorithm).ok()?;
-    Some(writer)
+    let Some(key) = key_of_password(password, algorithm) else {
+        return 0;
+    };
+    match begin(alloc, response_type(), number) {
+        Ok(mut writer) => {
+            let size = add_signed(&mut writer, &key, told, number, software, out);
+            drop(writer);
+            size
+        }
+        Err(_) => 0,
+    }
 }
 
-/// The response, in a writer. Refused as `add_response` is, and with `NoMemory` where memory is. It is
-/// part of each function that calls it, so that the writer is moved no oftener than a caller would.
-#[inline(always)]
+/// Adds what the response shows to one that was begun, and writes it to the front of `out`. Answers how
+/// many bytes it has; 0, with nothing written, where an add is refused, and where `out` has not the room.
 fn build(
-    alloc: Global,
+    writer: &mut MessageWriteVec,
     told: &Allocation,
     number: u64,
     software: &[u8],
-) -> Result<MessageWriteVec, StunWriteError>
-    ensures text { IfOk result (λ writer. writer.bytes
-        ≡ allocated_text told.now number software.now) }
+    out: &mut [u8],
+) -> usize
+    requires begun { BeginsResponse number writer.old.bytes }
+    ensures { WritesOut (allocated_text told.now number software.now) out.old out.new result }
+{
+    match add_response(writer, told, number, software) {
+        Ok(()) => copy_out(writer.as_slice(), out),
+        Err(_) => 0,
+    }
+}
+
+/// The same of the response that is signed under a key.
+fn add_signed(
+    writer: &mut MessageWriteVec,
+    key: &IntegrityKey<'_>,
+    told: &Allocation,
+    number: u64,
+    software: &[u8],
+    out: &mut [u8],
+) -> usize
+    requires begun { BeginsResponse number writer.old.bytes }
+    ensures { WritesOut
+        (signed_text key.now.algorithm key.now.bytes told.now number software.now)
+        out.old out.new result }
+{
+    if add_response(writer, told, number, software).is_err() {
+        return 0;
+    }
+    match writer.add_message_integrity_with_key(key, key.algorithm()) {
+        Ok(()) => copy_out(writer.as_slice(), out),
+        Err(_) => 0,
+    }
+}
+
+/// The same of the response that is signed under a key, and shows a FINGERPRINT.
+fn mark(
+    writer: &mut MessageWriteVec,
+    key: &IntegrityKey<'_>,
+    told: &Allocation,
+    number: u64,
+    software: &[u8],
+    out: &mut [u8],
+) -> usize
+    requires begun { BeginsResponse number writer.old.bytes }
+    ensures { WritesOut
+        (marked_text key.now.algorithm key.now.bytes told.now number software.now)
+        out.old out.new result }
+{
+    if add_response(writer, told, number, software).is_err() {
+        return 0;
+    }
+    match mark_response(writer, key) {
+        Ok(()) => copy_out(writer.as_slice(), out),
+        Err(_) => 0,
+    }
+}
+
+/// The message of this type and number, begun in a writer. Refused where memory is. It is part of each
+/// function that calls it, so that the writer is moved no oftener than a caller would.
+#[inline(always)]
+pub(crate) fn begin(
+    alloc: Global,
+    mtype: MessageType,
+    number: u64,
+) -> Result<MessageWriteVec, NoMemory>
+    ensures text { IfOk result (λ writer. writer.bytes ≡ message_text mtype number []) }
     ensures begun { IfOk result (λ writer. IsBegun writer.bytes) }
 {
-    let transaction = TransactionId::from(u128::from(number));
-    let writer = MessageWriteVec::with_capacity(alloc, ROOM)?;
-    let mut writer = Message::builder(response_type(), transaction, writer)?;
-    add_response(&mut writer, told, number, software)?;
-    Ok(writer)
+    let number = TransactionId::from(u128::from(number));
+    match MessageWriteVec::with_capacity(alloc, ROOM) {
+        Ok(writer) => Message::builder(mtype, number, writer),
+        Err(NoMemory) => Err(NoMemory),
+    }
 }

@@ -18,7 +18,11 @@ pub extern "C" fn stun_bench_check_types(alloc: Global, bytes: &[u8], out: &mut 
     ensures { WritesOut (unknown_text bytes.now) out.old out.new result }
 {
     match objection_to(alloc, bytes) {
-        Some(reply) => copy_out(reply.as_slice(), out),
+        Some(reply) => {
+            let size = copy_out(reply.as_slice(), out);
+            drop(reply);
+            size
+        }
         None => 0,
     }
 }
@@ -32,6 +36,8 @@ fn objection_to(alloc: Global, bytes: &[u8]) -> Option<MessageWriteVec>
     if !message.has_class(MessageClass::Request) {
         return None;
     }
-    let writer = MessageWriteVec::new(alloc);
-    Message::check_attribute_types(alloc, &message, &[], &[], writer).ok()?
+    match Message::check_attribute_types(alloc, &message, &[], &[], MessageWriteVec::new(alloc)) {
+        Ok(answered) => answered,
+        Err(_) => None,
+    }
 }

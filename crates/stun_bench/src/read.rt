@@ -6,7 +6,7 @@ ghost use Rattle.std.specs.declared.net.socket_addr.SocketAddr.TheVariants.{V4};
 ghost use Rattle.std.specs.declared.net.socket_addr.SocketAddrV4.{SocketAddrV4 as AddrV4};
 ghost use Rattle.stun_types.specs.Grammar.{IsMessage};
 ghost use Rattle.stun_bench.specs.declared.allocation.Allocation.{Allocation as Told};
-ghost use Rattle.stun_bench.specs.Allocated.{Tells, TellsAddress, ShowsAllocated, ShowsEnd, TellsLifetime, shows_kind};
+ghost use Rattle.stun_bench.specs.Allocated.{Tells, TellsAddress, TellsLifetime, shows_kind};
 ghost use Rattle.stun_types.specs.Registry.{fingerprint_kind, xor_mapped_address_kind};
 ghost use Rattle.turn_types.specs.TurnRegistry.{xor_relayed_address_kind};
 
@@ -37,37 +37,6 @@ pub extern "C" fn stun_bench_shows(bytes: &[u8], atypes: &[u16]) -> bool
         return false;
     };
     shows_each(&message, atypes)
-}
-
-/// Whether bytes are a message that shows the six attributes of a signed success response to an
-/// ALLOCATE, FINGERPRINT among them: a look-up of each.
-#[unsafe(no_mangle)]
-pub extern "C" fn stun_bench_look_up(bytes: &[u8]) -> bool
-    ensures { IsTrue result ↔ (IsMessage bytes.now × ShowsAllocated bytes.now
-        × ShowsEnd bytes.now) }
-{
-    match Message::from_bytes(bytes) {
-        Ok(message) => shows_allocated(&message) && shows_end(&message),
-        Err(_) => false,
-    }
-}
-
-/// Whether a message shows the two addresses and the LIFETIME.
-fn shows_allocated(message: &Message) -> bool
-    ensures { IsTrue result ↔ ShowsAllocated message.now }
-{
-    message.has_attribute(XorRelayedAddress::TYPE)
-        && message.has_attribute(Lifetime::TYPE)
-        && message.has_attribute(XorMappedAddress::TYPE)
-}
-
-/// Whether a message shows SOFTWARE, MESSAGE-INTEGRITY and FINGERPRINT.
-fn shows_end(message: &Message) -> bool
-    ensures { IsTrue result ↔ ShowsEnd message.now }
-{
-    message.has_attribute(SOFTWARE)
-        && message.has_attribute(MessageIntegrity::TYPE)
-        && message.has_attribute(FINGERPRINT)
 }
 
 /// Reads what the success response to an ALLOCATE tells, by a look-up of each attribute that it may

@@ -2,13 +2,15 @@
 
 ghost use Rattle.std.specs.Prelude.{◌≡◌, [], OnOk};
 ghost use Rattle.stun_types.specs.Text.{message_text};
-ghost use Rattle.stun_types.specs.Adding.{IsBegun};
+ghost use Rattle.stun_types.specs.Adding.{IsBegun, attr_of};
+ghost use Rattle.stun_types.specs.Outcomes.{IsAdded};
 ghost use Rattle.stun_types.specs.Addresses.{address_value};
+ghost use Rattle.stun_types.specs.Shape.{rank};
 ghost use Rattle.stun_bench.specs.Allocated.{granted_type, IsMarked, allocated_text, place_value};
 
 use crate::allocation::Allocation;
 use std::net::{Ipv4Addr, SocketAddr, SocketAddrV4};
-use stun_types::attribute::{RawAttribute, XorMappedAddress};
+use stun_types::attribute::{AttributeType, RawAttribute, XorMappedAddress};
 use stun_types::message::{
     IntegrityKey, MessageClass, MessageType, Method, StunWriteError, TransactionId, add_as,
 };
@@ -38,21 +40,38 @@ pub(crate) fn add_response<W: MessageWrite>(
         → (W.draft writer.new).bytes ≡ allocated_text told.now number software.now) }
     ensures begun { OnOk result (IsBegun (W.draft writer.new).bytes) }
 {
-    if software.len() > registry::MAX_SOFTWARE_LENGTH {
-        return Err(StunWriteError::TooLarge {
-            expected: registry::MAX_SOFTWARE_LENGTH,
-            actual: software.len(),
-        });
-    }
     let number = TransactionId::from(u128::from(number));
     let relayed = XorRelayedAddress::new(address(told.relayed_ip, told.relayed_port), number);
     let lifetime = Lifetime::new(told.lifetime);
     let mapped = XorMappedAddress::new(address(told.mapped_ip, told.mapped_port), number);
-    let software = RawAttribute::new(registry::SOFTWARE, software);
     add_as(writer, &relayed, &relayed)?;
     add_as(writer, &lifetime, &lifetime)?;
     add_as(writer, &mapped, &mapped)?;
-    add_as(writer, &software, &software)
+    add_text(writer, registry::SOFTWARE, software)
+}
+
+/// Adds the attribute of a type that ends no message, and a text. Refused with `TooLarge` where the text
+/// has more than 763 bytes, and as an add is.
+pub(crate) fn add_text<W: MessageWrite>(
+    writer: &mut W,
+    atype: AttributeType,
+    text: &[u8],
+) -> Result<(), StunWriteError>
+    requires begun { IsBegun (W.draft writer.old).bytes }
+    requires ordinary { rank atype.0 ≡ 0 }
+    ensures { OnOk result (IsAdded (attr_of atype.0 text.now)
+        (W.draft writer.old) (W.draft writer.new)) }
+{
+    if text.len() > registry::MAX_TEXT_LENGTH {
+        return Err(StunWriteError::TooLarge {
+            expected: registry::MAX_TEXT_LENGTH,
+            actual: text.len(),
+        });
+    }
+    let raw = RawAttribute::new(atype, text);
+    let added = add_as(writer, &raw, &raw);
+    drop(raw);
+    added
 }
 
 /// Adds the MESSAGE-INTEGRITY under a key to the response, or the MESSAGE-INTEGRITY-SHA256, and its

@@ -48,20 +48,40 @@ pub extern "C" fn stun_bench_write_channel(id: u16, payload: &[u8], out: &mut [u
 /// piece. Answers how many there were. What is answered is compared with the frames by `bench.c`.
 #[unsafe(no_mangle)]
 pub extern "C" fn stun_bench_feed(alloc: Global, bytes: &[u8], size: usize) -> usize {
-    let server = SocketAddr::V4(SocketAddrV4::new(Ipv4Addr::new(10, 0, 0, 2), 3478));
     let mut buffer = TurnTcpBuffer::new(alloc);
+    let frames = feed(&mut buffer, bytes, size);
+    drop(buffer);
+    frames
+}
+
+/// Feeds a buffer a stream in pieces of so many bytes. Answers how many frames it gave.
+fn feed(buffer: &mut TurnTcpBuffer, bytes: &[u8], size: usize) -> usize {
     let mut frames = 0usize;
     for piece in bytes.chunks(size.max(1)) {
-        let transmit = Transmit::new(piece, TransportType::Tcp, server, server);
-        match buffer.incoming_tcp(transmit) {
-            None | Some(IncomingTcp::NoMemory(_)) => {}
-            Some(_) => frames = frames.saturating_add(1),
-        }
-        for _ in 0..bytes.len() {
-            match buffer.poll_recv() {
-                Ok(Some(_)) => frames = frames.saturating_add(1),
-                Ok(None) | Err(_) => break,
-            }
+        frames = frames
+            .saturating_add(feed_piece(buffer, piece))
+            .saturating_add(take_waiting(buffer, bytes.len()));
+    }
+    frames
+}
+
+/// Feeds a buffer a piece. Answers how many frames that gave: one, or none.
+fn feed_piece(buffer: &mut TurnTcpBuffer, piece: &[u8]) -> usize {
+    let server = SocketAddr::V4(SocketAddrV4::new(Ipv4Addr::new(10, 0, 0, 2), 3478));
+    let transmit = Transmit::new(piece, TransportType::Tcp, server, server);
+    match buffer.incoming_tcp(transmit) {
+        None | Some(IncomingTcp::NoMemory(_)) => 0,
+        Some(_) => 1,
+    }
+}
+
+/// Takes the frames that wait in a buffer, so many at most. Answers how many there were.
+fn take_waiting(buffer: &mut TurnTcpBuffer, most: usize) -> usize {
+    let mut frames = 0usize;
+    for _ in 0..most {
+        match buffer.poll_recv() {
+            Ok(Some(_)) => frames = frames.saturating_add(1),
+            Ok(None) | Err(_) => break,
         }
     }
     frames

@@ -10,13 +10,13 @@ use Rattle.std.specs.Option.{option_map}
 use Rattle.std.specs.Ordering.{nat_cmp}
 use Rattle.std.specs.declared.net.socket_addr.SocketAddr.{SocketAddr}
 use Rattle.stun_types_base.proofs.MapView.{get-finite_map, insert-finite_map, remove-finite_map}
-use Rattle.stun_types.specs.SocketAddrs.{socket_addr_cmp, socket_addr_cmp_total, socket_addr_cmp-IsAntisymmetric}
+use Rattle.stun_proto_transaction.specs.SocketAddrs.{socket_addr_cmp, socket_addr_cmp_total, socket_addr_cmp-IsAntisymmetric}
 use Rattle.stun_proto_transaction.specs.Agents.{Transaction, changed, integrity_of, is_due, is_ended, is_over, next_moment, transmitted}
-use Rattle.stun_types.specs.IntegrityAlgorithms.{IntegrityAlgorithm}
+use Rattle.stun_proto_transaction.specs.IntegrityAlgorithms.{IntegrityAlgorithm}
 use Rattle.stun_proto_transaction.specs.declared.transaction.Change.{Change}
 use Rattle.stun_proto_agent.specs.Least.{IsLeast, IsLeastOf}
-use Rattle.stun_proto_schedule.specs.Moments.{moment_after}
-use Rattle.stun_proto_schedule.specs.Schedule.{Waits}
+use Rattle.stun_proto_transaction.specs.Moments.{moment_after}
+use Rattle.stun_proto_transaction.specs.Schedule.{Waits}
 use Rattle.stun_proto_agent.specs.Sending.{NoneDue, begun, is_due_of, kept_under}
 use Rattle.stun_proto_transaction.specs.declared.transaction.Cancelled.TheVariants.{Nothing}
 use Rattle.stun_proto_agent.specs.State.{Agent, IsNext, NoneEnded, is_tcp, longest_wait}

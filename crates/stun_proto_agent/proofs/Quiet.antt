@@ -4,9 +4,9 @@ use Rattle.std.specs.Prelude.{nat_le, nat_lt, ◌&&◌, ◌||◌, if◌then◌el
 use Rattle.std.specs.FinMap as map
 use Rattle.std.specs.List.{sum}
 use Rattle.std.proofs.lemmas.Bool.{leb-true, lt-leb}
-use Rattle.stun_proto_schedule.specs.Moments.{moment_after}
-use Rattle.stun_proto_schedule.specs.Schedule.{Waits, end_at, slot_at, transmissions, wait_at, waits_behind}
-use Rattle.stun_proto_schedule.proofs.Summing.{sum_grows, sum_more}
+use Rattle.stun_proto_transaction.specs.Moments.{moment_after}
+use Rattle.stun_proto_transaction.specs.Schedule.{Waits, end_at, slot_at, transmissions, wait_at, waits_behind}
+use Rattle.stun_proto_transaction.proofs.Summing.{sum_grows, sum_more}
 use Rattle.stun_proto_transaction.specs.Agents.{Transaction, goes_on, has_left, is_due, is_ended, is_over, next_moment, next_slot}
 use Rattle.stun_proto_agent.specs.Sending.{is_due_of}
 use Rattle.stun_proto_agent.specs.State.{Agent, IsNext, NoneEnded, is_tcp}

@@ -5,11 +5,11 @@ use Rattle.std.specs.FinMap as map
 use Rattle.std.specs.Ordering.{nat_cmp}
 use Rattle.std.specs.contracts.net.socket_addr.SocketAddr as addr
 use Rattle.std.specs.declared.net.socket_addr.SocketAddr.{SocketAddr}
-use Rattle.stun_types.specs.SocketAddrs.{socket_addr_cmp}
-use Rattle.stun_types.specs.contracts.transport.TransportType as transport
-use Rattle.stun_types.specs.declared.transport.TransportType.{TransportType}
+use Rattle.stun_proto_transaction.specs.SocketAddrs.{socket_addr_cmp}
+use Rattle.stun_proto_transaction.specs.contracts.transport.TransportType as transport
+use Rattle.stun_proto_transaction.specs.declared.transport.TransportType.{TransportType}
 use Rattle.stun_proto_transaction.specs.Agents.{Transaction}
-use Rattle.stun_proto_schedule.specs.Schedule.{Waits}
+use Rattle.stun_proto_transaction.specs.Schedule.{Waits}
 use Rattle.stun_proto_agent.specs.State.{Agent}
 use Rattle.stun_proto_transaction.specs.TransactionCodes.{transaction_code, waits_code}
 

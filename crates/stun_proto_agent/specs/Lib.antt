@@ -5,8 +5,8 @@ pub mod Codes
 pub mod Handling
 pub mod Least
 pub mod Numbers
-pub use Rattle.stun_proto_schedule.specs.Moments
-pub use Rattle.stun_proto_schedule.specs.Schedule
+pub use Rattle.stun_proto_transaction.specs.Moments
+pub use Rattle.stun_proto_transaction.specs.Schedule
 pub mod RequestLending
 pub mod Requests
 pub mod Sending

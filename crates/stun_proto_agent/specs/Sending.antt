@@ -4,11 +4,11 @@ use Rattle.std.specs.Borrow.{Bor}
 use Rattle.std.specs.FinMap as map
 use Rattle.std.specs.Option.{option_map, option_or}
 use Rattle.std.specs.declared.net.socket_addr.SocketAddr.{SocketAddr}
-use Rattle.stun_types.specs.Attributes.{kind_at}
-use Rattle.stun_types.specs.Grammar.{number_at, refusal}
-use Rattle.stun_types.specs.MessageClasses.{MessageClass, Request, Indication, Success, Error}
-use Rattle.stun_types.specs.Types.{class_of}
-use Rattle.stun_types.specs.declared.transmit.Transmit.{Transmit}
+use Rattle.stun_proto_transaction.specs.Attributes.{kind_at}
+use Rattle.stun_proto_transaction.specs.Grammar.{number_at, refusal}
+use Rattle.stun_proto_transaction.specs.MessageClasses.{MessageClass, Request, Indication, Success, Error}
+use Rattle.stun_proto_transaction.specs.Types.{class_of}
+use Rattle.stun_proto_transaction.specs.declared.transmit.Transmit.{Transmit}
 use Rattle.stun_proto_transaction.specs.Agents.{Transaction, is_due, transmitted}
 use Rattle.stun_proto_agent.specs.Least.{IsLeast}
 use Rattle.stun_proto_agent.specs.State.{Agent, is_tcp}

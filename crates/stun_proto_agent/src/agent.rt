@@ -8,7 +8,7 @@ ghost use Rattle.stun_proto_transaction.specs.Agents.{Transaction, changed, inte
 ghost use Rattle.stun_proto_agent.specs.Least.{IsLeast};
 ghost use Rattle.stun_proto_agent.specs.Sending.{NoneDue, begun, is_due_of, kept_under};
 ghost use Rattle.stun_proto_agent.specs.State.{IsNext, IsPolled, NoneEnded, is_tcp, longest_wait};
-ghost use Rattle.stun_proto_schedule.specs.Moments.{moment_after};
+ghost use Rattle.stun_proto_transaction.specs.Moments.{moment_after};
 
 use crate::outstanding::{Outstanding, change, first_due, first_ended, least_moment, transmit};
 use std::alloc::Global;
@@ -16,11 +16,11 @@ use std::collections::BTreeMap;
 use std::marker::Model;
 use std::net::SocketAddr;
 use std::time::Duration;
-use stun_proto_schedule::instant::Instant;
-use stun_proto_schedule::waits::Waits;
+use stun_proto_transaction::instant::Instant;
+use stun_proto_transaction::message::{IntegrityAlgorithm, TransactionId};
 use stun_proto_transaction::transaction::{Change, Transaction};
-use stun_types::message::{IntegrityAlgorithm, TransactionId};
-use stun_types::{NoMemory, TransportType};
+use stun_proto_transaction::waits::Waits;
+use stun_proto_transaction::{NoMemory, TransportType};
 
 /// The longest that an agent tells to wait, in seconds.
 const LONGEST_WAIT: u64 = 3600;
@@ -42,24 +42,28 @@ pub enum StunAgentPollRet {
 /// up (RFC 8489, section 6.2.1). It performs no input or output, and reads no clock: the caller sends what
 /// it answers, and tells it the moment. After each call that changes it, this loop drives it:
 ///
-/// <!-- crates/turn_tests_agent/src/driving.rt: drive -->
+/// <!-- crates/turn_tests_agent/src/driving.rt: sends_at -->
 /// ```rust
 /// for _ in 0..MOST_TURNS {
 ///     if agent.poll_transmit(now).is_some() {
-///         driven.sent.push(now.as_nanos())?;
-///         continue;
-///     }
-///     match agent.poll(now) {
-///         StunAgentPollRet::WaitUntil(next) => now = next.min(until),
-///         StunAgentPollRet::TransactionTimedOut(number)
-///         | StunAgentPollRet::TransactionCancelled(number) => driven.ended.push(number)?,
+///         let [first, rest @ ..] = left else {
+///             return false;
+///         };
+///         if first.saturating_mul(unit) != now.as_nanos() {
+///             return false;
+///         }
+///         left = rest;
+///     } else if let StunAgentPollRet::WaitUntil(next) = agent.poll(now) {
+///         now = next.min(until);
+///     } else {
+///         return false;
 ///     }
 /// }
 /// ```
 ///
-/// A program sends what `poll_transmit` gives, where this one notes the moment, and waits where this one
-/// goes to the next moment. Nothing is sent again or ended before its moment, whatever moments the
-/// caller tells. Contracts see the record `Agent` of `specs/State.antt`.
+/// A program sends what `poll_transmit` gives, where this one looks whether the moment is the expected
+/// one, and waits where this one goes to the next moment. Nothing is sent again or ended before its
+/// moment, whatever moments the caller tells. Contracts see the record `Agent` of `specs/State.antt`.
 #[derive(Debug, Drop)]
 pub struct StunAgent {
     alloc: Global,

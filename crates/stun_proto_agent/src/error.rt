@@ -1,8 +1,8 @@
 //! Why an agent refuses.
 
 use std::alloc::AllocError;
-use stun_types::NoMemory;
-use stun_types::message::{StunParseError, StunWriteError};
+use stun_proto_transaction::NoMemory;
+use stun_proto_transaction::message::{StunParseError, StunWriteError};
 use thiserror::Error;
 
 /// Why an agent refuses a call. A refused call changes nothing.

@@ -6,7 +6,7 @@ pub mod builder;
 pub mod error;
 pub mod handling;
 
-pub use stun_proto_schedule::instant;
+pub use stun_proto_transaction::instant;
 
 pub mod laws;
 mod outstanding;

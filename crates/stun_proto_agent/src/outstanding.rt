@@ -9,9 +9,9 @@ ghost use Rattle.stun_proto_transaction.specs.Agents.{changed, is_due, is_ended,
 ghost use Rattle.stun_proto_agent.specs.Least.{IsLeastOf};
 
 use std::collections::BTreeMap;
-use stun_proto_schedule::instant::Instant;
+use stun_proto_transaction::instant::Instant;
+use stun_proto_transaction::message::TransactionId;
 use stun_proto_transaction::transaction::{Change, Transaction};
-use stun_types::message::TransactionId;
 
 /// The requests that are outstanding.
 pub(crate) type Outstanding = BTreeMap<TransactionId, Transaction>;

@@ -12,9 +12,9 @@ ghost use Rattle.stun_proto_transaction.specs.declared.transaction.Change.TheVar
 use crate::agent::StunAgent;
 use std::net::SocketAddr;
 use std::time::Duration;
-use stun_proto_schedule::waits::Waits;
+use stun_proto_transaction::message::{IntegrityAlgorithm, TransactionId};
 use stun_proto_transaction::transaction::Change;
-use stun_types::message::{IntegrityAlgorithm, TransactionId};
+use stun_proto_transaction::waits::Waits;
 
 /// A request that is outstanding, to be looked at. It borrows the agent, so that nothing changes meanwhile.
 #[derive(Debug, Drop)]

@@ -10,9 +10,9 @@ ghost use Rattle.stun_proto_agent.specs.Sending.{IsAfterTransmit, IsDueSent, IsS
 ghost use Rattle.stun_proto_agent.specs.State.{is_tcp};
 
 use crate::agent::StunAgent;
-use stun_proto_schedule::instant::Instant;
-use stun_types::message::TransactionId;
-use stun_types::transmit::Transmit;
+use stun_proto_transaction::instant::Instant;
+use stun_proto_transaction::message::TransactionId;
+use stun_proto_transaction::transmit::Transmit;
 
 impl StunAgent {
     /// What is due to be sent again at a moment (RFC 8489, section 6.2.1): the request of least number of

@@ -5,3 +5,6 @@
 pub mod feature;
 pub mod nonce;
 pub mod supported;
+
+// What stands above this crate has these through it.
+pub use stun_types::{NoMemory, attribute, message, registry, room};

@@ -1,7 +1,7 @@
 -- Whether an algorithm is among the entries of a list, one entry after another.
 use Rattle.std.proofs.Common.{◌≡◌, ℕ, ◌<◌, ◌≤◌, true, false, drop, take, List, length, refl, ◌==◌}
-use Rattle.stun_types.specs.IntegrityAlgorithms.{IntegrityAlgorithm}
-use Rattle.stun_types.specs.Entries.{number_told}
+use Rattle.stun_proto_auth.specs.IntegrityAlgorithms.{IntegrityAlgorithm}
+use Rattle.stun_proto_auth.specs.Entries.{number_told}
 use Rattle.stun_types_password.proofs.Lists.{none_told, one_told}
 use Rattle.stun_proto_auth.specs.SupportedAlgorithms.{number_by}
 use Rattle.stun_proto_claim.specs.Offers.{offers}

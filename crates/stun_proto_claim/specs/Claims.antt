@@ -2,15 +2,15 @@
 -- and 14.8 to 14.12).
 use Rattle.std.specs.Prelude.{ℕ, ◌==◌, if◌then◌else◌, List, [], ◌∷◌, Option, Some, None}
 use Rattle.std.specs.Option.{option_or}
-use Rattle.stun_types.specs.IntegrityAlgorithms.{IntegrityAlgorithm}
-use Rattle.stun_types.specs.ParseErrors.{StunParseError}
-use Rattle.stun_types.specs.Attributes.{Attr}
-use Rattle.stun_types.specs.Grammar.{shown}
-use Rattle.stun_types.specs.ValueReading.{text_read_refusal, value_refusal}
-use Rattle.stun_types.specs.Entries.{algorithm_read_refusal, algorithms_read_refusal, number_told}
-use Rattle.stun_types.specs.ErrorCodeReading.{error_read_refusal, error_told}
-use Rattle.stun_types.specs.Registry.{error_code_kind, longest_text, longest_username, nonce_kind, password_algorithm_kind, password_algorithms_kind, realm_kind, userhash_kind, userhash_length, username_kind}
-use Rattle.stun_types.specs.MessageValidation.{last_algorithm}
+use Rattle.stun_proto_auth.specs.IntegrityAlgorithms.{IntegrityAlgorithm}
+use Rattle.stun_proto_auth.specs.ParseErrors.{StunParseError}
+use Rattle.stun_proto_auth.specs.Attributes.{Attr}
+use Rattle.stun_proto_auth.specs.Grammar.{shown}
+use Rattle.stun_proto_auth.specs.ValueReading.{text_read_refusal, value_refusal}
+use Rattle.stun_proto_auth.specs.Entries.{algorithm_read_refusal, algorithms_read_refusal, number_told}
+use Rattle.stun_proto_auth.specs.ErrorCodeReading.{error_read_refusal, error_told}
+use Rattle.stun_proto_auth.specs.Registry.{error_code_kind, longest_text, longest_username, nonce_kind, password_algorithm_kind, password_algorithms_kind, realm_kind, userhash_kind, userhash_length, username_kind}
+use Rattle.stun_proto_auth.specs.MessageValidation.{last_algorithm}
 
 -- the last attribute of a type
 unfoldable pub last_of_kind : ℕ → List Attr → Option Attr

@@ -1,8 +1,8 @@
 -- What a list of password algorithms offers (RFC 8489, section 14.11).
 use Rattle.std.specs.Prelude.{ℕ, ◌==◌, Bool, List}
 use Rattle.std.specs.List.{list_any}
-use Rattle.stun_types.specs.IntegrityAlgorithms.{IntegrityAlgorithm}
-use Rattle.stun_types.specs.Entries.{numbers_told}
+use Rattle.stun_proto_auth.specs.IntegrityAlgorithms.{IntegrityAlgorithm}
+use Rattle.stun_proto_auth.specs.Entries.{numbers_told}
 use Rattle.stun_proto_auth.specs.SupportedAlgorithms.{number_by}
 
 -- the algorithm by which the keys of an integrity algorithm are made is among those of a list's value

@@ -1,13 +1,13 @@
 //! What a list of password algorithms offers.
 
 ghost use Rattle.std.specs.Prelude.{◌≡◌, ◌==◌};
-ghost use Rattle.stun_types.specs.Entries.{number_told};
+ghost use Rattle.stun_proto_auth.specs.Entries.{number_told};
 ghost use Rattle.stun_proto_auth.specs.SupportedAlgorithms.{number_by};
 ghost use Rattle.stun_proto_claim.specs.Offers.{offers};
 
 use byteorder::{BigEndian, ByteOrder};
-use stun_types::message::IntegrityAlgorithm;
-use stun_types::registry::{MD5_NUMBER, SHA256_NUMBER};
+use stun_proto_auth::message::IntegrityAlgorithm;
+use stun_proto_auth::registry::{MD5_NUMBER, SHA256_NUMBER};
 
 /// Whether the value of a PASSWORD-ALGORITHMS lists the algorithm by which the keys of an integrity
 /// algorithm are made (RFC 8489, sections 14.11 and 18.5).

@@ -2,18 +2,18 @@
 
 ghost use Rattle.std.specs.Prelude.{◌≡◌, Some, None};
 ghost use Rattle.std.specs.Option.{option_copied, option_map};
-ghost use Rattle.stun_types.specs.PasswordAlgorithmNumbers.{number_of};
+ghost use Rattle.stun_proto_auth.specs.PasswordAlgorithmNumbers.{number_of};
 ghost use Rattle.stun_proto_claim.specs.Claims.{algorithm_told, algorithms_told, claimed, code_shown, code_told, hash_told, text_told};
 
 use crate::last::last_attribute;
 use std::convert::TryFrom;
 use std::marker::Model;
-use stun_types::attribute::{
+use stun_proto_auth::attribute::{
     AttributeStaticType, AttributeType, ErrorCode, Nonce, PasswordAlgorithm,
     PasswordAlgorithmValue, PasswordAlgorithms, RawAttribute, Realm, Username, text_of, value_of,
 };
-use stun_types::message::{IntegrityAlgorithm, Message};
-use stun_types::registry;
+use stun_proto_auth::message::{IntegrityAlgorithm, Message};
+use stun_proto_auth::registry;
 
 /// What a message shows of who sent it. Of each kind of attribute the last one decides, and a
 /// malformed one is as if there were none; but an integrity attribute of unlawful length is there,
@@ -30,8 +30,8 @@ pub struct Claim<'a> {
 }
 
 impl<'a> Model for Claim<'a> {
-    ghost use Rattle.stun_types.specs.Registry.{longest_text, longest_username};
-    ghost use Rattle.stun_types.specs.Registry.{nonce_kind, realm_kind, username_kind};
+    ghost use Rattle.stun_proto_auth.specs.Registry.{longest_text, longest_username};
+    ghost use Rattle.stun_proto_auth.specs.Registry.{nonce_kind, realm_kind, username_kind};
     ghost use Rattle.stun_proto_claim.specs.Claims.{Claimed, algorithm_told, algorithms_told, hash_told, text_told};
 
     ghost Value = { Claimed };

@@ -1,11 +1,11 @@
 //! The last attribute of a type.
 
 ghost use Rattle.std.specs.Prelude.{◌≡◌};
-ghost use Rattle.stun_types.specs.Grammar.{shown};
+ghost use Rattle.stun_proto_auth.specs.Grammar.{shown};
 ghost use Rattle.stun_proto_claim.specs.Claims.{last_of_kind};
 
-use stun_types::attribute::{AttributeType, RawAttribute};
-use stun_types::message::Message;
+use stun_proto_auth::attribute::{AttributeType, RawAttribute};
+use stun_proto_auth::message::Message;
 
 /// The last attribute of a type that a message shows.
 #[tactic(auto, using(stun_types_grammar_laws::proofs::Left::map_numbered, crate::proofs::Lasts::last_step), unfolding(crate::specs::Claims::last_of_kind))]

@@ -5,3 +5,8 @@
 pub mod algorithms;
 pub mod claim;
 mod last;
+
+// What stands above this crate has these through it.
+pub use stun_proto_auth::{
+    NoMemory, attribute, feature, message, nonce, registry, room, supported,
+};

@@ -1,7 +1,7 @@
 -- Which algorithm is the strongest of those in common.
 use Rattle.std.proofs.Common.{◌≡◌, ℕ, true, false, List, Option, refl}
-use Rattle.stun_types.specs.IntegrityAlgorithms.{IntegrityAlgorithm, Sha1, Sha256}
-use Rattle.stun_types.specs.Strength.{is_stronger}
+use Rattle.stun_proto_claim.specs.IntegrityAlgorithms.{IntegrityAlgorithm, Sha1, Sha256}
+use Rattle.stun_proto_claim.specs.Strength.{is_stronger}
 use Rattle.stun_proto_client.specs.Choice.{HasNoneCommon, IsStrongest, is_common}
 
 -- nothing is stronger than SHA-256

@@ -3,20 +3,20 @@ use Rattle.std.proofs.Common.{◌≡◌, ℕ, ◌<◌, ◌≤◌, ◌^◌, Bool,
 use Rattle.std.specs.List.{AllByRecursion}
 use Rattle.std.specs.Option.{option_or}
 use Rattle.std.proofs.lemmas.Bool.{cases_Bool, ltb-false}
-use Rattle.stun_types.specs.IntegrityAlgorithms.{IntegrityAlgorithm}
-use Rattle.stun_types.specs.MessageClasses.{MessageClass, Request, Indication, Success, Error}
-use Rattle.stun_types.specs.WriteErrors.{StunWriteError}
-use Rattle.stun_types.specs.Credentials.{Key}
-use Rattle.stun_types.specs.Drafts.{Draft}
-use Rattle.stun_types.specs.Outcomes.{added}
-use Rattle.stun_types.specs.Shape.{rank}
-use Rattle.stun_types.specs.Texts.{text_refusal}
-use Rattle.stun_types.specs.Signing.{text_to_sign}
-use Rattle.stun_types.specs.Text.{message_text}
-use Rattle.stun_types.specs.Calls.{Add, Integrity, IsLawful, IsWritten, after_calls, attributes_of}
-use Rattle.stun_types.specs.MessageReading.{IsReadAs}
-use Rattle.stun_types_integrity_laws.proofs.Composed.{calls_read, calls_validate}
-use Rattle.stun_proto_auth.specs.declared.feature.Feature.{Feature}
+use Rattle.stun_proto_claim.specs.IntegrityAlgorithms.{IntegrityAlgorithm}
+use Rattle.stun_proto_claim.specs.MessageClasses.{MessageClass, Request, Indication, Success, Error}
+use Rattle.stun_proto_claim.specs.WriteErrors.{StunWriteError}
+use Rattle.stun_proto_claim.specs.Credentials.{Key}
+use Rattle.stun_proto_claim.specs.Drafts.{Draft}
+use Rattle.stun_proto_claim.specs.Outcomes.{added}
+use Rattle.stun_proto_claim.specs.Shape.{rank}
+use Rattle.stun_proto_claim.specs.Texts.{text_refusal}
+use Rattle.stun_proto_claim.specs.Signing.{text_to_sign}
+use Rattle.stun_proto_claim.specs.Text.{message_text}
+use Rattle.stun_proto_claim.specs.Calls.{Add, Integrity, IsLawful, IsWritten, after_calls, attributes_of}
+use Rattle.stun_proto_claim.specs.MessageReading.{IsReadAs}
+use Rattle.stun_proto_claim.proofs.Composed.{calls_read, calls_validate}
+use Rattle.stun_proto_claim.specs.declared.feature.Feature.{Feature}
 use Rattle.stun_proto_sign.specs.Addition.{Addition, PartOf, addition_refusal, attr_of_part, calls_of, calls_of_parts, calls_of_signer, one_refusal, parts_refusal, signer_refusal}
 use Rattle.stun_proto_sign.specs.AdditionStages.{IsMade}
 use Rattle.stun_proto_sign.proofs.Making.{made_written}

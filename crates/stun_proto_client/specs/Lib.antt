@@ -7,3 +7,6 @@ pub mod ClientSteps
 pub mod ClientValidation
 pub mod Digests
 pub mod ShortTerm
+-- What stands above this crate has these through it.
+pub use Rattle.stun_proto_claim.specs.Claims
+pub use Rattle.stun_proto_claim.specs.Offers

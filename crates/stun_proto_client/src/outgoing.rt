@@ -2,15 +2,15 @@
 
 ghost use Rattle.std.specs.Prelude.{◌≡◌, [], ◌∷◌, None, IsSome, IfOk, min};
 ghost use Rattle.std.specs.Result.{IsOk};
-ghost use Rattle.stun_types.specs.Refusals.{RefusesFor};
-ghost use Rattle.stun_types.specs.RawBytes.{greatest_len};
-ghost use Rattle.stun_types.specs.Attributes.{kind_at};
-ghost use Rattle.stun_types.specs.Types.{class_of};
-ghost use Rattle.stun_types.specs.MessageClasses.{Request};
-ghost use Rattle.stun_types.specs.Adding.{IsBegun};
-ghost use Rattle.stun_types.specs.Outcomes.{TakesNoMemory};
-ghost use Rattle.stun_types.specs.Entries.{entry};
-ghost use Rattle.stun_proto_auth.specs.SupportedAlgorithms.{number_by};
+ghost use Rattle.stun_proto_claim.specs.Refusals.{RefusesFor};
+ghost use Rattle.stun_proto_claim.specs.RawBytes.{greatest_len};
+ghost use Rattle.stun_proto_claim.specs.Attributes.{kind_at};
+ghost use Rattle.stun_proto_claim.specs.Types.{class_of};
+ghost use Rattle.stun_proto_claim.specs.MessageClasses.{Request};
+ghost use Rattle.stun_proto_claim.specs.Adding.{IsBegun};
+ghost use Rattle.stun_proto_claim.specs.Outcomes.{TakesNoMemory};
+ghost use Rattle.stun_proto_claim.specs.Entries.{entry};
+ghost use Rattle.stun_proto_claim.specs.SupportedAlgorithms.{number_by};
 ghost use Rattle.stun_proto_sign.specs.Addition.{addition_refusal, algorithm_of, algorithms_of, nonce_of, realm_of};
 ghost use Rattle.stun_proto_sign.specs.AdditionStages.{IsMade};
 ghost use Rattle.stun_proto_sign.specs.Sizes.{size_of};
@@ -18,18 +18,18 @@ ghost use Rattle.stun_proto_client.specs.ClientSigning.{addition_for, hides_name
 
 use crate::kept::KeptChallenge;
 use crate::long_term::LongTermClientAuth;
-use stun_proto_auth::feature::Feature;
-use stun_proto_auth::nonce::NonceFeatures;
-use stun_proto_sign::part::Part;
-use stun_proto_sign::signing::sign;
-use stun_proto_sign::size::signature_bytes;
-use stun_types::NoMemory;
-use stun_types::attribute::Userhash;
-use stun_types::message::{
+use stun_proto_claim::NoMemory;
+use stun_proto_claim::attribute::Userhash;
+use stun_proto_claim::feature::Feature;
+use stun_proto_claim::message::{
     IntegrityAlgorithm, LongTermCredentials, MessageClass, MessageWrite, MessageWriteExt,
     StunWriteError,
 };
-use stun_types::registry::{MD5_NUMBER, SHA256_NUMBER};
+use stun_proto_claim::nonce::NonceFeatures;
+use stun_proto_claim::registry::{MD5_NUMBER, SHA256_NUMBER};
+use stun_proto_sign::part::Part;
+use stun_proto_sign::signing::sign;
+use stun_proto_sign::size::signature_bytes;
 
 impl LongTermClientAuth {
     /// Signs a message, and gives the writer back (RFC 8489, sections 9.2.3 and 9.2.5). Where

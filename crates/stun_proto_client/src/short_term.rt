@@ -2,27 +2,27 @@
 
 ghost use Rattle.std.specs.Prelude.{◌≡◌, Some, None, IfOk, IsSome, MatchResult};
 ghost use Rattle.std.specs.Result.{IsOk};
-ghost use Rattle.stun_types.specs.Refusals.{RefusesFor};
-ghost use Rattle.stun_types.specs.Adding.{IsBegun};
-ghost use Rattle.stun_types.specs.Outcomes.{TakesNoMemory};
+ghost use Rattle.stun_proto_claim.specs.Refusals.{RefusesFor};
+ghost use Rattle.stun_proto_claim.specs.Adding.{IsBegun};
+ghost use Rattle.stun_proto_claim.specs.Outcomes.{TakesNoMemory};
 ghost use Rattle.stun_proto_sign.specs.Addition.{addition_refusal};
 ghost use Rattle.stun_proto_sign.specs.AdditionStages.{IsMade};
 ghost use Rattle.stun_proto_sign.specs.Sizes.{size_of};
 ghost use Rattle.std.specs.Bool.{MatchBool};
 ghost use Rattle.stun_proto_client.specs.Digests.{IsRight, IsWrong};
 ghost use Rattle.std.specs.Option.{option_map};
-ghost use Rattle.stun_types.specs.ValidateErrors as invalid;
+ghost use Rattle.stun_proto_claim.specs.ValidateErrors as invalid;
 ghost use Rattle.stun_proto_client.specs.ShortTerm.{IsShortAnswer, IsShortRefused, short_addition, short_key};
 
 use crate::validation::is_right;
 use std::marker::Model;
-use stun_proto_sign::signing::sign;
-use stun_types::NoMemory;
-use stun_types::message::{
+use stun_proto_claim::NoMemory;
+use stun_proto_claim::message::{
     IntegrityAlgorithm, IntegrityKey, Message, MessageWrite, ShortTermCredentials, StunWriteError,
     ValidateError,
 };
-use stun_types::room::hmac_length;
+use stun_proto_claim::room::hmac_length;
+use stun_proto_sign::signing::sign;
 
 /// Credentials, and the algorithm by which they are used.
 #[derive(Debug, Drop)]

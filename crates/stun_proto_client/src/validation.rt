@@ -15,7 +15,7 @@ use crate::kept::KeptChallenge;
 use crate::long_term::LongTermClientAuth;
 use crate::strongest::strongest;
 use stun_proto_claim::claim::Claim;
-use stun_types::message::{IntegrityAlgorithm, IntegrityKey, Message};
+use stun_proto_claim::message::{IntegrityAlgorithm, IntegrityKey, Message};
 
 /// What a client answers to a message that it takes.
 #[derive(Clone, Copy, Debug, PartialEq, Eq)]

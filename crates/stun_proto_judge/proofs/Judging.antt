@@ -3,14 +3,14 @@ use Rattle.std.proofs.Common.{◌≡◌, ◌≢◌, ℕ, Bool, true, false, ◌&
 use Rattle.std.specs.Prelude.{Result, Ok, Err, IfOk, IfErr, IsErrAnd, MatchResult, MatchOption, if◌then◌else◌}
 use Rattle.std.specs.Cmp.Lexicographic.{pointwise, same_text, nat_list_eq_equiv}
 use Rattle.std.specs.Option.{option_or}
-use Rattle.stun_types.specs.IntegrityAlgorithms.{IntegrityAlgorithm}
-use Rattle.stun_types.specs.ValidateErrors.{ValidateError}
-use Rattle.stun_types.specs.ValidateErrors as invalid
-use Rattle.stun_types.specs.Grammar.{shown}
-use Rattle.stun_types.specs.Credentials.{Key, long_term_key}
-use Rattle.stun_types.specs.Integrity.{IsSigned, Validates}
-use Rattle.stun_types.specs.MessageValidation.{last_algorithm}
-use Rattle.stun_types_message.proofs.Validating.{signed_validates}
+use Rattle.stun_proto_claim.specs.IntegrityAlgorithms.{IntegrityAlgorithm}
+use Rattle.stun_proto_claim.specs.ValidateErrors.{ValidateError}
+use Rattle.stun_proto_claim.specs.ValidateErrors as invalid
+use Rattle.stun_proto_claim.specs.Grammar.{shown}
+use Rattle.stun_proto_claim.specs.Credentials.{Key, long_term_key}
+use Rattle.stun_proto_claim.specs.Integrity.{IsSigned, Validates}
+use Rattle.stun_proto_claim.specs.MessageValidation.{last_algorithm}
+use Rattle.stun_proto_claim.proofs.Validating.{signed_validates}
 use Rattle.stun_proto_judge.specs.declared.error.LongTermServerAuthError.{LongTermServerAuthError}
 use Rattle.stun_proto_judge.specs.declared.error.LongTermServerAuthError.TheVariants.{Unauthorized, IntegrityFailed, BadRequest, StaleNonce, NoMemory}
 use Rattle.stun_proto_judge.specs.AuthErrors.{digest_error}

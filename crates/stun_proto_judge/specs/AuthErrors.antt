@@ -1,8 +1,8 @@
 -- What is told of an error.
 use Rattle.std.specs.Prelude.{Option, Some, None}
-use Rattle.stun_types.specs.IntegrityAlgorithms.{IntegrityAlgorithm}
-use Rattle.stun_types.specs.ValidateErrors.{ValidateError}
-use Rattle.stun_types.specs.ValidateErrors as invalid
+use Rattle.stun_proto_claim.specs.IntegrityAlgorithms.{IntegrityAlgorithm}
+use Rattle.stun_proto_claim.specs.ValidateErrors.{ValidateError}
+use Rattle.stun_proto_claim.specs.ValidateErrors as invalid
 use Rattle.stun_proto_judge.specs.declared.error.LongTermServerAuthError.{LongTermServerAuthError}
 use Rattle.stun_proto_judge.specs.declared.error.LongTermServerAuthError.TheVariants.{Unauthorized, IntegrityFailed, BadRequest, StaleNonce, NoMemory}
 use Rattle.stun_proto_judge.specs.declared.error.LongTermServerAuthErrorReason.{LongTermServerAuthErrorReason}

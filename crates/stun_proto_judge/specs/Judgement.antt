@@ -2,11 +2,11 @@
 use Rattle.std.specs.Prelude.{◌≡◌, ℕ, Bool, ◌&&◌, ◌||◌, nat_eq, true, false, if◌then◌else◌, List, Option, Some, None, is_some, MatchOption}
 use Rattle.std.specs.Cmp.Lexicographic.{pointwise}
 use Rattle.std.specs.Option.{option_or}
-use Rattle.stun_types.specs.IntegrityAlgorithms.{IntegrityAlgorithm}
-use Rattle.stun_types.specs.Attributes.{kind_at}
-use Rattle.stun_types.specs.Types.{class_of, is_response_class}
-use Rattle.stun_types.specs.Credentials.{long_term_key}
-use Rattle.stun_types.specs.Integrity.{Validates}
+use Rattle.stun_proto_claim.specs.IntegrityAlgorithms.{IntegrityAlgorithm}
+use Rattle.stun_proto_claim.specs.Attributes.{kind_at}
+use Rattle.stun_proto_claim.specs.Types.{class_of, is_response_class}
+use Rattle.stun_proto_claim.specs.Credentials.{long_term_key}
+use Rattle.stun_proto_claim.specs.Integrity.{Validates}
 use Rattle.stun_proto_judge.specs.declared.error.LongTermServerAuthError.{LongTermServerAuthError}
 use Rattle.stun_proto_judge.specs.declared.error.LongTermServerAuthError.TheVariants.{Unauthorized, IntegrityFailed, BadRequest, StaleNonce}
 use Rattle.stun_proto_claim.specs.Claims.{Claimed, claimed}

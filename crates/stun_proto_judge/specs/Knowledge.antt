@@ -1,6 +1,6 @@
 -- What a server knows that a message is held against, and what it finds (RFC 8489, section 9.2.4).
 use Rattle.std.specs.Prelude.{ℕ, List, Option}
-use Rattle.stun_types.specs.IntegrityAlgorithms.{IntegrityAlgorithm}
+use Rattle.stun_proto_claim.specs.IntegrityAlgorithms.{IntegrityAlgorithm}
 
 -- a user of a server
 pub record Named : Type 0 where

@@ -2,3 +2,8 @@ pub mod AuthErrors
 pub mod Consistency
 pub mod Knowledge
 pub mod Judgement
+-- What stands above this crate has these through it.
+pub use Rattle.stun_proto_claim.specs.Claims
+pub use Rattle.stun_proto_claim.specs.Nonce
+pub use Rattle.stun_proto_claim.specs.Orders
+pub use Rattle.stun_proto_claim.specs.SupportedAlgorithms

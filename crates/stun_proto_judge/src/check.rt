@@ -2,17 +2,17 @@
 
 ghost use Rattle.std.specs.Prelude.{◌≡◌, ◌==◌, Some, None, MatchResult};
 ghost use Rattle.std.specs.Option.{option_copied, option_map};
-ghost use Rattle.stun_types.specs.PasswordAlgorithmNumbers.{number_of};
-ghost use Rattle.stun_proto_auth.specs.SupportedAlgorithms.{number_by};
+ghost use Rattle.stun_proto_claim.specs.PasswordAlgorithmNumbers.{number_of};
+ghost use Rattle.stun_proto_claim.specs.SupportedAlgorithms.{number_by};
 ghost use Rattle.stun_proto_judge.specs.Consistency.{fits_shown, is_consistent};
 ghost use Rattle.stun_proto_judge.specs.Judgement.{algorithms_refusal, integrity_refusal, names_user, nonce_refusal, parts_refusal};
 
 use crate::error::LongTermServerAuthError;
 use crate::known::Known;
-use stun_proto_auth::supported::SupportedIntegrity;
+use stun_proto_claim::attribute::PasswordAlgorithmValue;
 use stun_proto_claim::claim::Claim;
-use stun_types::attribute::PasswordAlgorithmValue;
-use stun_types::message::IntegrityAlgorithm;
+use stun_proto_claim::message::IntegrityAlgorithm;
+use stun_proto_claim::supported::SupportedIntegrity;
 
 /// The algorithm of the last integrity attribute. Refused with `Unauthorized` where none is shown.
 pub(crate) fn check_integrity(

@@ -4,8 +4,8 @@ ghost use Rattle.std.specs.Prelude.{◌≡◌};
 ghost use Rattle.stun_proto_judge.specs.AuthErrors.{digest_error, integrity_of, reason_of};
 
 use std::alloc::AllocError;
-use stun_types::NoMemory;
-use stun_types::message::{IntegrityAlgorithm, ValidateError};
+use stun_proto_claim::NoMemory;
+use stun_proto_claim::message::{IntegrityAlgorithm, ValidateError};
 use thiserror::Error;
 
 /// Why a message is not validated, without what goes with it.

@@ -1,11 +1,11 @@
 //! The judgement of a message.
 
 ghost use Rattle.std.specs.Prelude.{◌≡◌, ◌≢◌, ℕ, List, Some, None, Err, IfOk, IfErr, OnOk, MatchResult, false};
-ghost use Rattle.stun_types.specs.Grammar.{shown};
-ghost use Rattle.stun_types.specs.MessageValidation.{last_algorithm};
-ghost use Rattle.stun_types.specs.IntegrityAlgorithms.{IntegrityAlgorithm as Algorithm};
-ghost use Rattle.stun_types.specs.Credentials.{long_term_key};
-ghost use Rattle.stun_types.specs.Integrity.{Validates};
+ghost use Rattle.stun_proto_claim.specs.Grammar.{shown};
+ghost use Rattle.stun_proto_claim.specs.MessageValidation.{last_algorithm};
+ghost use Rattle.stun_proto_claim.specs.IntegrityAlgorithms.{IntegrityAlgorithm as Algorithm};
+ghost use Rattle.stun_proto_claim.specs.Credentials.{long_term_key};
+ghost use Rattle.stun_proto_claim.specs.Integrity.{Validates};
 ghost use Rattle.stun_proto_claim.specs.Claims.{claimed};
 ghost use Rattle.stun_proto_judge.specs.Judgement.{IsAccepted, IsRefused, ServerAccepts, claim_refusal, is_response, user_key};
 
@@ -15,7 +15,7 @@ use crate::known::Known;
 use crate::user::ValidatedUser;
 use std::alloc::Global;
 use stun_proto_claim::claim::Claim;
-use stun_types::message::{IntegrityAlgorithm, IntegrityKey, Message};
+use stun_proto_claim::message::{IntegrityAlgorithm, IntegrityKey, Message};
 
 /// Whether a server takes a message that is no response for one of its user's, by what the message
 /// claims and what the server knows; the answer is the user, and the algorithm of the last

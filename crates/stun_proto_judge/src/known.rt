@@ -4,7 +4,7 @@ ghost use Rattle.std.specs.Prelude.{◌≡◌};
 ghost use Rattle.std.specs.Option.{option_copied};
 
 use std::marker::Model;
-use stun_proto_auth::supported::SupportedIntegrity;
+use stun_proto_claim::supported::SupportedIntegrity;
 
 /// A user of a server: its name and its password. Contracts see the record `Named`.
 #[derive(Debug, Drop)]

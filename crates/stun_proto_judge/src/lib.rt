@@ -7,3 +7,6 @@ pub mod error;
 pub mod judgement;
 pub mod known;
 pub mod user;
+
+// What stands above this crate has these through it.
+pub use stun_proto_claim::{claim, feature, nonce, supported};

@@ -4,7 +4,7 @@ ghost use Rattle.std.specs.Prelude.{◌≡◌};
 ghost use Rattle.std.specs.String.{string_bytes};
 
 use std::marker::Model;
-use stun_types::message::IntegrityAlgorithm;
+use stun_proto_claim::message::IntegrityAlgorithm;
 
 /// The user whose key a message was validated under, and the algorithm by which. Contracts see the
 /// bytes of the name and the algorithm.

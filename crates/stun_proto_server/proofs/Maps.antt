@@ -18,8 +18,8 @@ use Rattle.stun_proto_server.specs.View.{client_of, server_of}
 use Rattle.stun_proto_server.specs.declared.long_term.ClientRecord.{ClientRecord}
 use Rattle.stun_proto_server.specs.declared.long_term.LongTermServerAuth.TheInside.{Inside}
 use Rattle.stun_types_base.proofs.MapView.{get-finite_map, insert-finite_map, remove-finite_map}
-use Rattle.stun_types.specs.SocketAddrs.{socket_addr_cmp, socket_addr_cmp_total, socket_addr_cmp-IsAntisymmetric}
-use Rattle.stun_types.specs.Credentials.{NameAndPassword}
+use Rattle.stun_proto_sign.specs.SocketAddrs.{socket_addr_cmp, socket_addr_cmp_total, socket_addr_cmp-IsAntisymmetric}
+use Rattle.stun_proto_sign.specs.Credentials.{NameAndPassword}
 
 -- what is found for an address
 pub get-clients : (s : Inside) (server : Server) (client : SocketAddr) (found : Option ClientRecord)

@@ -3,8 +3,8 @@ use Rattle.std.proofs.Common.{◌≡◌, ℕ, List, Option, Some, None, refl, sy
 use Rattle.std.specs.Prelude.{IsSome}
 use Rattle.std.specs.FinMap as map
 use Rattle.std.specs.declared.net.socket_addr.SocketAddr.{SocketAddr}
-use Rattle.stun_types.specs.IntegrityAlgorithms.{IntegrityAlgorithm}
-use Rattle.stun_proto_claim.specs.Claims.{Claimed, claimed}
+use Rattle.stun_proto_sign.specs.IntegrityAlgorithms.{IntegrityAlgorithm}
+use Rattle.stun_proto_judge.specs.Claims.{Claimed, claimed}
 use Rattle.stun_proto_judge.specs.declared.error.LongTermServerAuthError.{LongTermServerAuthError}
 use Rattle.stun_proto_judge.specs.Knowledge.{Named}
 use Rattle.stun_proto_judge.specs.Judgement.{IsAccepted, IsRefused, ServerAccepts}

@@ -14,8 +14,8 @@ use Rattle.std.specs.declared.alloc.Global.{Global}
 use Rattle.std.specs.declared.cmp.Ordering.{Ordering}
 use Rattle.std.specs.declared.cmp.Ordering.TheVariants.{Less, Equal, Greater}
 use Rattle.std.specs.declared.string.String.{String}
-use Rattle.stun_types.specs.Credentials.{NameAndPassword}
-use Rattle.stun_types.specs.Userhashes.{userhash_of}
+use Rattle.stun_proto_sign.specs.Credentials.{NameAndPassword}
+use Rattle.stun_proto_sign.specs.Userhashes.{userhash_of}
 use Rattle.stun_proto_judge.specs.Knowledge.{Named}
 use Rattle.stun_proto_server.specs.Server.{Server}
 use Rattle.stun_proto_server.specs.Users.{IsClaimedName, IsFoundBy, IsUser, is_hash_of}

@@ -5,11 +5,11 @@ use Rattle.std.specs.Option.{option_or}
 use Rattle.std.specs.declared.net.socket_addr.SocketAddr.{SocketAddr}
 use Rattle.rand_core.specs.Stream.{Stream}
 use Rattle.stun_types_base.proofs.WordLemmas.{stream_after-zero}
-use Rattle.stun_types.specs.GeneratorWords.{stream_after}
-use Rattle.stun_types.specs.IntegrityAlgorithms.{IntegrityAlgorithm}
+use Rattle.stun_proto_sign.specs.GeneratorWords.{stream_after}
+use Rattle.stun_proto_sign.specs.IntegrityAlgorithms.{IntegrityAlgorithm}
 use Rattle.stun_proto_judge.specs.declared.error.LongTermServerAuthError.{LongTermServerAuthError}
 use Rattle.stun_proto_judge.specs.declared.error.LongTermServerAuthError.TheVariants.{Unauthorized, IntegrityFailed, BadRequest, StaleNonce, NoMemory}
-use Rattle.stun_proto_claim.specs.Claims.{Claimed, claimed}
+use Rattle.stun_proto_judge.specs.Claims.{Claimed, claimed}
 use Rattle.stun_proto_judge.specs.Knowledge.{Knowledge}
 use Rattle.stun_proto_judge.specs.Judgement.{HasWrongDigest, IsRefused, is_response, claim_refusal, judgement}
 use Rattle.stun_proto_server.proofs.Named.{never_both}

@@ -3,8 +3,8 @@ use Rattle.std.specs.Prelude.{◌≡◌, ◌⊎◌, ℕ, false, List, Option, So
 use Rattle.std.specs.FinMap as map
 use Rattle.std.specs.declared.net.socket_addr.SocketAddr.{SocketAddr}
 use Rattle.rand_core.specs.Stream.{Stream}
-use Rattle.stun_types.specs.IntegrityAlgorithms.{IntegrityAlgorithm}
-use Rattle.stun_proto_claim.specs.Claims.{claimed}
+use Rattle.stun_proto_sign.specs.IntegrityAlgorithms.{IntegrityAlgorithm}
+use Rattle.stun_proto_judge.specs.Claims.{claimed}
 use Rattle.stun_proto_judge.specs.Knowledge.{Knowledge, Named}
 use Rattle.stun_proto_judge.specs.Judgement.{IsRefused, ServerAccepts, is_response}
 use Rattle.stun_proto_judge.specs.declared.error.LongTermServerAuthError.{LongTermServerAuthError}

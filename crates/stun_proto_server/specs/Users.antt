@@ -2,8 +2,8 @@
 use Rattle.std.specs.Prelude.{◌≡◌, ℕ, nat_eq, Bool, List, Option, Some, None, IsSome, MatchOption}
 use Rattle.std.specs.Cmp.Lexicographic.{pointwise}
 use Rattle.std.specs.FinMap as map
-use Rattle.stun_types.specs.Userhashes.{userhash_of}
-use Rattle.stun_proto_claim.specs.Claims.{Claimed}
+use Rattle.stun_proto_sign.specs.Userhashes.{userhash_of}
+use Rattle.stun_proto_judge.specs.Claims.{Claimed}
 use Rattle.stun_proto_judge.specs.Knowledge.{Named}
 use Rattle.stun_proto_server.specs.Server.{Server}
 

@@ -2,20 +2,20 @@
 
 ghost use Rattle.std.specs.Prelude.{◌≡◌, None, IsSome, IsSomeAnd, IfOk, false};
 ghost use Rattle.std.specs.Result.{IsOk};
-ghost use Rattle.stun_types.specs.Refusals.{RefusesFor};
-ghost use Rattle.stun_types.specs.Attributes.{kind_at};
-ghost use Rattle.stun_types.specs.Types.{class_of};
-ghost use Rattle.stun_types.specs.Adding.{IsBegun};
+ghost use Rattle.stun_proto_sign.specs.Refusals.{RefusesFor};
+ghost use Rattle.stun_proto_sign.specs.Attributes.{kind_at};
+ghost use Rattle.stun_proto_sign.specs.Types.{class_of};
+ghost use Rattle.stun_proto_sign.specs.Adding.{IsBegun};
 ghost use Rattle.stun_proto_sign.specs.AdditionStages.{IsMade};
-ghost use Rattle.stun_types.specs.MessageClasses.{Success};
+ghost use Rattle.stun_proto_sign.specs.MessageClasses.{Success};
 ghost use Rattle.stun_proto_server.specs.ServerSigning.{addition_for, class_asked as class_of_size, party_at, signing_refusal_for, size_for};
-ghost use Rattle.stun_types.specs.Outcomes.{TakesNoMemory};
+ghost use Rattle.stun_proto_sign.specs.Outcomes.{TakesNoMemory};
 
 use crate::long_term::LongTermServerAuth;
 use crate::party::{Party, SigningUser};
 use std::net::SocketAddr;
-use stun_types::NoMemory;
-use stun_types::message::{MessageClass, MessageWrite, StunWriteError};
+use stun_proto_sign::NoMemory;
+use stun_proto_sign::message::{MessageClass, MessageWrite, StunWriteError};
 
 impl LongTermServerAuth {
     /// Signs a message that goes to an address, by what is kept for the address, and gives the writer

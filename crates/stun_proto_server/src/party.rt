@@ -1,27 +1,27 @@
 //! What is known of the party that a message goes to, and what is added to the message for it.
 
 ghost use Rattle.std.specs.Prelude.{◌≡◌, IfOk, IsSomeAnd, None, Some};
-ghost use Rattle.stun_types.specs.Refusals.{RefusesFor};
-ghost use Rattle.stun_types.specs.Attributes.{kind_at};
-ghost use Rattle.stun_types.specs.Types.{class_of};
-ghost use Rattle.stun_types.specs.MessageClasses.{Error};
-ghost use Rattle.stun_types.specs.Adding.{IsBegun};
-ghost use Rattle.stun_types.specs.Outcomes.{TakesNoMemory};
-ghost use Rattle.stun_proto_auth.specs.Nonce.{features_told};
+ghost use Rattle.stun_proto_sign.specs.Refusals.{RefusesFor};
+ghost use Rattle.stun_proto_sign.specs.Attributes.{kind_at};
+ghost use Rattle.stun_proto_sign.specs.Types.{class_of};
+ghost use Rattle.stun_proto_sign.specs.MessageClasses.{Error};
+ghost use Rattle.stun_proto_sign.specs.Adding.{IsBegun};
+ghost use Rattle.stun_proto_sign.specs.Outcomes.{TakesNoMemory};
+ghost use Rattle.stun_proto_judge.specs.Nonce.{features_told};
 ghost use Rattle.stun_proto_sign.specs.Addition.{addition_refusal};
 ghost use Rattle.stun_proto_sign.specs.AdditionStages.{IsMade};
 ghost use Rattle.stun_proto_sign.specs.Sizes.{size_of};
 ghost use Rattle.stun_proto_server.specs.ServerSigning.{addition, addition_for_user, addition_unvalidated, key_in, signing_refusal_for, size_for};
 
 use std::marker::Model;
-use stun_proto_auth::nonce::NonceFeatures;
-use stun_proto_auth::supported::SupportedIntegrity;
+use stun_proto_judge::nonce::NonceFeatures;
+use stun_proto_judge::supported::SupportedIntegrity;
+use stun_proto_sign::message::{
+    IntegrityAlgorithm, IntegrityKey, MessageClass, MessageWrite, MessageWriteExt, StunWriteError,
+};
 use stun_proto_sign::part::Part;
 use stun_proto_sign::signing::sign;
 use stun_proto_sign::size::signature_bytes;
-use stun_types::message::{
-    IntegrityAlgorithm, IntegrityKey, MessageClass, MessageWrite, MessageWriteExt, StunWriteError,
-};
 
 /// A user under whose key messages are signed: its name, its password, and the algorithm of the
 /// integrity attribute. Contracts see the record `Signer`.

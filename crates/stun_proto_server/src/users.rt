@@ -10,8 +10,8 @@ ghost use Rattle.stun_proto_server.specs.View.{named_of};
 
 use std::collections::BTreeMap;
 use stun_proto_judge::known::NamedUser;
-use stun_types::attribute::Userhash;
-use stun_types::message::LongTermCredentials;
+use stun_proto_sign::attribute::Userhash;
+use stun_proto_sign::message::LongTermCredentials;
 
 /// The first user of a map whose name has this hash in a realm, where there is one (RFC 8489, section
 /// 14.4).

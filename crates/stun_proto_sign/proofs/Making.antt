@@ -9,7 +9,7 @@ use Rattle.stun_types.specs.Drafts.{Draft}
 use Rattle.stun_types.specs.Outcomes.{added, IsAdded}
 use Rattle.stun_types.specs.Credentials.{Key}
 use Rattle.stun_types.specs.Signing.{signature, signing_refusal}
-use Rattle.stun_types_build.proofs.Taken.{after_both, both_accepted, written_more}
+use Rattle.stun_types.proofs.Taken.{after_both, both_accepted, written_more}
 use Rattle.stun_types.specs.Calls.{Add, AreAccepted, IsWritten, after_calls}
 use Rattle.stun_proto_sign.specs.Addition.{Addition, PartOf, addition_refusal, attr_of_part, calls_of, calls_of_parts, calls_of_signer, no_addition, one_refusal, parts_refusal, signer_refusal}
 use Rattle.stun_proto_sign.specs.AdditionStages.{AreAdded, IsMade, IsNamed, PartsFit, signing_refusal_behind}

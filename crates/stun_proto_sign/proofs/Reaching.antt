@@ -17,8 +17,8 @@ use Rattle.stun_types.specs.Outcomes.{added}
 use Rattle.stun_types.specs.Texts.{text_refusal}
 use Rattle.stun_types.specs.Signing.{hmac_length, key_refusal, order_refusal, signing_refusal}
 use Rattle.stun_types.specs.Calls.{after_calls}
-use Rattle.stun_types_build.proofs.Adds.{length-attribute_text, long_enough}
-use Rattle.stun_types_build.proofs.Taken.{none_of}
+use Rattle.stun_types.proofs.Adds.{length-attribute_text, long_enough}
+use Rattle.stun_types.proofs.Taken.{none_of}
 use Rattle.stun_proto_sign.specs.Addition.{PartOf, attr_of_part, calls_of_parts, one_refusal, parts_refusal, size_of_part}
 use Rattle.stun_proto_sign.specs.AdditionStages.{FitsBehind, IsGrown, IsNamed, PartsFit, refusal_behind, signing_refusal_behind}
 

@@ -6,3 +6,6 @@ pub mod part;
 mod room;
 pub mod signing;
 pub mod size;
+
+// What stands above this crate has these through it.
+pub use stun_types::{NoMemory, attribute, draw_words, message};

@@ -3,3 +3,7 @@
 #![tactic(auto)]
 
 pub mod transaction;
+
+// What stands above this crate has these through it.
+pub use stun_proto_schedule::{instant, waits};
+pub use stun_types::{NoMemory, TransportType, message, transmit, transport};

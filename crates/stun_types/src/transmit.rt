@@ -6,8 +6,8 @@ ghost use Rattle.stun_types_wire.specs.Data.{data_bytes, is_owned};
 use crate::transport::TransportType;
 use std::alloc::Global;
 use std::net::SocketAddr;
-use stun_types_base::memory::NoMemory;
 use stun_types_wire::data::Data;
+use stun_types_wire::memory::NoMemory;
 
 /// Bytes that are to be sent, or were received, in an owner of their own choice: a slice, a vector, a
 /// `Data`.

@@ -3,3 +3,7 @@
 
 mod octets;
 pub mod socket_addr;
+
+// What stands above this crate has these through it.
+pub use stun_types_wire::{attribute as wire_attribute, error, memory, registry, transaction};
+pub use stun_types_write::{attribute, reading, text};

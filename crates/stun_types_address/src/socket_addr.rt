@@ -12,9 +12,9 @@ use crate::octets::{front_of, read_address, segments_are_told, without_scope, xo
 use std::alloc::Global;
 use std::marker::Model;
 use std::net::SocketAddr;
-use stun_types_base::memory::NoMemory;
 use stun_types_wire::attribute::{AttributeType, RawAttribute};
 use stun_types_wire::error::StunParseError;
+use stun_types_wire::memory::NoMemory;
 use stun_types_wire::registry::{IPV4_FAMILY, IPV6_FAMILY};
 use stun_types_wire::transaction::TransactionId;
 use stun_types_write::text::write_attribute_in_two;

@@ -1,10 +1,10 @@
 -- What an ERROR-CODE writes is read as that code and reason.
 use Rattle.std.proofs.Common.{◌≡◌, ℕ, ◌+◌, ◌*◌, ◌/◌, ◌%◌, ◌≤◌, length, None, sym, ap, ◌∙◌, arith}
 use Rattle.std.proofs.lemmas.Grind.{common_steps}
-use Rattle.stun_types_write.specs.Adding.{attr_of}
-use Rattle.stun_types_write.specs.ValueReading.{utf8_refusal}
-use Rattle.stun_types_write.proofs.Values.{value_is_accepted}
-use Rattle.stun_types_wire.specs.Registry.{longest_text}
+use Rattle.stun_types_address.specs.Adding.{attr_of}
+use Rattle.stun_types_address.specs.ValueReading.{utf8_refusal}
+use Rattle.stun_types_address.proofs.Values.{value_is_accepted}
+use Rattle.stun_types_address.specs.Registry.{longest_text}
 use Rattle.stun_types_attribute.specs.ErrorCodes.{CodeAndReason, error_value}
 use Rattle.stun_types_attribute.specs.ErrorCodeReading.{code_refusal, error_told, error_read_refusal}
 

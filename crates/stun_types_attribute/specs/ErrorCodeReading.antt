@@ -1,11 +1,11 @@
 -- Which types and values are read as an ERROR-CODE, and what they tell (RFC 8489, section 14.8).
 use Rattle.std.specs.Prelude.{ℕ, ◌+◌, ◌*◌, ◌&&◌, nat_le, List, drop, Option, Some, None, slice_index, if◌then◌else◌}
 use Rattle.std.specs.Option.{option_or}
-use Rattle.stun_types_wire.specs.declared.error.StunParseError.{StunParseError}
-use Rattle.stun_types_wire.specs.declared.error.StunParseError.TheVariants.{InvalidAttributeData}
-use Rattle.stun_types_wire.specs.Attributes.{Attr}
-use Rattle.stun_types_write.specs.ValueReading.{value_refusal, utf8_refusal}
-use Rattle.stun_types_wire.specs.Registry.{longest_text, error_code_kind}
+use Rattle.stun_types_address.specs.declared.error.StunParseError.{StunParseError}
+use Rattle.stun_types_address.specs.declared.error.StunParseError.TheVariants.{InvalidAttributeData}
+use Rattle.stun_types_address.specs.Attributes.{Attr}
+use Rattle.stun_types_address.specs.ValueReading.{value_refusal, utf8_refusal}
+use Rattle.stun_types_address.specs.Registry.{longest_text, error_code_kind}
 use Rattle.stun_types_attribute.specs.ErrorCodes.{CodeAndReason}
 
 -- the third byte is the hundreds, from 3 to 6, and the fourth the rest, up to 99

@@ -1,9 +1,9 @@
 -- Error codes and their reasons (RFC 8489, section 14.8; RFC 8656, section 19).
 use Rattle.std.specs.Prelude.{ℕ, ◌/◌, ◌%◌, ◌==◌, ◌||◌, nat_lt, List, ◌∷◌, codes, Option, Some, unwrap_or, if◌then◌else◌}
-use Rattle.stun_types_wire.specs.declared.error.StunWriteError.{StunWriteError}
-use Rattle.stun_types_wire.specs.declared.error.StunWriteError.TheVariants.{OutOfRange}
+use Rattle.stun_types_address.specs.declared.error.StunWriteError.{StunWriteError}
+use Rattle.stun_types_address.specs.declared.error.StunWriteError.TheVariants.{OutOfRange}
 use Rattle.stun_types_attribute.specs.Texts.{text_refusal}
-use Rattle.stun_types_wire.specs.Registry.{longest_text, allocation_mismatch_code, bad_request_code, connection_exists_code, connection_failure_code, family_mismatch_code, family_not_supported_code, forbidden_code, greatest_code, insufficient_capacity_code, least_code, quota_reached_code, role_conflict_code, server_error_code, stale_nonce_code, try_alternate_code, unauthorized_code, unknown_attribute_code, unsupported_transport_code, wrong_credentials_code}
+use Rattle.stun_types_address.specs.Registry.{longest_text, allocation_mismatch_code, bad_request_code, connection_exists_code, connection_failure_code, family_mismatch_code, family_not_supported_code, forbidden_code, greatest_code, insufficient_capacity_code, least_code, quota_reached_code, role_conflict_code, server_error_code, stale_nonce_code, try_alternate_code, unauthorized_code, unknown_attribute_code, unsupported_transport_code, wrong_credentials_code}
 
 -- a code and the bytes of its reason
 pub record CodeAndReason : Type 0 where

@@ -2,24 +2,24 @@
 
 ghost use Rattle.std.specs.Prelude.{◌≡◌, ◌≤◌, ◌/◌, ◌%◌, ◌∷◌, [], IfOk, None, Some, length, drop, MatchResult};
 ghost use Rattle.std.specs.Option.{option_or};
-ghost use Rattle.stun_types_base.specs.Refusals.{RefusesFor};
-ghost use Rattle.stun_types_write.specs.ValueReading.{IsNamed};
-ghost use Rattle.stun_types_wire.specs.Registry.{longest_text, error_code_kind, greatest_code, least_code};
+ghost use Rattle.stun_types_address.specs.Refusals.{RefusesFor};
+ghost use Rattle.stun_types_address.specs.ValueReading.{IsNamed};
+ghost use Rattle.stun_types_address.specs.Registry.{longest_text, error_code_kind, greatest_code, least_code};
 ghost use Rattle.stun_types_attribute.specs.ErrorCodes.{CodeAndReason, error_refusal, reason_for, reason_of};
 ghost use Rattle.stun_types_attribute.specs.ErrorCodeReading.{code_refusal, error_read_refusal, error_told};
-ghost use Rattle.stun_types_write.specs.ValueReading.{utf8_refusal};
+ghost use Rattle.stun_types_address.specs.ValueReading.{utf8_refusal};
 
 use std::alloc::Global;
 use std::marker::Model;
-use stun_types_base::memory::NoMemory;
-use stun_types_wire::attribute::{AttributeType, RawAttribute};
-use stun_types_wire::error::{StunParseError, StunWriteError};
-use stun_types_wire::registry;
-use stun_types_write::attribute::{
+use stun_types_address::attribute::{
     Attribute, AttributeFromRaw, AttributeStaticType, AttributeWrite,
 };
-use stun_types_write::reading::{read_text, text_is_read, value_of};
-use stun_types_write::text::write_attribute_in_two;
+use stun_types_address::error::{StunParseError, StunWriteError};
+use stun_types_address::memory::NoMemory;
+use stun_types_address::reading::{read_text, text_is_read, value_of};
+use stun_types_address::registry;
+use stun_types_address::text::write_attribute_in_two;
+use stun_types_address::wire_attribute::{AttributeType, RawAttribute};
 
 /// Why a request is refused: a code from 300 to 699, and a reason of at most 763 bytes.
 #[derive(Debug, Drop)]
@@ -29,10 +29,10 @@ pub struct ErrorCode {
 }
 
 impl Model for ErrorCode {
-    ghost use Rattle.stun_types_wire.specs.Registry.{greatest_code, least_code};
+    ghost use Rattle.stun_types_address.specs.Registry.{greatest_code, least_code};
     ghost use Rattle.std.specs.Prelude.{◌≤◌, length};
     ghost use Rattle.std.specs.String.{string_bytes};
-    ghost use Rattle.stun_types_wire.specs.Registry.{longest_text};
+    ghost use Rattle.stun_types_address.specs.Registry.{longest_text};
     ghost use Rattle.stun_types_attribute.specs.ErrorCodes.{CodeAndReason};
 
     ghost Value = { CodeAndReason };

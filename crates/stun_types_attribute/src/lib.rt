@@ -6,3 +6,8 @@ pub mod nonce;
 pub mod realm;
 pub mod username;
 pub mod xor_mapped_address;
+
+// What stands above this crate has these through it.
+pub use stun_types_address::{
+    attribute, error, memory, reading, registry, socket_addr, text, wire_attribute,
+};

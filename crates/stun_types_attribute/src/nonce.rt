@@ -1,21 +1,21 @@
 //! NONCE (RFC 8489, section 14.10).
 
 ghost use Rattle.std.specs.Prelude.{◌≡◌, ◌≤◌, IfOk, None, length};
-ghost use Rattle.stun_types_base.specs.Refusals.{RefusesFor};
+ghost use Rattle.stun_types_address.specs.Refusals.{RefusesFor};
 ghost use Rattle.stun_types_attribute.specs.Texts.{text_refusal};
-ghost use Rattle.stun_types_wire.specs.Registry.{longest_text, nonce_kind};
+ghost use Rattle.stun_types_address.specs.Registry.{longest_text, nonce_kind};
 
 use std::alloc::Global;
 use std::marker::Model;
-use stun_types_base::memory::NoMemory;
-use stun_types_wire::attribute::{AttributeType, RawAttribute};
-use stun_types_wire::error::{StunParseError, StunWriteError};
-use stun_types_wire::registry;
-use stun_types_write::attribute::{
+use stun_types_address::attribute::{
     Attribute, AttributeFromRaw, AttributeStaticType, AttributeWrite,
 };
-use stun_types_write::reading::{text_is_read, text_of};
-use stun_types_write::text::write_attribute;
+use stun_types_address::error::{StunParseError, StunWriteError};
+use stun_types_address::memory::NoMemory;
+use stun_types_address::reading::{text_is_read, text_of};
+use stun_types_address::registry;
+use stun_types_address::text::write_attribute;
+use stun_types_address::wire_attribute::{AttributeType, RawAttribute};
 
 /// The nonce of a challenge, which a request repeats. It has at most 763 bytes. Contracts see the bytes
 /// of the text.
@@ -27,7 +27,7 @@ pub struct Nonce {
 impl Model for Nonce {
     ghost use Rattle.std.specs.Prelude.{List, ℕ, ◌≤◌, length};
     ghost use Rattle.std.specs.String.{string_bytes};
-    ghost use Rattle.stun_types_wire.specs.Registry.{longest_text};
+    ghost use Rattle.stun_types_address.specs.Registry.{longest_text};
 
     ghost Value = { List ℕ };
 
@@ -105,7 +105,7 @@ impl AttributeWrite for Nonce {
 /// A text of at most 763 bytes. A longer value is `TooLarge`, one that is not UTF-8
 /// `InvalidAttributeData`.
 impl<'a> AttributeFromRaw<'a> for Nonce {
-    ghost use Rattle.stun_types_write.specs.ValueReading.{text_read_refusal};
+    ghost use Rattle.stun_types_address.specs.ValueReading.{text_read_refusal};
 
     ghost read_refusal = { text_read_refusal nonce_kind longest_text };
 

@@ -1,21 +1,21 @@
 //! USERNAME (RFC 8489, section 14.3).
 
 ghost use Rattle.std.specs.Prelude.{◌≡◌, ◌≤◌, IfOk, None, length};
-ghost use Rattle.stun_types_base.specs.Refusals.{RefusesFor};
+ghost use Rattle.stun_types_address.specs.Refusals.{RefusesFor};
 ghost use Rattle.stun_types_attribute.specs.Texts.{text_refusal};
-ghost use Rattle.stun_types_wire.specs.Registry.{longest_username, username_kind};
+ghost use Rattle.stun_types_address.specs.Registry.{longest_username, username_kind};
 
 use std::alloc::Global;
 use std::marker::Model;
-use stun_types_base::memory::NoMemory;
-use stun_types_wire::attribute::{AttributeType, RawAttribute};
-use stun_types_wire::error::{StunParseError, StunWriteError};
-use stun_types_wire::registry;
-use stun_types_write::attribute::{
+use stun_types_address::attribute::{
     Attribute, AttributeFromRaw, AttributeStaticType, AttributeWrite,
 };
-use stun_types_write::reading::{text_is_read, text_of};
-use stun_types_write::text::write_attribute;
+use stun_types_address::error::{StunParseError, StunWriteError};
+use stun_types_address::memory::NoMemory;
+use stun_types_address::reading::{text_is_read, text_of};
+use stun_types_address::registry;
+use stun_types_address::text::write_attribute;
+use stun_types_address::wire_attribute::{AttributeType, RawAttribute};
 
 /// The name of a user. It has at most 513 bytes. Contracts see the bytes of the text.
 #[derive(Debug, Drop)]
@@ -26,7 +26,7 @@ pub struct Username {
 impl Model for Username {
     ghost use Rattle.std.specs.Prelude.{List, ℕ, ◌≤◌, length};
     ghost use Rattle.std.specs.String.{string_bytes};
-    ghost use Rattle.stun_types_wire.specs.Registry.{longest_username};
+    ghost use Rattle.stun_types_address.specs.Registry.{longest_username};
 
     ghost Value = { List ℕ };
 
@@ -104,7 +104,7 @@ impl AttributeWrite for Username {
 /// A text of at most 513 bytes. A longer value is `TooLarge`, one that is not UTF-8
 /// `InvalidAttributeData`.
 impl<'a> AttributeFromRaw<'a> for Username {
-    ghost use Rattle.stun_types_write.specs.ValueReading.{text_read_refusal};
+    ghost use Rattle.stun_types_address.specs.ValueReading.{text_read_refusal};
 
     ghost read_refusal = { text_read_refusal username_kind longest_username };
 

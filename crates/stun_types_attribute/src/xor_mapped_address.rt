@@ -1,24 +1,24 @@
 //! XOR-MAPPED-ADDRESS (RFC 8489, section 14.2).
 
 ghost use Rattle.std.specs.Prelude.{Some, ◌≡◌};
-ghost use Rattle.stun_types_write.specs.ValueReading.{IsNamed};
+ghost use Rattle.stun_types_address.specs.ValueReading.{IsNamed};
 ghost use Rattle.stun_types_address.specs.Addresses.{address_of, address_value};
 ghost use Rattle.stun_types_address.specs.Xor.{xored};
-ghost use Rattle.stun_types_wire.specs.Registry.{xor_mapped_address_kind};
+ghost use Rattle.stun_types_address.specs.Registry.{xor_mapped_address_kind};
 
 use std::alloc::Global;
 use std::convert::TryFrom;
 use std::marker::Model;
 use std::net::SocketAddr;
-use stun_types_address::socket_addr::XorSocketAddr;
-use stun_types_base::memory::NoMemory;
-use stun_types_wire::attribute::{AttributeType, RawAttribute};
-use stun_types_wire::error::StunParseError;
-use stun_types_wire::registry;
-use stun_types_wire::transaction::TransactionId;
-use stun_types_write::attribute::{
+use stun_types_address::attribute::{
     Attribute, AttributeFromRaw, AttributeStaticType, AttributeWrite,
 };
+use stun_types_address::error::StunParseError;
+use stun_types_address::memory::NoMemory;
+use stun_types_address::registry;
+use stun_types_address::socket_addr::XorSocketAddr;
+use stun_types_address::transaction::TransactionId;
+use stun_types_address::wire_attribute::{AttributeType, RawAttribute};
 
 /// The address from which a server saw a request come, xored. Contracts see the bytes of the value.
 #[derive(Debug, Drop)]
@@ -89,7 +89,7 @@ impl AttributeWrite for XorMappedAddress {
 /// not the 8 bytes of IPv4 or the 20 of IPv6.
 impl<'a, 'raw> TryFrom<&'raw RawAttribute<'a>> for XorMappedAddress {
     ghost use Rattle.std.specs.Prelude.{◌≡◌, MatchResult, Some, None};
-    ghost use Rattle.stun_types_write.specs.ValueReading.{IsNamed};
+    ghost use Rattle.stun_types_address.specs.ValueReading.{IsNamed};
     ghost use Rattle.stun_types_address.specs.Addresses.{address_again, address_read_refusal};
 
     type Error = StunParseError;

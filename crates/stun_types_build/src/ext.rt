@@ -1,7 +1,7 @@
 //! The header and the adds of a message that is written, over any writer.
 
 ghost use Rattle.std.specs.Prelude.{◌≡◌, ◌↔◌, IsTrue, OnErr, OnOk, None};
-ghost use Rattle.stun_types_base.specs.Refusals.{RefusesFor};
+ghost use Rattle.stun_types_write.specs.Refusals.{RefusesFor};
 ghost use Rattle.stun_types_wire.specs.Attributes.{attr_size, kind_at};
 ghost use Rattle.stun_types_wire.specs.Shape.{rank};
 ghost use Rattle.stun_types_wire.specs.Fingerprints.{fingerprint_of};

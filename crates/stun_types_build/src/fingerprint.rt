@@ -4,7 +4,7 @@ ghost use Rattle.std.specs.Prelude.{◌≡◌, OnOk, OnErr};
 ghost use Rattle.stun_types_wire.specs.Fingerprints.{fingerprint_of};
 ghost use Rattle.stun_types_write.specs.Adding.{IsBegun, fingerprint_add_refusal};
 ghost use Rattle.stun_types_write.specs.Outcomes.{TakesNoMemory, IsAdded};
-ghost use Rattle.stun_types_base.specs.Refusals.{RefusesFor};
+ghost use Rattle.stun_types_write.specs.Refusals.{RefusesFor};
 
 use crate::room::end_of_add;
 use crate::signing::push_as;

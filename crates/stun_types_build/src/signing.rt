@@ -10,10 +10,9 @@ ghost use Rattle.stun_types_integrity.specs.Integrity.{integrity_hmac};
 ghost use Rattle.stun_types_integrity.specs.Signing.{hmac_length as length_of_hmac, signature, signing_refusal};
 ghost use Rattle.stun_types_write.specs.Drafts.{HasRoom, pushed_attribute};
 ghost use Rattle.stun_types_write.specs.Outcomes.{TakesNoMemory, IsAdded};
-ghost use Rattle.stun_types_base.specs.Refusals.{RefusesFor};
+ghost use Rattle.stun_types_write.specs.Refusals.{RefusesFor};
 
 use crate::room::{end_of_add, may_sign};
-use stun_types_base::memory::NoMemory;
 use stun_types_integrity::algorithm::{attribute_type, hmac_length};
 use stun_types_integrity::hmac::IntegrityHmac;
 use stun_types_integrity::key::IntegrityKey;
@@ -22,6 +21,7 @@ use stun_types_wire::attribute::RawAttribute;
 use stun_types_wire::error::StunWriteError;
 use stun_types_wire::header::MessageHeader;
 use stun_types_write::attribute::{Attribute, AttributeWrite};
+use stun_types_write::memory::NoMemory;
 use stun_types_write::writer::MessageWrite;
 
 /// Adds the integrity attribute of an algorithm under a key. What it refuses stands at

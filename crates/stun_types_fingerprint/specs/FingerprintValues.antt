@@ -1,7 +1,7 @@
 -- The number that a FINGERPRINT tells (RFC 8489, section 14.7).
 use Rattle.std.specs.Prelude.{ℕ, List, bit_xor}
 use Rattle.byteorder.specs.Endian.{big_bytes}
-use Rattle.stun_types_digest.specs.Crc.{crc32}
+use Rattle.stun_types_wire.specs.Crc.{crc32}
 use Rattle.stun_types_wire.specs.Registry.{fingerprint_mask}
 
 -- a number of 32 bits, turned, in four bytes

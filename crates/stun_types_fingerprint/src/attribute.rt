@@ -13,14 +13,14 @@ use byteorder::{BigEndian, ByteOrder};
 use std::alloc::Global;
 use std::convert::TryFrom;
 use std::marker::Model;
-use stun_types_base::memory::NoMemory;
-use stun_types_digest::crc::Crc32;
 use stun_types_wire::attribute::{AttributeType, RawAttribute};
+use stun_types_wire::crc::Crc32;
 use stun_types_wire::error::StunParseError;
 use stun_types_wire::registry;
 use stun_types_write::attribute::{
     Attribute, AttributeFromRaw, AttributeStaticType, AttributeWrite,
 };
+use stun_types_write::memory::NoMemory;
 use stun_types_write::reading::value_of;
 use stun_types_write::text::write_attribute;
 

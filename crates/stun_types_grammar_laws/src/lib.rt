@@ -72,3 +72,6 @@ pub fn written_is_read()
         → HasOwnFingerprint kind number all
         → IsReadAs kind number all (message_text kind number all) }
 {}
+
+// What stands above this crate has these through it.
+pub use stun_types_wire::{algorithm, attribute, error, hmac, memory, registry};

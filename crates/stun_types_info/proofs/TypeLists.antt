@@ -3,11 +3,11 @@ use Rattle.std.proofs.Common.{◌≡◌, ℕ, suc, ◌+◌, ◌*◌, ◌/◌, �
 use Rattle.std.proofs.lemmas.Grind.{common_steps}
 use Rattle.std.proofs.lemmas.List.{length-append}
 use Rattle.byteorder.specs.Endian.{big_bytes}
-use Rattle.stun_types_wire.specs.declared.error.StunWriteError.TheVariants.{TooLarge}
-use Rattle.stun_types_write.specs.Adding.{attr_of, has_kind}
-use Rattle.stun_types_write.proofs.Values.{value_is_accepted}
+use Rattle.stun_types_attribute.specs.declared.error.StunWriteError.TheVariants.{TooLarge}
+use Rattle.stun_types_attribute.specs.Adding.{attr_of, has_kind}
+use Rattle.stun_types_attribute.proofs.Values.{value_is_accepted}
 use Rattle.stun_types_info.specs.UnknownTypes.{types_value, types_told, odd_refusal, types_read_refusal, types_refusal, with_type}
-use Rattle.stun_types_wire.specs.Registry.{longest_value}
+use Rattle.stun_types_attribute.specs.Registry.{longest_value}
 
 -- the bytes of the types that bytes tell
 pub bytes_again : (bytes : List ℕ) → length bytes % 2 ≡ 0 → ((k : ℕ) → slice_index bytes k < 256) → types_value (types_told bytes) ≡ bytes

@@ -1,7 +1,7 @@
 -- Types of attributes that are marked: a bit for each type, in words of 64 bits.
 use Rattle.std.specs.Prelude.{◌≡◌, ℕ, ◌/◌, ◌%◌, ◌==◌, Bool, List, get_or, Option, IfSome}
 use Rattle.std.specs.Int.{bit_at}
-use Rattle.stun_types_write.specs.Adding.{has_kind}
+use Rattle.stun_types_attribute.specs.Adding.{has_kind}
 use Rattle.stun_types_info.specs.declared.type_index.TheConstants.{WORD_TYPES}
 
 -- whether a type is marked

@@ -2,14 +2,14 @@
 use Rattle.std.specs.Prelude.{ℕ, ◌+◌, ◌*◌, ◌%◌, ◌==◌, nat_lt, List, [], ◌∷◌, ◌++◌, length, Option, Some, None, if◌then◌else◌}
 use Rattle.std.specs.Option.{option_or}
 use Rattle.byteorder.specs.Endian.{big_bytes}
-use Rattle.stun_types_wire.specs.declared.error.StunParseError.{StunParseError}
-use Rattle.stun_types_wire.specs.declared.error.StunParseError.TheVariants.{InvalidAttributeData}
-use Rattle.stun_types_wire.specs.declared.error.StunWriteError.{StunWriteError}
-use Rattle.stun_types_wire.specs.declared.error.StunWriteError.TheVariants.{TooLarge}
-use Rattle.stun_types_wire.specs.Attributes.{Attr}
-use Rattle.stun_types_write.specs.Adding.{has_kind}
-use Rattle.stun_types_write.specs.ValueReading.{value_refusal}
-use Rattle.stun_types_wire.specs.Registry.{unknown_attributes_kind, longest_value}
+use Rattle.stun_types_attribute.specs.declared.error.StunParseError.{StunParseError}
+use Rattle.stun_types_attribute.specs.declared.error.StunParseError.TheVariants.{InvalidAttributeData}
+use Rattle.stun_types_attribute.specs.declared.error.StunWriteError.{StunWriteError}
+use Rattle.stun_types_attribute.specs.declared.error.StunWriteError.TheVariants.{TooLarge}
+use Rattle.stun_types_attribute.specs.Attributes.{Attr}
+use Rattle.stun_types_attribute.specs.Adding.{has_kind}
+use Rattle.stun_types_attribute.specs.ValueReading.{value_refusal}
+use Rattle.stun_types_attribute.specs.Registry.{unknown_attributes_kind, longest_value}
 
 -- the value: the types one behind another, each in two bytes, the highest first
 unfoldable pub types_value : List ℕ → List ℕ

@@ -1,21 +1,21 @@
 //! ALTERNATE-DOMAIN (RFC 8489, section 14.16).
 
 ghost use Rattle.std.specs.Prelude.{◌≡◌, ◌≤◌, IfOk, None, length};
-ghost use Rattle.stun_types_base.specs.Refusals.{RefusesFor};
+ghost use Rattle.stun_types_attribute.specs.Refusals.{RefusesFor};
 ghost use Rattle.stun_types_attribute.specs.Texts.{text_refusal};
-ghost use Rattle.stun_types_wire.specs.Registry.{longest_domain, alternate_domain_kind};
+ghost use Rattle.stun_types_attribute.specs.Registry.{longest_domain, alternate_domain_kind};
 
 use std::alloc::Global;
 use std::marker::Model;
-use stun_types_base::memory::NoMemory;
-use stun_types_wire::attribute::{AttributeType, RawAttribute};
-use stun_types_wire::error::{StunParseError, StunWriteError};
-use stun_types_wire::registry;
-use stun_types_write::attribute::{
+use stun_types_attribute::attribute::{
     Attribute, AttributeFromRaw, AttributeStaticType, AttributeWrite,
 };
-use stun_types_write::reading::{text_is_read, text_of};
-use stun_types_write::text::write_attribute;
+use stun_types_attribute::error::{StunParseError, StunWriteError};
+use stun_types_attribute::memory::NoMemory;
+use stun_types_attribute::reading::{text_is_read, text_of};
+use stun_types_attribute::registry;
+use stun_types_attribute::text::write_attribute;
+use stun_types_attribute::wire_attribute::{AttributeType, RawAttribute};
 
 /// The domain of another server that the client should try: the name that its certificate has to show
 /// (RFC 8489, section 14.16). It has at most 255 bytes. Contracts see the bytes of the text.
@@ -27,7 +27,7 @@ pub struct AlternateDomain {
 impl Model for AlternateDomain {
     ghost use Rattle.std.specs.Prelude.{List, ℕ, ◌≤◌, length};
     ghost use Rattle.std.specs.String.{string_bytes};
-    ghost use Rattle.stun_types_wire.specs.Registry.{longest_domain};
+    ghost use Rattle.stun_types_attribute.specs.Registry.{longest_domain};
 
     ghost Value = { List ℕ };
 
@@ -105,7 +105,7 @@ impl AttributeWrite for AlternateDomain {
 /// A text of at most 255 bytes. Refused, in this order: `WrongAttributeImplementation` where it is
 /// another type, `TooLarge` where the value is longer, `InvalidAttributeData` where it is not UTF-8.
 impl<'a> AttributeFromRaw<'a> for AlternateDomain {
-    ghost use Rattle.stun_types_write.specs.ValueReading.{text_read_refusal};
+    ghost use Rattle.stun_types_attribute.specs.ValueReading.{text_read_refusal};
 
     ghost read_refusal = { text_read_refusal alternate_domain_kind longest_domain };
 

@@ -1,22 +1,22 @@
 //! ALTERNATE-SERVER (RFC 8489, section 14.15).
 
 ghost use Rattle.std.specs.Prelude.{Some, ◌≡◌};
-ghost use Rattle.stun_types_write.specs.ValueReading.{IsNamed};
-ghost use Rattle.stun_types_address.specs.Addresses.{address_of, address_value};
-ghost use Rattle.stun_types_wire.specs.Registry.{alternate_server_kind};
+ghost use Rattle.stun_types_attribute.specs.ValueReading.{IsNamed};
+ghost use Rattle.stun_types_attribute.specs.Addresses.{address_of, address_value};
+ghost use Rattle.stun_types_attribute.specs.Registry.{alternate_server_kind};
 
 use std::alloc::Global;
 use std::convert::TryFrom;
 use std::marker::Model;
 use std::net::SocketAddr;
-use stun_types_address::socket_addr::MappedSocketAddr;
-use stun_types_base::memory::NoMemory;
-use stun_types_wire::attribute::{AttributeType, RawAttribute};
-use stun_types_wire::error::StunParseError;
-use stun_types_wire::registry;
-use stun_types_write::attribute::{
+use stun_types_attribute::attribute::{
     Attribute, AttributeFromRaw, AttributeStaticType, AttributeWrite,
 };
+use stun_types_attribute::error::StunParseError;
+use stun_types_attribute::memory::NoMemory;
+use stun_types_attribute::registry;
+use stun_types_attribute::socket_addr::MappedSocketAddr;
+use stun_types_attribute::wire_attribute::{AttributeType, RawAttribute};
 
 /// The address of another server that the client should try, in plain (RFC 8489, section 14.15).
 /// Contracts see the bytes of the value.
@@ -88,8 +88,8 @@ impl AttributeWrite for AlternateServer {
 /// has not the 8 bytes of IPv4 or the 20 of IPv6.
 impl<'a, 'raw> TryFrom<&'raw RawAttribute<'a>> for AlternateServer {
     ghost use Rattle.std.specs.Prelude.{◌≡◌, MatchResult, Some, None};
-    ghost use Rattle.stun_types_write.specs.ValueReading.{IsNamed};
-    ghost use Rattle.stun_types_address.specs.Addresses.{address_again, address_read_refusal};
+    ghost use Rattle.stun_types_attribute.specs.ValueReading.{IsNamed};
+    ghost use Rattle.stun_types_attribute.specs.Addresses.{address_again, address_read_refusal};
 
     type Error = StunParseError;
 
@@ -107,7 +107,7 @@ impl<'a, 'raw> TryFrom<&'raw RawAttribute<'a>> for AlternateServer {
 /// Refused as `try_from` is; no memory is taken.
 impl<'a> AttributeFromRaw<'a> for AlternateServer {
     ghost use Rattle.std.specs.Prelude.{false};
-    ghost use Rattle.stun_types_address.specs.Addresses.{address_again, address_read_refusal};
+    ghost use Rattle.stun_types_attribute.specs.Addresses.{address_again, address_read_refusal};
 
     ghost read_refusal = { address_read_refusal alternate_server_kind };
 

@@ -1,21 +1,21 @@
 //! SOFTWARE (RFC 8489, section 14.14).
 
 ghost use Rattle.std.specs.Prelude.{◌≡◌, ◌≤◌, IfOk, None, length};
-ghost use Rattle.stun_types_base.specs.Refusals.{RefusesFor};
+ghost use Rattle.stun_types_attribute.specs.Refusals.{RefusesFor};
 ghost use Rattle.stun_types_attribute.specs.Texts.{text_refusal};
-ghost use Rattle.stun_types_wire.specs.Registry.{longest_software, software_kind};
+ghost use Rattle.stun_types_attribute.specs.Registry.{longest_software, software_kind};
 
 use std::alloc::Global;
 use std::marker::Model;
-use stun_types_base::memory::NoMemory;
-use stun_types_wire::attribute::{AttributeType, RawAttribute};
-use stun_types_wire::error::{StunParseError, StunWriteError};
-use stun_types_wire::registry;
-use stun_types_write::attribute::{
+use stun_types_attribute::attribute::{
     Attribute, AttributeFromRaw, AttributeStaticType, AttributeWrite,
 };
-use stun_types_write::reading::{text_is_read, text_of};
-use stun_types_write::text::write_attribute;
+use stun_types_attribute::error::{StunParseError, StunWriteError};
+use stun_types_attribute::memory::NoMemory;
+use stun_types_attribute::reading::{text_is_read, text_of};
+use stun_types_attribute::registry;
+use stun_types_attribute::text::write_attribute;
+use stun_types_attribute::wire_attribute::{AttributeType, RawAttribute};
 
 /// What a sender says of the software that it runs, to help in finding faults (RFC 8489, section 14.14).
 /// It has at most 763 bytes. Contracts see the bytes of the text.
@@ -27,7 +27,7 @@ pub struct Software {
 impl Model for Software {
     ghost use Rattle.std.specs.Prelude.{List, ℕ, ◌≤◌, length};
     ghost use Rattle.std.specs.String.{string_bytes};
-    ghost use Rattle.stun_types_wire.specs.Registry.{longest_software};
+    ghost use Rattle.stun_types_attribute.specs.Registry.{longest_software};
 
     ghost Value = { List ℕ };
 
@@ -105,7 +105,7 @@ impl AttributeWrite for Software {
 /// A text of at most 763 bytes. Refused, in this order: `WrongAttributeImplementation` where it is
 /// another type, `TooLarge` where the value is longer, `InvalidAttributeData` where it is not UTF-8.
 impl<'a> AttributeFromRaw<'a> for Software {
-    ghost use Rattle.stun_types_write.specs.ValueReading.{text_read_refusal};
+    ghost use Rattle.stun_types_attribute.specs.ValueReading.{text_read_refusal};
 
     ghost read_refusal = { text_read_refusal software_kind longest_software };
 

@@ -5,8 +5,8 @@ ghost use Rattle.stun_types_info.specs.TypeMarks.{is_marked};
 
 use std::alloc::Global;
 use std::marker::Model;
-use stun_types_base::memory::NoMemory;
-use stun_types_wire::attribute::AttributeType;
+use stun_types_attribute::memory::NoMemory;
+use stun_types_attribute::wire_attribute::AttributeType;
 
 /// How many types a word marks.
 const WORD_TYPES: usize = 64;

@@ -1,26 +1,26 @@
 //! UNKNOWN-ATTRIBUTES (RFC 8489, section 14.13).
 
 ghost use Rattle.std.specs.Prelude.{◌≡◌, ℕ, List, ◌+◌, ◌*◌, ◌%◌, ◌≤◌, ◌++◌, ◌∷◌, [], IfOk, OnOk, OnErr, MatchResult, None, Some, is_some, length, map};
-ghost use Rattle.stun_types_base.specs.Refusals.{RefusesFor};
-ghost use Rattle.stun_types_write.specs.ValueReading.{IsNamed};
-ghost use Rattle.stun_types_write.specs.Adding.{has_kind};
+ghost use Rattle.stun_types_attribute.specs.Refusals.{RefusesFor};
+ghost use Rattle.stun_types_attribute.specs.ValueReading.{IsNamed};
+ghost use Rattle.stun_types_attribute.specs.Adding.{has_kind};
 ghost use Rattle.stun_types_info.specs.TypeMarks.{IsIndexed};
 ghost use Rattle.stun_types_info.specs.UnknownTypes.{types_read_refusal, types_refusal, types_told, types_value, with_type};
-ghost use Rattle.stun_types_wire.specs.Registry.{longest_value, unknown_attributes_kind};
+ghost use Rattle.stun_types_attribute.specs.Registry.{longest_value, unknown_attributes_kind};
 
 use crate::type_index::TypeIndex;
 use std::alloc::Global;
 use std::fmt;
 use std::marker::Model;
-use stun_types_base::memory::NoMemory;
-use stun_types_wire::attribute::{AttributeType, RawAttribute};
-use stun_types_wire::error::{StunParseError, StunWriteError};
-use stun_types_wire::registry;
-use stun_types_write::attribute::{
+use stun_types_attribute::attribute::{
     Attribute, AttributeFromRaw, AttributeStaticType, AttributeWrite,
 };
-use stun_types_write::reading::value_of;
-use stun_types_write::text::write_attribute;
+use stun_types_attribute::error::{StunParseError, StunWriteError};
+use stun_types_attribute::memory::NoMemory;
+use stun_types_attribute::reading::value_of;
+use stun_types_attribute::registry;
+use stun_types_attribute::text::write_attribute;
+use stun_types_attribute::wire_attribute::{AttributeType, RawAttribute};
 
 /// The types of attributes that a server had to understand and did not (RFC 8489, section 14.13): as
 /// many as a value of 65,535 bytes holds, at two bytes each. Contracts see the list of their numbers.
@@ -35,7 +35,7 @@ impl Model for UnknownAttributes {
     ghost use Rattle.std.specs.Prelude.{◌≡◌, ℕ, ◌%◌, ◌≤◌, List, length};
     ghost use Rattle.stun_types_info.specs.TypeMarks.{IsIndexed};
     ghost use Rattle.stun_types_info.specs.UnknownTypes.{types_told};
-    ghost use Rattle.stun_types_wire.specs.Registry.{longest_value};
+    ghost use Rattle.stun_types_attribute.specs.Registry.{longest_value};
 
     ghost Value = { List ℕ };
 

@@ -2,12 +2,12 @@
 use Rattle.std.proofs.Common.{◌≡◌, ℕ, ◌≤◌, List, length, None, arith}
 use Rattle.std.specs.Prelude.{IsTrue}
 use Rattle.std.proofs.lemmas.Grind.{common_steps}
-use Rattle.stun_types_wire.specs.declared.algorithm.IntegrityAlgorithm.TheVariants.{Sha256}
+use Rattle.stun_types_write.specs.declared.algorithm.IntegrityAlgorithm.TheVariants.{Sha256}
 use Rattle.stun_types_write.specs.Adding.{attr_of}
 use Rattle.stun_types_write.proofs.Values.{value_is_accepted}
 use Rattle.stun_types_integrity.specs.Integrity.{is_lawful_length}
 use Rattle.stun_types_integrity.specs.Sha256Values.{fours_refusal, sha256_read_refusal}
-use Rattle.stun_types_wire.specs.Registry.{sha256_kind}
+use Rattle.stun_types_write.specs.Registry.{sha256_kind}
 
 at_least : (len : ℕ) → IsTrue (is_lawful_length Sha256 len) → 16 ≤ len
 at_least len lawful = grind (arith, common_steps, lawful)

@@ -7,8 +7,8 @@ ghost use Rattle.stun_types_integrity.specs.Credentials.{long_term_key, short_te
 use crate::key::IntegrityKey;
 use std::alloc::Global;
 use std::marker::Model;
-use stun_types_base::memory::NoMemory;
-use stun_types_wire::algorithm::IntegrityAlgorithm;
+use stun_types_write::algorithm::IntegrityAlgorithm;
+use stun_types_write::memory::NoMemory;
 
 /// A user's name and password, which count in many sessions, and in each realm by another key
 /// (RFC 8489, section 9.2). Contracts see the two texts.

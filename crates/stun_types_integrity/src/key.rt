@@ -13,8 +13,8 @@ use md5::{Digest, Md5};
 use sha2::Sha256;
 use std::fmt;
 use std::marker::Model;
-use stun_types_digest::hmac::{BlockDigest, HmacSha1, HmacSha256};
-use stun_types_wire::algorithm::IntegrityAlgorithm;
+use stun_types_write::algorithm::IntegrityAlgorithm;
+use stun_types_write::hmac::{BlockDigest, HmacSha1, HmacSha256};
 
 /// The bytes of a key: a digest, or the password itself.
 #[derive(Drop)]

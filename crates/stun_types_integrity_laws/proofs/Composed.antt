@@ -4,25 +4,25 @@ use Rattle.std.specs.Prelude.{Bool, if◌then◌else◌}
 use Rattle.std.specs.List.{AllByRecursion}
 use Rattle.std.proofs.lemmas.Bool.{cases_Bool, ltb-false}
 use Rattle.std.proofs.lemmas.List.{append-nil}
-use Rattle.stun_types_wire.specs.declared.algorithm.IntegrityAlgorithm.{IntegrityAlgorithm}
-use Rattle.stun_types_wire.specs.declared.algorithm.IntegrityAlgorithm.TheVariants.{Sha1, Sha256}
-use Rattle.stun_types_wire.specs.Attributes.{Attr, attr_size, padded}
-use Rattle.stun_types_wire.specs.Fingerprints.{fingerprint_of, shows_fingerprint}
-use Rattle.stun_types_wire.specs.Shape.{kinds_of, last_rank, may_follow, rank}
-use Rattle.stun_types_wire.specs.Registry.{fingerprint_kind}
-use Rattle.stun_types_wire.specs.Text.{FitsAttribute, body_text, header_text, message_text}
-use Rattle.stun_types_grammar_laws.specs.Fingerprinted.{EndsWithFingerprint, HasOwnFingerprint}
-use Rattle.stun_types_grammar_laws.specs.MessageReading.{IsReadAs}
-use Rattle.stun_types_grammar_laws.proofs.Ends.{fit_both}
-use Rattle.stun_types_grammar_laws.proofs.Fingerprints.{fingerprint_size}
-use Rattle.stun_types_grammar_laws.proofs.Longest.{Follows, follows_shape}
-use Rattle.stun_types_grammar_laws.proofs.Written.{written_read}
-use Rattle.stun_types_write.specs.declared.ended.Ended.{Ended}
-use Rattle.stun_types_write.specs.Adding.{IsBegun, add_refusal, fingerprint_add_refusal, growth_refusal}
-use Rattle.stun_types_wire.specs.Registry.{greatest_size}
-use Rattle.stun_types_write.specs.Drafts.{Draft, ended_by}
-use Rattle.stun_types_integrity.specs.Integrity.{Validates, algorithm_of, attribute_kind}
-use Rattle.stun_types_integrity.specs.Signing.{hmac_length, order_refusal, signature, signing_refusal, text_to_sign}
+use Rattle.stun_types_build.specs.declared.algorithm.IntegrityAlgorithm.{IntegrityAlgorithm}
+use Rattle.stun_types_build.specs.declared.algorithm.IntegrityAlgorithm.TheVariants.{Sha1, Sha256}
+use Rattle.stun_types_build.specs.Attributes.{Attr, attr_size, padded}
+use Rattle.stun_types_build.specs.Fingerprints.{fingerprint_of, shows_fingerprint}
+use Rattle.stun_types_build.specs.Shape.{kinds_of, last_rank, may_follow, rank}
+use Rattle.stun_types_build.specs.Registry.{fingerprint_kind}
+use Rattle.stun_types_build.specs.Text.{FitsAttribute, body_text, header_text, message_text}
+use Rattle.stun_types_build.specs.Fingerprinted.{EndsWithFingerprint, HasOwnFingerprint}
+use Rattle.stun_types_build.specs.MessageReading.{IsReadAs}
+use Rattle.stun_types_build.proofs.Ends.{fit_both}
+use Rattle.stun_types_build.proofs.Fingerprints.{fingerprint_size}
+use Rattle.stun_types_build.proofs.Longest.{Follows, follows_shape}
+use Rattle.stun_types_build.proofs.Written.{written_read}
+use Rattle.stun_types_build.specs.declared.ended.Ended.{Ended}
+use Rattle.stun_types_build.specs.Adding.{IsBegun, add_refusal, fingerprint_add_refusal, growth_refusal}
+use Rattle.stun_types_build.specs.Registry.{greatest_size}
+use Rattle.stun_types_build.specs.Drafts.{Draft, ended_by}
+use Rattle.stun_types_build.specs.Integrity.{Validates, algorithm_of, attribute_kind}
+use Rattle.stun_types_build.specs.Signing.{hmac_length, order_refusal, signature, signing_refusal, text_to_sign}
 use Rattle.stun_types_build.specs.Calls.{Add, Ordinary, Integrity, Fingerprint, AreAccepted, IsLawful, IsOrdinary, IsWritten, after_call, after_calls, attribute_of, attributes_after, attributes_of, refusal_of}
 use Rattle.stun_types_build.proofs.Adds.{add_begun, one_more}
 use Rattle.stun_types_build.proofs.Taken.{none_of, text_after}

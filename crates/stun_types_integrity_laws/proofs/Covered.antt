@@ -7,20 +7,20 @@ use Rattle.std.proofs.lemmas.List.{length-drop, length-take, take-append-drop, d
 use Rattle.std.proofs.lemmas.List.Elements.{filter-append}
 use Rattle.byteorder.specs.Endian.{big_from}
 use Rattle.byteorder.specs.Numbers.{big_from-append, big_number-reads_back}
-use Rattle.stun_types_wire.specs.declared.algorithm.IntegrityAlgorithm.{IntegrityAlgorithm}
-use Rattle.stun_types_wire.specs.declared.algorithm.IntegrityAlgorithm.TheVariants.{Sha1, Sha256}
-use Rattle.stun_types_wire.specs.Attributes.{Attr, attr_size, kind_at, length_at, size_at, padded, numbered}
-use Rattle.stun_types_wire.specs.Shape.{rank, may_follow, kinds_of, shown_after}
-use Rattle.stun_types_wire.specs.Registry.{integrity_kind, sha256_kind, fingerprint_kind}
-use Rattle.stun_types_wire.specs.Grammar.{IsMessage, shown, number_at}
-use Rattle.stun_types_wire.specs.Text.{header_text, parts_text}
-use Rattle.stun_types_grammar_laws.specs.Headers.{AreBytes}
-use Rattle.stun_types_grammar_laws.proofs.Whole.{whole_long, size_whole}
-use Rattle.stun_types_grammar_laws.proofs.Left.{left_at, map_numbered}
-use Rattle.stun_types_grammar_laws.proofs.Longest.{Follows, front_follows}
-use Rattle.stun_types_grammar_laws.proofs.Converse.{has_text}
-use Rattle.stun_types_wire.specs.Covered.{covered_text, with_length}
-use Rattle.stun_types_integrity.specs.Integrity.{Validates, algorithm_of, attribute_kind, is_lawful_length}
+use Rattle.stun_types_build.specs.declared.algorithm.IntegrityAlgorithm.{IntegrityAlgorithm}
+use Rattle.stun_types_build.specs.declared.algorithm.IntegrityAlgorithm.TheVariants.{Sha1, Sha256}
+use Rattle.stun_types_build.specs.Attributes.{Attr, attr_size, kind_at, length_at, size_at, padded, numbered}
+use Rattle.stun_types_build.specs.Shape.{rank, may_follow, kinds_of, shown_after}
+use Rattle.stun_types_build.specs.Registry.{integrity_kind, sha256_kind, fingerprint_kind}
+use Rattle.stun_types_build.specs.Grammar.{IsMessage, shown, number_at}
+use Rattle.stun_types_build.specs.Text.{header_text, parts_text}
+use Rattle.stun_types_build.specs.Headers.{AreBytes}
+use Rattle.stun_types_build.proofs.Whole.{whole_long, size_whole}
+use Rattle.stun_types_build.proofs.Left.{left_at, map_numbered}
+use Rattle.stun_types_build.proofs.Longest.{Follows, front_follows}
+use Rattle.stun_types_build.proofs.Converse.{has_text}
+use Rattle.stun_types_build.specs.Covered.{covered_text, with_length}
+use Rattle.stun_types_build.specs.Integrity.{Validates, algorithm_of, attribute_kind, is_lawful_length}
 use Rattle.stun_types_integrity_laws.specs.Same.{ShowSame, without_fingerprint}
 use Rattle.stun_types_integrity_laws.proofs.Splits.{stands, not_before, same_before}
 

@@ -6,19 +6,19 @@ use Rattle.std.specs.Int.{to_be_bytes, w32}
 use Rattle.std.proofs.lemmas.List.{append-nil, length-append}
 use Rattle.sha1.specs.Sha1.{sha1, digest_bytes}
 use Rattle.sha2.proofs.Facts256.{length-sha256}
-use Rattle.stun_types_digest.specs.Hmac.{hmac}
-use Rattle.stun_types_wire.specs.declared.algorithm.IntegrityAlgorithm.{IntegrityAlgorithm}
-use Rattle.stun_types_wire.specs.declared.algorithm.IntegrityAlgorithm.TheVariants.{Sha1, Sha256}
-use Rattle.stun_types_wire.specs.Attributes.{Attr, attr_size, padded, numbered}
-use Rattle.stun_types_wire.specs.Covered.{covered_text, with_length}
-use Rattle.stun_types_wire.specs.Grammar.{shown}
-use Rattle.stun_types_wire.specs.Shape.{IsShape, kinds_of}
-use Rattle.stun_types_wire.specs.Text.{FitsAttribute, body_text, message_text}
-use Rattle.stun_types_grammar_laws.specs.Fingerprinted.{HasOwnFingerprint}
-use Rattle.stun_types_grammar_laws.proofs.Ends.{covered_at, fit_both, numbered_both, text_length}
-use Rattle.stun_types_grammar_laws.proofs.Written.{written_read}
-use Rattle.stun_types_integrity.specs.Integrity.{IsFront, IsSigned, Validates, algorithm_of, attribute_kind, integrity_hmac, is_lawful_length}
-use Rattle.stun_types_integrity.specs.Signing.{hmac_length, signature, text_to_sign}
+use Rattle.stun_types_build.specs.Hmac.{hmac}
+use Rattle.stun_types_build.specs.declared.algorithm.IntegrityAlgorithm.{IntegrityAlgorithm}
+use Rattle.stun_types_build.specs.declared.algorithm.IntegrityAlgorithm.TheVariants.{Sha1, Sha256}
+use Rattle.stun_types_build.specs.Attributes.{Attr, attr_size, padded, numbered}
+use Rattle.stun_types_build.specs.Covered.{covered_text, with_length}
+use Rattle.stun_types_build.specs.Grammar.{shown}
+use Rattle.stun_types_build.specs.Shape.{IsShape, kinds_of}
+use Rattle.stun_types_build.specs.Text.{FitsAttribute, body_text, message_text}
+use Rattle.stun_types_build.specs.Fingerprinted.{HasOwnFingerprint}
+use Rattle.stun_types_build.proofs.Ends.{covered_at, fit_both, numbered_both, text_length}
+use Rattle.stun_types_build.proofs.Written.{written_read}
+use Rattle.stun_types_build.specs.Integrity.{IsFront, IsSigned, Validates, algorithm_of, attribute_kind, integrity_hmac, is_lawful_length}
+use Rattle.stun_types_build.specs.Signing.{hmac_length, signature, text_to_sign}
 
 -- ---- how long an HMAC is
 

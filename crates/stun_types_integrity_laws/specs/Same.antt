@@ -1,9 +1,9 @@
 -- Two messages that show the same.
 use Rattle.std.specs.Prelude.{◌≡◌, ℕ, not, ◌==◌, List}
 use Rattle.std.specs.List.{filter}
-use Rattle.stun_types_wire.specs.Attributes.{Attr, kind_at}
-use Rattle.stun_types_wire.specs.Registry.{fingerprint_kind}
-use Rattle.stun_types_wire.specs.Grammar.{shown, number_at}
+use Rattle.stun_types_build.specs.Attributes.{Attr, kind_at}
+use Rattle.stun_types_build.specs.Registry.{fingerprint_kind}
+use Rattle.stun_types_build.specs.Grammar.{shown, number_at}
 
 -- attributes without a FINGERPRINT
 abbrev pub without_fingerprint : List Attr → List Attr

@@ -4,16 +4,16 @@
 
 ghost use Rattle.std.specs.Prelude.{◌≡◌, ◌<◌, ◌^◌, ◌++◌, ◌∷◌, List, ℕ, None, length};
 ghost use Rattle.std.specs.List.{AllByRecursion};
-ghost use Rattle.stun_types_wire.specs.declared.algorithm.IntegrityAlgorithm.{IntegrityAlgorithm as Algorithm};
-ghost use Rattle.stun_types_wire.specs.Attributes.{Attr};
-ghost use Rattle.stun_types_wire.specs.Shape.{IsShape, kinds_of};
-ghost use Rattle.stun_types_wire.specs.Text.{FitsAttribute, body_text, message_text};
-ghost use Rattle.stun_types_grammar_laws.specs.Fingerprinted.{HasOwnFingerprint};
-ghost use Rattle.stun_types_grammar_laws.specs.Headers.{AreBytes};
-ghost use Rattle.stun_types_integrity.specs.Integrity.{IsSigned, Validates, algorithm_of};
-ghost use Rattle.stun_types_integrity.specs.Signing.{signature, text_to_sign};
-ghost use Rattle.stun_types_grammar_laws.specs.MessageReading.{IsReadAs};
-ghost use Rattle.stun_types_write.specs.Drafts.{Draft};
+ghost use Rattle.stun_types_build.specs.declared.algorithm.IntegrityAlgorithm.{IntegrityAlgorithm as Algorithm};
+ghost use Rattle.stun_types_build.specs.Attributes.{Attr};
+ghost use Rattle.stun_types_build.specs.Shape.{IsShape, kinds_of};
+ghost use Rattle.stun_types_build.specs.Text.{FitsAttribute, body_text, message_text};
+ghost use Rattle.stun_types_build.specs.Fingerprinted.{HasOwnFingerprint};
+ghost use Rattle.stun_types_build.specs.Headers.{AreBytes};
+ghost use Rattle.stun_types_build.specs.Integrity.{IsSigned, Validates, algorithm_of};
+ghost use Rattle.stun_types_build.specs.Signing.{signature, text_to_sign};
+ghost use Rattle.stun_types_build.specs.MessageReading.{IsReadAs};
+ghost use Rattle.stun_types_build.specs.Drafts.{Draft};
 ghost use Rattle.stun_types_build.specs.Calls.{Add, Integrity, IsLawful, IsWritten, attributes_of};
 ghost use Rattle.stun_types_integrity_laws.specs.UnsignedCalls.{IsNoIntegrity};
 ghost use Rattle.stun_types_integrity_laws.specs.Same.{ShowSame};

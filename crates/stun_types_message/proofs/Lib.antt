@@ -7,3 +7,6 @@ pub mod Validating
 pub mod Refusing
 pub mod Listing
 pub mod Marks
+-- What stands above this crate has these through it.
+pub use Rattle.stun_types_build.proofs.Adds
+pub use Rattle.stun_types_build.proofs.Taken

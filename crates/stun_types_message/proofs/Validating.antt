@@ -21,11 +21,11 @@ use Rattle.stun_types_wire.specs.declared.algorithm.IntegrityAlgorithm.TheVarian
 use Rattle.stun_types_wire.specs.declared.error.StunParseError.TheVariants.{MissingAttribute, InvalidAttributeData}
 use Rattle.stun_types_wire.specs.declared.error.ValidateError.{ValidateError}
 use Rattle.stun_types_wire.specs.declared.error.ValidateError.TheVariants.{Parse, IntegrityFailed}
-use Rattle.stun_types_integrity.specs.Integrity.{IsSigned, Validates, algorithm_of, attribute_kind, integrity_hmac}
-use Rattle.stun_types_integrity.specs.Credentials.{Key}
-use Rattle.stun_types_integrity.specs.Keys.{key_of}
-use Rattle.stun_types_integrity.proofs.Keys.{key_for}
-use Rattle.stun_types_integrity.specs.declared.credentials.MessageIntegrityCredentials.{MessageIntegrityCredentials}
+use Rattle.stun_types_build.specs.Integrity.{IsSigned, Validates, algorithm_of, attribute_kind, integrity_hmac}
+use Rattle.stun_types_build.specs.Credentials.{Key}
+use Rattle.stun_types_build.specs.Keys.{key_of}
+use Rattle.stun_types_build.proofs.Keys.{key_for}
+use Rattle.stun_types_build.specs.declared.credentials.MessageIntegrityCredentials.{MessageIntegrityCredentials}
 use Rattle.stun_types_message.specs.Parsed.{IsParsed}
 use Rattle.stun_types_message.specs.MessageValidation.{HasDigest, IsLawful, IsRefused, IsRight, StandsAt, first_of_kind, last_algorithm}
 

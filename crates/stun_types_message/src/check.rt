@@ -3,7 +3,7 @@
 ghost use Rattle.std.specs.Prelude.{◌≡◌, ◌==◌, ◌+◌, ◌<◌, ◌≤◌, ◌^◌, ◌++◌, ◌∷◌, false, ℕ, List, [], map, not, is_some, find, length, IfOk};
 ghost use Rattle.std.specs.List.{list_any};
 ghost use Rattle.std.specs.Option.{option_map};
-ghost use Rattle.stun_types_base.specs.Refusals.{RefusesFor};
+ghost use Rattle.stun_types_attribute.specs.Refusals.{RefusesFor};
 ghost use Rattle.stun_types_wire.specs.Attributes.{Attr, kind_at};
 ghost use Rattle.stun_types_wire.specs.Shape.{kinds_of};
 ghost use Rattle.stun_types_wire.specs.Types.{class_of};

@@ -5,7 +5,7 @@ ghost use Rattle.stun_types_wire.specs.Attributes.{attr_size, kind_at};
 ghost use Rattle.stun_types_wire.specs.Types.{class_of};
 ghost use Rattle.stun_types_wire.specs.Grammar.{number_at};
 ghost use Rattle.stun_types_wire.specs.declared.class.MessageClass.TheVariants.{Request};
-ghost use Rattle.stun_types_base.specs.Refusals.{RefusesFor};
+ghost use Rattle.stun_types_attribute.specs.Refusals.{RefusesFor};
 ghost use Rattle.stun_types_write.specs.Adding.{size_refusal};
 ghost use Rattle.stun_types_write.specs.Outcomes.{CanBegin};
 ghost use Rattle.stun_types_build.specs.Calls.{IsComposed};

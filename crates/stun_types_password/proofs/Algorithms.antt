@@ -6,7 +6,7 @@ use Rattle.stun_types_password.specs.declared.algorithm.PasswordAlgorithmValue.{
 use Rattle.stun_types_password.specs.declared.algorithm.PasswordAlgorithmValue.TheVariants.{MD5, SHA256}
 use Rattle.stun_types_password.specs.PasswordAlgorithmNumbers.{number_of, is_known, number_refusal}
 use Rattle.stun_types_password.specs.Entries.{entry, algorithm_value, number_told, algorithm_read_refusal}
-use Rattle.stun_types_wire.specs.Registry.{password_algorithm_kind}
+use Rattle.stun_types_write.specs.Registry.{password_algorithm_kind}
 
 -- a value tells the number that was written
 pub told_again : (a : PasswordAlgorithmValue) → entry (number_told (algorithm_value a)) ≡ algorithm_value a

@@ -7,9 +7,9 @@ ghost use Rattle.stun_types_password.specs.Entries.{algorithm_value, number_told
 
 use byteorder::{BigEndian, ByteOrder};
 use std::fmt;
-use stun_types_wire::algorithm::IntegrityAlgorithm;
-use stun_types_wire::error::StunParseError;
-use stun_types_wire::registry::{MD5_NUMBER, SHA256_NUMBER};
+use stun_types_write::algorithm::IntegrityAlgorithm;
+use stun_types_write::error::StunParseError;
+use stun_types_write::registry::{MD5_NUMBER, SHA256_NUMBER};
 
 /// An algorithm by which a key is made of a name, a realm and a password (RFC 8489, section 18.5).
 #[derive(Clone, Copy, Debug, PartialEq, Eq)]

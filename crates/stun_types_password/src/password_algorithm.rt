@@ -4,21 +4,21 @@ ghost use Rattle.std.specs.Prelude.{◌≡◌, None, MatchResult};
 ghost use Rattle.stun_types_write.specs.ValueReading.{IsNamed};
 ghost use Rattle.stun_types_password.specs.PasswordAlgorithmNumbers.{number_of};
 ghost use Rattle.stun_types_password.specs.Entries.{algorithm_read_refusal, number_told};
-ghost use Rattle.stun_types_wire.specs.Registry.{password_algorithm_kind};
+ghost use Rattle.stun_types_write.specs.Registry.{password_algorithm_kind};
 
 use crate::algorithm::PasswordAlgorithmValue;
 use std::alloc::Global;
 use std::convert::TryFrom;
 use std::marker::Model;
-use stun_types_base::memory::NoMemory;
-use stun_types_wire::attribute::{AttributeType, RawAttribute};
-use stun_types_wire::error::StunParseError;
-use stun_types_wire::registry;
 use stun_types_write::attribute::{
     Attribute, AttributeFromRaw, AttributeStaticType, AttributeWrite,
 };
+use stun_types_write::error::StunParseError;
+use stun_types_write::memory::NoMemory;
 use stun_types_write::reading::value_of;
+use stun_types_write::registry;
 use stun_types_write::text::write_attribute;
+use stun_types_write::wire_attribute::{AttributeType, RawAttribute};
 
 /// The password algorithm that a client chose among those of the server (RFC 8489, section 14.12).
 /// Contracts see the algorithm.

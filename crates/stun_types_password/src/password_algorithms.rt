@@ -1,25 +1,25 @@
 //! PASSWORD-ALGORITHMS (RFC 8489, section 14.11).
 
 ghost use Rattle.std.specs.Prelude.{◌≡◌, ◌+◌, ◌*◌, ◌%◌, ◌≤◌, ◌++◌, IfOk, IfErr, MatchResult, None, Some, drop, length, map, take, true};
-ghost use Rattle.stun_types_base.specs.Refusals.{RefusesFor};
+ghost use Rattle.stun_types_write.specs.Refusals.{RefusesFor};
 ghost use Rattle.stun_types_write.specs.ValueReading.{IsNamed};
 ghost use Rattle.std.specs.List.{list_all};
 ghost use Rattle.stun_types_password.specs.PasswordAlgorithmNumbers.{is_known, number_of};
 ghost use Rattle.stun_types_password.specs.Entries.{algorithms_read_refusal, algorithms_value, count_refusal, numbers_told};
-ghost use Rattle.stun_types_wire.specs.Registry.{most_algorithms, password_algorithms_kind};
+ghost use Rattle.stun_types_write.specs.Registry.{most_algorithms, password_algorithms_kind};
 
 use crate::algorithm::PasswordAlgorithmValue;
 use std::alloc::Global;
 use std::marker::Model;
-use stun_types_base::memory::NoMemory;
-use stun_types_wire::attribute::{AttributeType, RawAttribute};
-use stun_types_wire::error::{StunParseError, StunWriteError};
-use stun_types_wire::registry;
 use stun_types_write::attribute::{
     Attribute, AttributeFromRaw, AttributeStaticType, AttributeWrite,
 };
+use stun_types_write::error::{StunParseError, StunWriteError};
+use stun_types_write::memory::NoMemory;
 use stun_types_write::reading::value_of;
+use stun_types_write::registry;
 use stun_types_write::text::write_attribute;
+use stun_types_write::wire_attribute::{AttributeType, RawAttribute};
 
 /// The password algorithms that a server supports, at most eight, in the order of its preference
 /// (RFC 8489, section 14.11). A list of none can be made and written, but it is not read. Contracts see
@@ -32,7 +32,7 @@ pub struct PasswordAlgorithms {
 impl Model for PasswordAlgorithms {
     ghost use Rattle.std.specs.Prelude.{◌≤◌, List, length};
     ghost use Rattle.stun_types_password.specs.declared.algorithm.PasswordAlgorithmValue.{PasswordAlgorithmValue};
-    ghost use Rattle.stun_types_wire.specs.Registry.{most_algorithms};
+    ghost use Rattle.stun_types_write.specs.Registry.{most_algorithms};
 
     ghost Value = { List PasswordAlgorithmValue };
 

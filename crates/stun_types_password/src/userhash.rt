@@ -4,21 +4,21 @@ ghost use Rattle.std.specs.Prelude.{◌≡◌, length, None, MatchResult};
 ghost use Rattle.stun_types_write.specs.ValueReading.{IsNamed};
 ghost use Rattle.stun_types_write.specs.ValueReading.{value_refusal};
 ghost use Rattle.stun_types_password.specs.Userhashes.{userhash_of};
-ghost use Rattle.stun_types_wire.specs.Registry.{userhash_length, userhash_kind};
+ghost use Rattle.stun_types_write.specs.Registry.{userhash_length, userhash_kind};
 
 use sha2::{Digest, Sha256};
 use std::alloc::Global;
 use std::convert::TryFrom;
 use std::marker::Model;
-use stun_types_base::memory::NoMemory;
-use stun_types_wire::attribute::{AttributeType, RawAttribute};
-use stun_types_wire::error::StunParseError;
-use stun_types_wire::registry;
 use stun_types_write::attribute::{
     Attribute, AttributeFromRaw, AttributeStaticType, AttributeWrite,
 };
+use stun_types_write::error::StunParseError;
+use stun_types_write::memory::NoMemory;
 use stun_types_write::reading::value_of;
+use stun_types_write::registry;
 use stun_types_write::text::write_attribute;
+use stun_types_write::wire_attribute::{AttributeType, RawAttribute};
 
 /// A hash of a user's name and realm, which tells the user to the server and to nobody else (RFC 8489,
 /// section 14.4). Contracts see its 32 bytes.
@@ -29,7 +29,7 @@ pub struct Userhash {
 
 impl Model for Userhash {
     ghost use Rattle.std.specs.Prelude.{◌≡◌, ℕ, List, length};
-    ghost use Rattle.stun_types_wire.specs.Registry.{userhash_length};
+    ghost use Rattle.stun_types_write.specs.Registry.{userhash_length};
 
     ghost Value = { List ℕ };
 

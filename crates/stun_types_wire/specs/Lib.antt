@@ -14,3 +14,10 @@ pub mod Strength
 pub mod Text
 pub mod TypeBytes
 pub mod Types
+-- What stands above this crate has these through it.
+pub use Rattle.stun_types_base.specs.GeneratorWords
+pub use Rattle.stun_types_base.specs.ListLending
+pub use Rattle.stun_types_base.specs.Refusals
+pub use Rattle.stun_types_base.specs.SocketAddrs
+pub use Rattle.stun_types_digest.specs.Crc
+pub use Rattle.stun_types_digest.specs.Hmac

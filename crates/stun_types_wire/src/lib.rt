@@ -11,3 +11,7 @@ pub mod header;
 pub mod names;
 pub mod registry;
 pub mod transaction;
+
+// What stands above this crate has these through it.
+pub use stun_types_base::{list, memory, words};
+pub use stun_types_digest::{crc, hmac};

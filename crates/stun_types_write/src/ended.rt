@@ -3,8 +3,8 @@
 ghost use Rattle.std.specs.Prelude.{◌≡◌};
 ghost use Rattle.stun_types_write.specs.Drafts.{ended_by, none_ended};
 
-use stun_types_wire::attribute::AttributeType;
-use stun_types_wire::registry::{FINGERPRINT, MESSAGE_INTEGRITY, MESSAGE_INTEGRITY_SHA256};
+use stun_types_grammar_laws::attribute::AttributeType;
+use stun_types_grammar_laws::registry::{FINGERPRINT, MESSAGE_INTEGRITY, MESSAGE_INTEGRITY_SHA256};
 
 /// Which of the three attributes that end a message were added (RFC 8489, sections 14.5 to 14.7).
 #[derive(Clone, Copy, Debug)]

@@ -2,14 +2,14 @@
 
 ghost use Rattle.std.specs.Prelude.{◌≡◌, ◌+◌, ◌<◌, ◌≤◌, ◌^◌, ◌++◌, length, drop};
 ghost use Rattle.byteorder.specs.Endian.{big_bytes};
-ghost use Rattle.stun_types_wire.specs.Attributes.{padded};
-ghost use Rattle.stun_types_wire.specs.Text.{attribute_text};
+ghost use Rattle.stun_types_grammar_laws.specs.Attributes.{padded};
+ghost use Rattle.stun_types_grammar_laws.specs.Text.{attribute_text};
 ghost use Rattle.stun_types_write.specs.Adding.{attr_of};
-ghost use Rattle.stun_types_wire.specs.Covered.{with_length};
-ghost use Rattle.stun_types_wire.specs.Registry.{header_size};
+ghost use Rattle.stun_types_grammar_laws.specs.Covered.{with_length};
+ghost use Rattle.stun_types_grammar_laws.specs.Registry.{header_size};
 
 use byteorder::{BigEndian, ByteOrder};
-use stun_types_wire::attribute::{AttributeType, pad_attribute_len};
+use stun_types_grammar_laws::attribute::{AttributeType, pad_attribute_len};
 
 /// Writes the four bytes before a value to the front: the type, and the length of the value.
 pub fn write_attribute_header(atype: AttributeType, len: u16, dest: &mut [u8])
@@ -34,7 +34,6 @@ pub fn write_attribute(atype: AttributeType, value: &[u8], dest: &mut [u8])
 }
 
 /// The same, of a value that stands in two pieces.
-#[tactic(auto, unfolding(stun_types_wire::specs::Text::attribute_text, stun_types_wire::specs::Text::padded_text))]
 pub fn write_attribute_in_two(atype: AttributeType, front: &[u8], back: &[u8], dest: &mut [u8])
     requires short { length (front.now ++ back.now) < 2 ^ 16 }
     requires room { 4 + padded (length (front.now ++ back.now)) ≤ length dest.old }
@@ -53,7 +52,6 @@ pub fn write_attribute_in_two(atype: AttributeType, front: &[u8], back: &[u8], d
 }
 
 /// Writes the length of a message into its header.
-#[tactic(auto, unfolding(stun_types_wire::specs::Covered::with_length))]
 pub fn write_length(bytes: &mut [u8], n: u16)
     requires { header_size ≤ length bytes.old }
     ensures { bytes.new ≡ with_length bytes.old n }

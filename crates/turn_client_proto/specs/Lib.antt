@@ -16,3 +16,10 @@ pub mod Kept
 pub use Rattle.turn_client_proto_poll.specs.Allocation
 pub use Rattle.turn_client_proto_poll.specs.Api
 pub use Rattle.turn_client_proto_poll.specs.Permission
+-- What stands above this crate has these through it.
+pub use Rattle.turn_client_proto_poll.specs.Headline
+pub use Rattle.turn_client_proto_poll.specs.Members
+pub use Rattle.turn_client_proto_poll.specs.Messages
+pub use Rattle.turn_client_proto_poll.specs.Runs
+pub use Rattle.turn_client_proto_poll.specs.Steps
+pub use Rattle.turn_client_proto_poll.specs.Words

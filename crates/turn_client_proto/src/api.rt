@@ -12,7 +12,7 @@ ghost use Rattle.turn_client_proto.specs.Getters.{has_permission, permissions_of
 ghost use Rattle.turn_client_proto.specs.Receipts.{IsReceived};
 ghost use Rattle.turn_client_proto.specs.Refusals.{IsAnsweredStill, IsTurnedDown};
 
-pub use crate::getters::{PermissionsIter, RelayedAddressesIter};
+pub use crate::getters::{PermissionAddressesIter, RelayedAddressesIter};
 use std::convert::AsSlice;
 use std::fmt::Debug;
 use std::net::{IpAddr, SocketAddr};
@@ -91,7 +91,11 @@ pub trait TurnClientApi: Debug + Send {
     /// The addresses whose permissions stand in the allocation of this transport and relayed address, in
     /// the order in which they were granted; none where there is no such allocation, or it is marked as
     /// expired. It takes no memory.
-    fn permissions(&self, transport: TransportType, relayed: SocketAddr) -> PermissionsIter<'_>
+    fn permissions(
+        &self,
+        transport: TransportType,
+        relayed: SocketAddr,
+    ) -> PermissionAddressesIter<'_>
         ensures { result ≡ permissions_of transport relayed (protocol self.now) };
 
     /// Asks for a channel to a peer (RFC 8656, section 12.1). There are none yet: it is refused with

@@ -4,7 +4,7 @@ ghost use Rattle.turn_client_proto.specs.Clients.{protocol_of};
 
 use crate::api::{
     BindChannelError, CreatePermissionError, DelayedMessageOrChannelSend, DeleteError,
-    PermissionsIter, RelayedAddressesIter, SendError, Socket5Tuple, TcpAllocateError,
+    PermissionAddressesIter, RelayedAddressesIter, SendError, Socket5Tuple, TcpAllocateError,
     TcpConnectError, TurnClientApi, TurnEvent, TurnPeerData, TurnPollRet, TurnRecvRet,
 };
 use crate::udp::TurnClientUdp;
@@ -86,7 +86,11 @@ impl TurnClientApi for TurnClient {
         }
     }
 
-    fn permissions(&self, transport: TransportType, relayed: SocketAddr) -> PermissionsIter<'_> {
+    fn permissions(
+        &self,
+        transport: TransportType,
+        relayed: SocketAddr,
+    ) -> PermissionAddressesIter<'_> {
         match self {
             TurnClient::Udp(client) => client.permissions(transport, relayed),
         }

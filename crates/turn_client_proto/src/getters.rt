@@ -64,11 +64,11 @@ impl<'a> Iterator for RelayedAddressesIter<'a> {
 /// The addresses of permissions, in the order in which they were granted. Contracts see the list of what
 /// is left.
 #[derive(Debug, Drop)]
-pub struct PermissionsIter<'a> {
+pub struct PermissionAddressesIter<'a> {
     left: &'a [Permission],
 }
 
-impl<'a> Model for PermissionsIter<'a> {
+impl<'a> Model for PermissionAddressesIter<'a> {
     ghost use Rattle.std.specs.Prelude.{List};
     ghost use Rattle.std.specs.declared.net.ip_addr.IpAddr.{IpAddr};
     ghost use Rattle.turn_client_proto_poll.specs.Permission.Shown.{addresses_of};
@@ -78,16 +78,16 @@ impl<'a> Model for PermissionsIter<'a> {
     ghost view = { λ it. addresses_of it.left.now };
 }
 
-impl<'a> PermissionsIter<'a> {
+impl<'a> PermissionAddressesIter<'a> {
     /// The addresses of these permissions.
-    pub fn new(permissions: &'a [Permission]) -> PermissionsIter<'a>
+    pub fn new(permissions: &'a [Permission]) -> PermissionAddressesIter<'a>
         ensures { result ≡ addresses_of permissions.now }
     {
-        PermissionsIter { left: permissions }
+        PermissionAddressesIter { left: permissions }
     }
 }
 
-impl<'a> Iterator for PermissionsIter<'a> {
+impl<'a> Iterator for PermissionAddressesIter<'a> {
     ghost use Rattle.std.specs.Iterator.{YieldsFirst, item_count};
 
     type Item = IpAddr;

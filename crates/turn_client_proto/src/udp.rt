@@ -12,7 +12,7 @@ ghost use Rattle.turn_client_proto.specs.Receipts.{IsOfServer, IsReceived};
 
 use crate::api::{
     BindChannelError, CreatePermissionError, DelayedMessageOrChannelSend, DeleteError,
-    PermissionsIter, RelayedAddressesIter, SendError, Socket5Tuple, TcpAllocateError,
+    PermissionAddressesIter, RelayedAddressesIter, SendError, Socket5Tuple, TcpAllocateError,
     TcpConnectError, TurnClientApi, TurnConfig, TurnEvent, TurnPeerData, TurnPollRet, TurnRecvRet,
 };
 use std::alloc::Global;
@@ -130,9 +130,13 @@ impl TurnClientApi for TurnClientUdp {
         permits_any(self.protocol.allocations.as_slice(), transport, to)
     }
 
-    fn permissions(&self, transport: TransportType, relayed: SocketAddr) -> PermissionsIter<'_> {
+    fn permissions(
+        &self,
+        transport: TransportType,
+        relayed: SocketAddr,
+    ) -> PermissionAddressesIter<'_> {
         let allocations = self.protocol.allocations.as_slice();
-        PermissionsIter::new(permissions_at(allocations, transport, relayed))
+        PermissionAddressesIter::new(permissions_at(allocations, transport, relayed))
     }
 
     fn bind_channel(

@@ -10,3 +10,6 @@ pub mod event;
 pub mod families;
 pub mod send;
 pub(crate) mod waits;
+
+// What stands above this crate has these through it.
+pub use stun_proto::{Instant, agent, auth, laws};

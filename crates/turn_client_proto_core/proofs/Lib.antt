@@ -6,3 +6,5 @@ pub mod UnderWay
 -- What stands above this crate has these through it.
 pub use Rattle.turn_client_proto_allocation.proofs as Allocation
 pub use Rattle.turn_client_proto_request.proofs as Request
+pub use Rattle.turn_client_proto_request.proofs.Keeps
+pub use Rattle.turn_client_proto_request.proofs.Safe

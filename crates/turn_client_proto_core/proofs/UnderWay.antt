@@ -1,8 +1,8 @@
 -- A client while a call is under way.
 use Rattle.std.proofs.Common.{◌≡◌, ℕ, Result, Ok, Err, refl, ap, ◌∙◌, inl, inr}
 use Rattle.std.specs.Prelude.{OnErr, take, length}
-use Rattle.stun_proto.specs.State.{Agent}
-use Rattle.stun_proto.specs.Sending.{IsAfterTransmit}
+use Rattle.turn_client_proto_api.specs.State.{Agent}
+use Rattle.turn_client_proto_api.specs.Sending.{IsAfterTransmit}
 use Rattle.turn_client_proto_core.specs.Ending.{HasFailed, IsUnderWay, failed}
 use Rattle.turn_client_proto_core.specs.declared.protocol.Protocol.{Protocol}
 use Rattle.turn_client_proto_allocation.proofs.Prefixes.{whole_kept}

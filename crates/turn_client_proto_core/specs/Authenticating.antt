@@ -1,9 +1,9 @@
 -- What a client that has not allocated makes of a message (RFC 8656, sections 7.3 and 7.4; RFC 8489, section 9.2.5).
 use Rattle.std.specs.Prelude.{ℕ, Bool, List, [], ◌∷◌, ◌++◌, Option, Some, None, Result, Ok, Err, if◌then◌else◌}
 use Rattle.std.specs.Bool.{MatchBool}
-use Rattle.stun_proto.specs.ClientAuthErrors.{LongTermClientAuthError, IntegrityFailed, NoMemory}
-use Rattle.stun_proto.specs.ClientValidations.{LongTermClientValidation, ResendRequest, Validated}
-use Rattle.stun_proto.specs.Handling.{is_awaited}
+use Rattle.turn_client_proto_api.specs.ClientAuthErrors.{LongTermClientAuthError, IntegrityFailed, NoMemory}
+use Rattle.turn_client_proto_api.specs.ClientValidations.{LongTermClientValidation, ResendRequest, Validated}
+use Rattle.turn_client_proto_api.specs.Handling.{is_awaited}
 use Rattle.stun_types.specs.Attributes.{kind_at}
 use Rattle.stun_types.specs.MessageClasses.{MessageClass, Success, Error}
 use Rattle.stun_types.specs.Registry.{family_not_supported_code}

@@ -17,3 +17,17 @@ pub use Rattle.turn_client_proto_api.specs as Api
 pub use Rattle.turn_client_proto_permission.specs as Permission
 pub use Rattle.turn_client_proto_request.specs as Request
 pub use Rattle.turn_client_proto_response.specs as Response
+pub use Rattle.turn_client_proto_api.specs.AgentPolls
+pub use Rattle.turn_client_proto_api.specs.Agents
+pub use Rattle.turn_client_proto_api.specs.Least
+pub use Rattle.turn_client_proto_api.specs.Moments
+pub use Rattle.turn_client_proto_api.specs.Sending
+pub use Rattle.turn_client_proto_api.specs.State
+pub use Rattle.turn_client_proto_request.specs.Headline
+pub use Rattle.turn_client_proto_request.specs.Members
+pub use Rattle.turn_client_proto_request.specs.Messages
+pub use Rattle.turn_client_proto_request.specs.Names
+pub use Rattle.turn_client_proto_request.specs.Runs
+pub use Rattle.turn_client_proto_request.specs.Steps
+pub use Rattle.turn_client_proto_request.specs.StunWire
+pub use Rattle.turn_client_proto_request.specs.Words

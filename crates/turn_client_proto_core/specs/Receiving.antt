@@ -1,10 +1,10 @@
 -- What a client makes of a message that came from the server (RFC 8489, section 6.3; RFC 8656).
 use Rattle.std.specs.Prelude.{ℕ, Bool, true, false, ◌&&◌, List, Result}
 use Rattle.std.specs.Bool.{MatchBool}
-use Rattle.stun_proto.specs.Client as auth
-use Rattle.stun_proto.specs.ClientAuthErrors.{LongTermClientAuthError}
-use Rattle.stun_proto.specs.ClientValidations.{LongTermClientValidation}
-use Rattle.stun_proto.specs.Handling.{is_response}
+use Rattle.turn_client_proto_api.specs.Client as auth
+use Rattle.turn_client_proto_api.specs.ClientAuthErrors.{LongTermClientAuthError}
+use Rattle.turn_client_proto_api.specs.ClientValidations.{LongTermClientValidation}
+use Rattle.turn_client_proto_api.specs.Handling.{is_response}
 use Rattle.stun_types.specs.Attributes.{kind_at}
 use Rattle.stun_types.specs.Grammar.{number_at}
 use Rattle.stun_types.specs.MessageClasses.{MessageClass, Indication}

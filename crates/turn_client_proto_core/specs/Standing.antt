@@ -2,9 +2,9 @@
 use Rattle.std.specs.Prelude.{ℕ, ◌==◌, Bool, true, false, ◌&&◌, List, [], map, Option, Some, None, Result, Ok, Err, if◌then◌else◌}
 use Rattle.std.specs.Bool.{MatchBool}
 use Rattle.std.specs.List.{list_any}
-use Rattle.stun_proto.specs.ClientAuthErrors.{LongTermClientAuthError, NoMemory}
-use Rattle.stun_proto.specs.ClientValidations.{LongTermClientValidation, ResendRequest, Validated}
-use Rattle.stun_proto.specs.Handling.{is_awaited, is_response}
+use Rattle.turn_client_proto_api.specs.ClientAuthErrors.{LongTermClientAuthError, NoMemory}
+use Rattle.turn_client_proto_api.specs.ClientValidations.{LongTermClientValidation, ResendRequest, Validated}
+use Rattle.turn_client_proto_api.specs.Handling.{is_awaited, is_response}
 use Rattle.stun_types.specs.Attributes.{kind_at}
 use Rattle.stun_types.specs.Grammar.{number_at}
 use Rattle.stun_types.specs.Registry.{allocation_mismatch_code}

@@ -5,11 +5,11 @@ ghost use Rattle.turn_client_proto_core.specs.Allocating.{IsAllocated, allocated
 ghost use Rattle.turn_client_proto_core.specs.Ending.{IsUnderWay};
 
 use crate::protocol::{Phase, Protocol};
-use stun_proto::Instant;
 use stun_types::NoMemory;
 use stun_types::message::Message;
 use turn_client_proto_allocation::allocation::Allocation;
 use turn_client_proto_allocation::listed::Allocations;
+use turn_client_proto_api::Instant;
 use turn_client_proto_response::granting::{Terms, allocations_of};
 use turn_client_proto_response::telling::{tell_created, tell_without};
 use turn_client_proto_response::told::lifetime_told;

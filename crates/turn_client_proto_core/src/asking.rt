@@ -1,14 +1,14 @@
 //! The making of requests (RFC 8489, section 6.2).
 
 ghost use Rattle.std.specs.Prelude.{◌≡◌, ◌++◌, ◌∷◌, [], List, OnOk, OnErr};
-ghost use Rattle.stun_proto.specs.Sending.{with_request};
+ghost use Rattle.turn_client_proto_api.specs.Sending.{with_request};
 ghost use Rattle.turn_client_proto_core.specs.Waiting.{Queued};
 ghost use Rattle.turn_client_proto_core.specs.Asking.{asked};
 
 use crate::protocol::{Protocol, Queued};
-use stun_proto::Instant;
 use stun_types::NoMemory;
 use stun_types::message::TransactionId;
+use turn_client_proto_api::Instant;
 use turn_client_proto_request::request::TurnRequest;
 
 impl Protocol {

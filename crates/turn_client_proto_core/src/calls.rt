@@ -8,10 +8,10 @@ ghost use Rattle.turn_client_proto_core.specs.Deleting.{IsDeleteAnswered, after_
 ghost use Rattle.turn_client_proto_core.specs.Numbering.{after_number};
 
 use crate::protocol::{Phase, Protocol};
-use stun_proto::Instant;
 use stun_types::NoMemory;
 use stun_types::message::TransactionId;
 use turn_client_proto_allocation::refresh::PendingRefresh;
+use turn_client_proto_api::Instant;
 use turn_client_proto_api::error::DeleteError;
 use turn_client_proto_api::event::TurnEvent;
 use turn_client_proto_request::request::TurnRequest;

@@ -4,8 +4,8 @@ ghost use Rattle.std.specs.Prelude.{◌≡◌, OnOk, OnErr};
 ghost use Rattle.turn_client_proto_core.specs.Ending.{ended, failed};
 
 use crate::protocol::{Phase, Protocol};
-use stun_proto::agent::StunAgent;
 use stun_types::NoMemory;
+use turn_client_proto_api::agent::StunAgent;
 use turn_client_proto_response::telling::tell_failures;
 
 impl Protocol {

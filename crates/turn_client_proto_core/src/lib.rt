@@ -18,5 +18,6 @@ pub mod standing;
 // What stands above this crate has these through it.
 pub use turn_client_proto_allocation as allocation;
 pub use turn_client_proto_api as api;
+pub use turn_client_proto_api::{Instant, agent, laws};
 pub use turn_client_proto_permission as permission;
 pub use turn_client_proto_request as request;

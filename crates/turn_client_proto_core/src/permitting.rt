@@ -2,7 +2,7 @@
 //! section 10).
 
 ghost use Rattle.std.specs.Prelude.{◌≡◌, ◌<◌, ℕ, ◌∷◌, [], List, IfOk, IfSome, OnErr, OnOk, false, length, slice_get, slice_set};
-ghost use Rattle.stun_proto.specs.Handling.{is_awaited};
+ghost use Rattle.turn_client_proto_api.specs.Handling.{is_awaited};
 ghost use Rattle.stun_types.specs.Grammar.{number_at};
 ghost use Rattle.turn_client_proto_permission.specs.Asking.{all_asked_again, all_renewed_again, asking, peer_asked, peer_renewed};
 ghost use Rattle.turn_client_proto_request.specs.ToldRequests.{IsLawfulRequest};
@@ -15,10 +15,10 @@ ghost use Rattle.turn_client_proto_core.specs.Responding.{is_tired};
 
 use crate::protocol::Protocol;
 use std::net::IpAddr;
-use stun_proto::Instant;
 use stun_types::message::{Message, MessageClass, TransactionId};
 use stun_types::{AddressFamily, NoMemory, TransportType};
 use turn_client_proto_allocation::permission::PendingPermission;
+use turn_client_proto_api::Instant;
 use turn_client_proto_api::error::CreatePermissionError;
 use turn_client_proto_api::event::TurnEvent;
 use turn_client_proto_permission::{asking, granted, one};

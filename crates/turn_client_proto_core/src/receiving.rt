@@ -5,10 +5,10 @@ ghost use Rattle.turn_client_proto_core.specs.Ending.{HasFailed, IsUnderWay};
 ghost use Rattle.turn_client_proto_core.specs.Receiving.{IsHeard};
 
 use crate::protocol::{Phase, Protocol};
-use stun_proto::Instant;
 use stun_types::NoMemory;
 use stun_types::message::{Message, MessageClass};
 use turn_client_proto_allocation::numbers::has_number;
+use turn_client_proto_api::Instant;
 
 impl Protocol {
     /// A message came from the server at a moment. Answers whether it was for the client. Where memory

@@ -8,12 +8,12 @@ ghost use Rattle.turn_client_proto_core.specs.Receiving.{IsFollowed};
 ghost use Rattle.turn_client_proto_core.specs.Standing.{IsJudgedStanding, IsRechallenged, IsTakenUp, after_refresh, deallocated, is_refreshed, refreshed, refreshes_again};
 
 use crate::protocol::{Phase, Protocol};
-use stun_proto::Instant;
-use stun_proto::auth::{LongTermClientAuthError, LongTermClientValidation};
 use stun_types::NoMemory;
 use stun_types::message::{Message, MessageClass, TransactionId};
 use stun_types::registry::ALLOCATION_MISMATCH;
 use turn_client_proto_allocation::refresh::PendingRefresh;
+use turn_client_proto_api::Instant;
+use turn_client_proto_api::auth::{LongTermClientAuthError, LongTermClientValidation};
 use turn_client_proto_request::request::TurnRequest;
 use turn_client_proto_response::told::{first_code, lifetime_told};
 use turn_types::message::{CREATE_PERMISSION, REFRESH};

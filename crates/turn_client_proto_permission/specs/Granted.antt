@@ -1,7 +1,7 @@
 -- What the response to a CREATE_PERMISSION makes of permissions (RFC 8656, section 10.3).
 use Rattle.std.specs.Prelude.{ℕ, List, [], ◌∷◌, ◌++◌, map, Option, Some, None}
 use Rattle.std.specs.declared.net.ip_addr.IpAddr.{IpAddr}
-use Rattle.stun_proto.specs.Moments.{moment_after}
+use Rattle.turn_client_proto_api.specs.Moments.{moment_after}
 use Rattle.turn_client_proto_allocation.specs.Changes.{change_first}
 use Rattle.turn_client_proto_allocation.specs.Permissions.{not_asked_by, not_renewed_by, permission_lifetime, renewed_permission}
 use Rattle.turn_client_proto_allocation.specs.declared.allocation.Allocation.{Allocation}

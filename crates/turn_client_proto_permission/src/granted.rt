@@ -6,10 +6,10 @@ ghost use Rattle.turn_client_proto_permission.specs.Granted.{all_permitted, perm
 use crate::asking::place_asked;
 use crate::one;
 use std::alloc::Global;
-use stun_proto::Instant;
 use stun_types::NoMemory;
 use stun_types::message::TransactionId;
 use turn_client_proto_allocation::allocation::Allocation;
+use turn_client_proto_api::Instant;
 
 /// In the allocation at a place, the request of this number was granted. Where memory is refused,
 /// nothing changes.

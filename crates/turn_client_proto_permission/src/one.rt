@@ -16,11 +16,11 @@ use crate::wanting::Want;
 use std::alloc::Global;
 use std::net::IpAddr;
 use std::time::Duration;
-use stun_proto::Instant;
 use stun_types::message::TransactionId;
 use stun_types::{AddressFamily, ListOf, NoMemory, TransportType};
 use turn_client_proto_allocation::allocation::Allocation;
 use turn_client_proto_allocation::permission::Permission;
+use turn_client_proto_api::Instant;
 
 /// A permission stands so long, in seconds, unless it is renewed (RFC 8656, section 9).
 const PERMISSION_LIFETIME: u64 = 300;

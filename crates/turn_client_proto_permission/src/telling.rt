@@ -1,16 +1,16 @@
 //! What becomes of permissions as time goes on (RFC 8656, section 9), and what is told of it.
 
 ghost use Rattle.std.specs.Prelude.{◌≡◌, ◌++◌, OnOk, OnErr, length, map, take};
-ghost use Rattle.stun_proto.specs.Least.{IsLeastOf};
+ghost use Rattle.turn_client_proto_api.specs.Least.{IsLeastOf};
 ghost use Rattle.turn_client_proto_api.specs.declared.event.TurnEvent.TheVariants.{PermissionCreateFailed};
 ghost use Rattle.turn_client_proto_permission.specs.Telling.{addresses_lapsed, addresses_over, all_failures, all_nexts, earlier_of, failures, polled};
 
 use crate::one;
-use stun_proto::Instant;
 use stun_types::message::TransactionId;
 use stun_types::{NoMemory, TransportType};
 use turn_client_proto_allocation::allocation::Allocation;
 use turn_client_proto_allocation::permission::{PendingPermission, Permission};
+use turn_client_proto_api::Instant;
 use turn_client_proto_api::event::TurnEvent;
 use turn_client_proto_queue::queue::QueueOf;
 

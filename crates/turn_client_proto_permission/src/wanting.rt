@@ -6,11 +6,11 @@ ghost use Rattle.turn_client_proto_permission.specs.Wanting.{refreshed_first, re
 
 use crate::one::{want, wants};
 use std::net::IpAddr;
-use stun_proto::Instant;
 use stun_types::NoMemory;
 use stun_types::message::TransactionId;
 use turn_client_proto_allocation::allocation::Allocation;
 use turn_client_proto_allocation::refresh::PendingRefresh;
+use turn_client_proto_api::Instant;
 
 /// What is to be sent for an allocation.
 #[derive(Clone, Copy, Debug, PartialEq, Eq)]

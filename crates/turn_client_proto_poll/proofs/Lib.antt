@@ -4,3 +4,5 @@ pub mod Prefixes
 pub mod Quiet
 -- What stands above this crate has these through it.
 pub use Rattle.turn_client_proto_core.proofs.Request
+pub use Rattle.turn_client_proto_core.proofs.Keeps
+pub use Rattle.turn_client_proto_core.proofs.Safe

@@ -1,12 +1,12 @@
 -- What a poll answers.
 use Rattle.std.proofs.Common.{◌≡◌, ◌≢◌, ℕ, ◌≤◌, List, [], ◌∷◌, length, Option, refl, subst, arith}
-use Rattle.stun_proto.specs.AgentPolls.{StunAgentPollRet}
-use Rattle.stun_proto.specs.State as agents
+use Rattle.turn_client_proto_core.specs.AgentPolls.{StunAgentPollRet}
+use Rattle.turn_client_proto_core.specs.State as agents
 use Rattle.turn_client_proto_core.specs.Api.declared.answer.TurnPollRet.{TurnPollRet}
 use Rattle.turn_client_proto_core.specs.Api.declared.answer.TurnPollRet.TheVariants as answer
 use Rattle.turn_client_proto_core.specs.Api.declared.event.TurnEvent.{TurnEvent}
 use Rattle.turn_client_proto_poll.specs.Polling.{IsPolled, IsPolledBy, IsPolledIn, IsTicked, ended_of, longest_pause, wait_of, wait_to_send}
-use Rattle.stun_proto.specs.Moments.{moment_after}
+use Rattle.turn_client_proto_core.specs.Moments.{moment_after}
 use Rattle.turn_client_proto_core.specs.declared.protocol.Protocol.{Protocol}
 
 -- an answer that isn't want of memory

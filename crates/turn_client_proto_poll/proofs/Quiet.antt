@@ -6,11 +6,11 @@ use Rattle.std.specs.Bool.{MatchBool}
 use Rattle.std.specs.List.{All, cons_option, filter_map, list_any}
 use Rattle.std.proofs.lemmas.Bool.{and_right, lt-leb, ltb-false, or_from}
 use Rattle.std.specs.FinMap as finite
-use Rattle.stun_proto.specs.Agents.{Transaction, is_ended}
-use Rattle.stun_proto.specs.AgentPolls.{StunAgentPollRet, TransactionCancelled, TransactionTimedOut, WaitUntil}
-use Rattle.stun_proto.specs.Moments.{moment_after}
-use Rattle.stun_proto.specs.Sending.{NoneDue, is_due_of}
-use Rattle.stun_proto.specs.State as agents
+use Rattle.turn_client_proto_core.specs.Agents.{Transaction, is_ended}
+use Rattle.turn_client_proto_core.specs.AgentPolls.{StunAgentPollRet, TransactionCancelled, TransactionTimedOut, WaitUntil}
+use Rattle.turn_client_proto_core.specs.Moments.{moment_after}
+use Rattle.turn_client_proto_core.specs.Sending.{NoneDue, is_due_of}
+use Rattle.turn_client_proto_core.specs.State as agents
 use Rattle.turn_client_proto_core.specs.Allocation.Awaited.{is_among}
 use Rattle.turn_client_proto_core.specs.Allocation.Permissions.{are_none, has_lapsed, next_of_permission, permission_renewal, polled_permission, polled_permissions, standing, wants_renewal}
 use Rattle.turn_client_proto_core.specs.Allocation.declared.permission.Permission.{Permission}

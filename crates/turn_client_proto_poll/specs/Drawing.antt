@@ -3,11 +3,11 @@ use Rattle.std.specs.Prelude.{◌≡◌, ℕ, nat_lt, Bool, false, List, [], ◌
 use Rattle.std.specs.Bool.{MatchBool}
 use Rattle.std.specs.declared.net.ip_addr.IpAddr.{IpAddr}
 use Rattle.std.specs.declared.net.socket_addr.SocketAddr.{SocketAddr}
-use Rattle.stun_proto.specs.Agents.{Transaction, transmitted}
-use Rattle.stun_proto.specs.Least.{IsLeast}
-use Rattle.stun_proto.specs.Moments.{moment_after}
-use Rattle.stun_proto.specs.Sending.{NoneDue, is_due_of, kept_under, with_request}
-use Rattle.stun_proto.specs.State.{is_tcp}
+use Rattle.turn_client_proto_core.specs.Agents.{Transaction, transmitted}
+use Rattle.turn_client_proto_core.specs.Least.{IsLeast}
+use Rattle.turn_client_proto_core.specs.Moments.{moment_after}
+use Rattle.turn_client_proto_core.specs.Sending.{NoneDue, is_due_of, kept_under, with_request}
+use Rattle.turn_client_proto_core.specs.State.{is_tcp}
 use Rattle.stun_types.specs.Data.{data_bytes}
 use Rattle.stun_types.specs.declared.data.Data.{Data}
 use Rattle.stun_types.specs.declared.transmit.Transmit.{Transmit}

@@ -7,3 +7,11 @@ pub use Rattle.turn_client_proto_core.specs.Api
 pub use Rattle.turn_client_proto_core.specs.Permission
 pub use Rattle.turn_client_proto_core.specs.Request
 pub use Rattle.turn_client_proto_core.specs.Response
+pub use Rattle.turn_client_proto_core.specs.Headline
+pub use Rattle.turn_client_proto_core.specs.Members
+pub use Rattle.turn_client_proto_core.specs.Messages
+pub use Rattle.turn_client_proto_core.specs.Names
+pub use Rattle.turn_client_proto_core.specs.Runs
+pub use Rattle.turn_client_proto_core.specs.Steps
+pub use Rattle.turn_client_proto_core.specs.StunWire
+pub use Rattle.turn_client_proto_core.specs.Words

@@ -1,10 +1,10 @@
 -- What a client does as time goes on (RFC 8489, section 6.2.1; RFC 8656, section 8).
 use Rattle.std.specs.Prelude.{◌≡◌, ℕ, min, max, Bool, false, List, [], ◌∷◌, ◌++◌, map, Option, Some, None}
 use Rattle.std.specs.Bool.{MatchBool}
-use Rattle.stun_proto.specs.AgentPolls.{StunAgentPollRet, TransactionTimedOut, TransactionCancelled, WaitUntil}
-use Rattle.stun_proto.specs.Least.{IsLeastOf}
-use Rattle.stun_proto.specs.Moments.{moment_after}
-use Rattle.stun_proto.specs.State as agents
+use Rattle.turn_client_proto_core.specs.AgentPolls.{StunAgentPollRet, TransactionTimedOut, TransactionCancelled, WaitUntil}
+use Rattle.turn_client_proto_core.specs.Least.{IsLeastOf}
+use Rattle.turn_client_proto_core.specs.Moments.{moment_after}
+use Rattle.turn_client_proto_core.specs.State as agents
 use Rattle.turn_client_proto_core.specs.Allocation.Awaited.{is_among}
 use Rattle.turn_client_proto_core.specs.Allocation.Polling.{kept, nexts, polled}
 use Rattle.turn_client_proto_core.specs.Allocation.declared.allocation.Allocation.{Allocation}

@@ -2,7 +2,7 @@
 
 ghost use Rattle.std.specs.Prelude.{◌≡◌, ℕ, IfOk, MatchOption, OnErr, OnOk, Some, None};
 ghost use Rattle.std.specs.Option.{option_map};
-ghost use Rattle.stun_proto.specs.Sending.{NoneDue};
+ghost use Rattle.turn_client_proto_core.specs.Sending.{NoneDue};
 ghost use Rattle.turn_client_proto_core.specs.Permission.Wanting.{wanted};
 ghost use Rattle.turn_client_proto_core.specs.Request.Requests.{request_text};
 ghost use Rattle.turn_client_proto_poll.specs.Drawing.{IsBegun, IsDrawn, IsFirstSent, IsFreshSent, IsNextSent, IsRefreshSent, IsRenewalSent, IsRenewed, IsRepeated, after_sending, first_allocated, first_permitted, first_refreshed, is_resting, sent_at_once, sent_of};
@@ -11,10 +11,10 @@ ghost use Rattle.turn_client_proto_core.specs.Numbering.{IsNextNumber};
 
 use crate::polling::next_send;
 use std::net::{IpAddr, SocketAddr};
-use stun_proto::Instant;
 use stun_types::data::{Data, DataOwned};
 use stun_types::message::TransactionId;
 use stun_types::{ListOf, NoMemory, Transmit, TransportType};
+use turn_client_proto_core::Instant;
 use turn_client_proto_core::allocation::refresh::PendingRefresh;
 use turn_client_proto_core::permission::wanting::{Want, refresh_first, renew_first, wanted};
 use turn_client_proto_core::protocol::{Phase, Protocol};

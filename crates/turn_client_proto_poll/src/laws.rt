@@ -7,7 +7,7 @@ ghost use Rattle.turn_client_proto_poll.specs.Drawing.{IsDrawn, IsStill, Sent};
 ghost use Rattle.turn_client_proto_poll.specs.Polling.{IsPolled};
 ghost use Rattle.turn_client_proto_core.specs.declared.protocol.Protocol.{Protocol};
 
-use stun_proto::laws::agent_laws;
+use turn_client_proto_core::laws::agent_laws;
 
 /// A client that is told to wait has nothing to send before the wait is over: after `poll` answered a
 /// moment later than now, `poll_transmit` answers `None` at every moment from now on and before that

@@ -1,15 +1,15 @@
 //! What a client does as time goes on.
 
 ghost use Rattle.std.specs.Prelude.{◌≡◌, ◌≢◌, IfOk, OnErr, max, min};
-ghost use Rattle.stun_proto.specs.Moments.{moment_after};
+ghost use Rattle.turn_client_proto_core.specs.Moments.{moment_after};
 ghost use Rattle.turn_client_proto_core.specs.Ending.{HasFailed, IsUnderWay};
 ghost use Rattle.turn_client_proto_poll.specs.Polling.{IsPolled, IsPolledBy, IsPolledIn, IsPolledSent, IsPolledStanding, IsTicked, answer_of, cadence, ended_of, longest_pause, ready_after, wait_of, wait_to_send, waits_until};
 
 use std::time::Duration;
-use stun_proto::Instant;
-use stun_proto::agent::StunAgentPollRet;
 use stun_types::NoMemory;
 use stun_types::message::TransactionId;
+use turn_client_proto_core::Instant;
+use turn_client_proto_core::agent::StunAgentPollRet;
 use turn_client_proto_core::allocation::allocation::Allocation;
 use turn_client_proto_core::allocation::numbers::is_among;
 use turn_client_proto_core::api::answer::TurnPollRet;

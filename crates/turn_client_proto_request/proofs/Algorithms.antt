@@ -2,8 +2,8 @@
 use Rattle.std.proofs.Common.{◌≡◌, List, [], ◌∷◌, refl, sym, ap, ◌∙◌, subst}
 use Rattle.std.specs.List.{IsDistinct}
 use Rattle.stun_types.specs.IntegrityAlgorithms.{IntegrityAlgorithm, Sha1, Sha256}
-use Rattle.stun_proto.specs.Client.{Client}
-use Rattle.stun_proto.specs.SupportedAlgorithms.{is_same_algorithm, with_algorithm}
+use Rattle.turn_client_proto_api.specs.Client.{Client}
+use Rattle.turn_client_proto_api.specs.SupportedAlgorithms.{is_same_algorithm, with_algorithm}
 
 -- of distinct algorithms there are two at most
 pub two_algorithms : (first second : IntegrityAlgorithm) (rest : List IntegrityAlgorithm) → IsDistinct is_same_algorithm (first ∷ second ∷ rest) → with_algorithm (first ∷ []) second ≡ first ∷ second ∷ rest

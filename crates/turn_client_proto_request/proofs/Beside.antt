@@ -9,10 +9,10 @@ use Rattle.stun_types.specs.Signing.{signature}
 use Rattle.stun_types.specs.declared.family.AddressFamily.{AddressFamily}
 use Rattle.stun_types.specs.declared.family.AddressFamily.TheVariants.{IPV4, IPV6}
 use Rattle.turn_types.specs.TurnRegistry.{channel_number_kind, connection_id_kind, lifetime_kind, requested_transport_kind, xor_peer_address_kind, xor_relayed_address_kind}
-use Rattle.stun_proto.specs.Features.{Feature}
-use Rattle.stun_proto.specs.Addition.{attrs}
-use Rattle.stun_proto.specs.Client.{Client, Standing, standing_of}
-use Rattle.stun_proto.specs.ClientSigning.{addition_by, addition_for, choice_parts, hides_name, name_part, request_parts}
+use Rattle.turn_client_proto_api.specs.Features.{Feature}
+use Rattle.turn_client_proto_api.specs.Addition.{attrs}
+use Rattle.turn_client_proto_api.specs.Client.{Client, Standing, standing_of}
+use Rattle.turn_client_proto_api.specs.ClientSigning.{addition_by, addition_for, choice_parts, hides_name, name_part, request_parts}
 use Rattle.turn_client_proto_request.specs.Requests.{additional_family, families_attributes}
 
 abbrev pub is_of : ℕ → Attr → Bool

@@ -9,3 +9,6 @@ pub mod Signing
 pub mod Small
 pub mod Told
 pub mod Writing
+-- What stands above this crate has these through it.
+pub use Rattle.turn_runs_stun.proofs.Keeps
+pub use Rattle.turn_runs_stun.proofs.Safe

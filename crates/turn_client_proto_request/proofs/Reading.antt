@@ -18,10 +18,10 @@ use Rattle.stun_types.specs.declared.family.AddressFamily.TheVariants.{IPV4, IPV
 use Rattle.stun_types_build.proofs.Adds.{length-after_add, text_begun}
 use Rattle.stun_types_build.proofs.Taken.{both_accepted}
 use Rattle.stun_types_integrity_laws.proofs.Composed.{calls_read, written_text}
-use Rattle.stun_proto.specs.Sending.{is_request, is_request_class}
-use Rattle.stun_proto.specs.Addition.{Addition, PartOf, attrs, calls_of, calls_of_parts, calls_of_signer, no_addition}
-use Rattle.stun_proto.specs.Client.{Client}
-use Rattle.stun_proto.specs.ClientSigning.{addition_for}
+use Rattle.turn_client_proto_api.specs.Sending.{is_request, is_request_class}
+use Rattle.turn_client_proto_api.specs.Addition.{Addition, PartOf, attrs, calls_of, calls_of_parts, calls_of_signer, no_addition}
+use Rattle.turn_client_proto_api.specs.Client.{Client}
+use Rattle.turn_client_proto_api.specs.ClientSigning.{addition_for}
 use Rattle.turn_runs_stun.specs.StunWire.{told_by}
 use Rattle.turn_client_proto_request.specs.Composing.{IsOpen, IsSmall}
 use Rattle.turn_client_proto_request.specs.Requests.{additional_family, addition_of, families_attributes, is_signed, request_attributes, request_calls, request_text, request_type}

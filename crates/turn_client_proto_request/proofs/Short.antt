@@ -12,14 +12,14 @@ use Rattle.stun_types.specs.ParseErrors.{StunParseError}
 use Rattle.stun_types.specs.RawBytes.{above_refusal, below_refusal, type_and_len_refusal}
 use Rattle.stun_types.specs.Registry.{nonce_kind, password_algorithms_kind, realm_kind}
 use Rattle.stun_types.specs.ValueReading.{text_read_refusal, value_refusal}
-use Rattle.stun_proto.specs.Claims.{algorithms_told, claimed, last_of_kind, text_told, unless_refused}
-use Rattle.stun_proto.specs.Challenges.{Told, asks_again, challenge_shown, told_by, told_of}
-use Rattle.stun_proto.specs.Client.{Client}
-use Rattle.stun_proto.specs.ClientValidation.{IsTaken, IsTurnedDown, keeping}
-use Rattle.stun_proto.specs.ClientAuthErrors.{LongTermClientAuthError}
-use Rattle.stun_proto.specs.ClientAuthErrors.{Unauthorized, IntegrityFailed, UnsupportedFeature, NoMemory}
-use Rattle.stun_proto.specs.ClientValidations.{LongTermClientValidation}
-use Rattle.stun_proto.specs.ClientValidations.{ResendRequest, Validated}
+use Rattle.turn_client_proto_api.specs.Claims.{algorithms_told, claimed, last_of_kind, text_told, unless_refused}
+use Rattle.turn_client_proto_api.specs.Challenges.{Told, asks_again, challenge_shown, told_by, told_of}
+use Rattle.turn_client_proto_api.specs.Client.{Client}
+use Rattle.turn_client_proto_api.specs.ClientValidation.{IsTaken, IsTurnedDown, keeping}
+use Rattle.turn_client_proto_api.specs.ClientAuthErrors.{LongTermClientAuthError}
+use Rattle.turn_client_proto_api.specs.ClientAuthErrors.{Unauthorized, IntegrityFailed, UnsupportedFeature, NoMemory}
+use Rattle.turn_client_proto_api.specs.ClientValidations.{LongTermClientValidation}
+use Rattle.turn_client_proto_api.specs.ClientValidations.{ResendRequest, Validated}
 use Rattle.turn_client_proto_request.specs.ShortTexts.{HasShortTexts}
 
 -- ---- values that are read

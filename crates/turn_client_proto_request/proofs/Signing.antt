@@ -16,10 +16,10 @@ use Rattle.stun_types.specs.Signing.{order_refusal, signing_refusal}
 use Rattle.stun_types.specs.Texts.{text_refusal}
 use Rattle.stun_types.specs.Userhashes.{userhash_of}
 use Rattle.stun_types_build.proofs.Adds.{length-after_add}
-use Rattle.stun_proto.specs.Features.{Feature}
-use Rattle.stun_proto.specs.Addition.{Addition, PartOf, addition_refusal, attr_of_part, calls_of_parts, calls_of_signer, no_addition, one_refusal, parts_refusal, signer_refusal, size_of_part}
-use Rattle.stun_proto.specs.Client.{Challenge, Client, Standing, standing_by}
-use Rattle.stun_proto.specs.ClientSigning.{addition_by, addition_for, choice_parts, hides_name, name_part, request_parts}
+use Rattle.turn_client_proto_api.specs.Features.{Feature}
+use Rattle.turn_client_proto_api.specs.Addition.{Addition, PartOf, addition_refusal, attr_of_part, calls_of_parts, calls_of_signer, no_addition, one_refusal, parts_refusal, signer_refusal, size_of_part}
+use Rattle.turn_client_proto_api.specs.Client.{Challenge, Client, Standing, standing_by}
+use Rattle.turn_client_proto_api.specs.ClientSigning.{addition_by, addition_for, choice_parts, hides_name, name_part, request_parts}
 use Rattle.turn_client_proto_request.specs.Composing.{IsOpen}
 use Rattle.turn_client_proto_request.specs.ShortTexts.{HasShortTexts, IsShortChallenge}
 use Rattle.turn_client_proto_request.proofs.Growing.{open_added, open_room}

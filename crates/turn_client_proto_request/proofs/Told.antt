@@ -16,7 +16,7 @@ use Rattle.stun_types.specs.declared.transport.TransportType.{TransportType}
 use Rattle.stun_types.specs.declared.transport.TransportType.TheVariants.{Udp, Tcp}
 use Rattle.turn_types.specs.TurnRegistry.{channel_number_kind, connection_id_kind, lifetime_kind, requested_transport_kind, xor_peer_address_kind, xor_relayed_address_kind}
 use Rattle.turn_types.specs.TurnShows.{address_in, number_in, unless_refused}
-use Rattle.turn_runs.specs.Messages.{Message}
+use Rattle.turn_runs_stun.specs.Messages.{Message}
 use Rattle.turn_runs_stun.specs.StunWire.{protocol_transport, told_by}
 use Rattle.turn_client_proto_request.specs.Requests.{channel_attribute, connection_attribute, dont_fragment_attribute, families_attributes, lifetime_attribute, peer_attribute, peer_of, request_attributes, request_type, transport_attribute}
 use Rattle.turn_client_proto_request.specs.ToldRequests.{CanBeRead, IsLawfulRequest, IsReadBack, told_request}

@@ -9,10 +9,10 @@ use Rattle.stun_types.specs.Text.{header_text, message_text}
 use Rattle.stun_types.specs.Types.{class_of}
 use Rattle.stun_types_build.proofs.Taken.{written_more}
 use Rattle.stun_types_integrity_laws.proofs.Composed.{written_text}
-use Rattle.stun_proto.specs.Addition.{Addition, addition_refusal, calls_of, no_addition}
-use Rattle.stun_proto.specs.AdditionStages.{IsMade}
-use Rattle.stun_proto.specs.Client.{Client}
-use Rattle.stun_proto.specs.ClientSigning.{addition_for}
+use Rattle.turn_client_proto_api.specs.Addition.{Addition, addition_refusal, calls_of, no_addition}
+use Rattle.turn_client_proto_api.specs.AdditionStages.{IsMade}
+use Rattle.turn_client_proto_api.specs.Client.{Client}
+use Rattle.turn_client_proto_api.specs.ClientSigning.{addition_for}
 use Rattle.turn_client_proto_request.specs.Composing.{IsOpen, IsRequest, IsUnsigned}
 use Rattle.turn_client_proto_request.specs.Requests.{addition_of, is_signed, request_attributes, request_text, request_type}
 use Rattle.turn_client_proto_request.specs.ShortTexts.{HasShortTexts}

@@ -1,9 +1,9 @@
 -- What a client's authenticator makes of a message (RFC 8489, section 9.2).
 use Rattle.std.specs.Prelude.{ℕ, List, Result, MatchResult, Some, None}
-use Rattle.stun_proto.specs.Client.{Client}
-use Rattle.stun_proto.specs.ClientAuthErrors.{LongTermClientAuthError}
-use Rattle.stun_proto.specs.ClientValidation.{IsTaken, IsTurnedDown}
-use Rattle.stun_proto.specs.ClientValidations.{LongTermClientValidation}
+use Rattle.turn_client_proto_api.specs.Client.{Client}
+use Rattle.turn_client_proto_api.specs.ClientAuthErrors.{LongTermClientAuthError}
+use Rattle.turn_client_proto_api.specs.ClientValidation.{IsTaken, IsTurnedDown}
+use Rattle.turn_client_proto_api.specs.ClientValidations.{LongTermClientValidation}
 use Rattle.turn_client_proto_api.specs.Config.{Config}
 
 -- the verdict on a message, and the authenticator after it

@@ -24,9 +24,9 @@ use Rattle.turn_types.specs.PeerValues.{channel_value}
 use Rattle.turn_types.specs.TurnRegistry.{allocate_method, channel_bind_method, connect_method, connection_bind_method, create_permission_method, refresh_method}
 use Rattle.turn_types.specs.TurnRegistry.{additional_address_family_kind, channel_number_kind, connection_id_kind, dont_fragment_kind, lifetime_kind, requested_address_family_kind, requested_transport_kind, xor_peer_address_kind}
 use Rattle.turn_types.specs.TurnRegistry.{tcp_protocol, udp_protocol}
-use Rattle.stun_proto.specs.Addition.{Addition, calls_of, no_addition}
-use Rattle.stun_proto.specs.Client as auth
-use Rattle.stun_proto.specs.ClientSigning.{addition_for}
+use Rattle.turn_client_proto_api.specs.Addition.{Addition, calls_of, no_addition}
+use Rattle.turn_client_proto_api.specs.Client as auth
+use Rattle.turn_client_proto_api.specs.ClientSigning.{addition_for}
 use Rattle.turn_client_proto_request.specs.declared.request.TurnRequest.{TurnRequest}
 use Rattle.turn_client_proto_request.specs.declared.request.TurnRequest.TheVariants.{FirstAllocate, Allocate, Refresh, CreatePermission, ChannelBind, Connect, ConnectionBind}
 

@@ -1,8 +1,8 @@
 -- Texts that a request has room for (RFC 8489, sections 14.3 and 14.9 to 14.11).
 use Rattle.std.specs.Prelude.{◌*◌, ◌≤◌, length, IfSome}
 use Rattle.stun_types.specs.Registry.{longest_text, longest_username, most_algorithms}
-use Rattle.stun_proto.specs.Addition.{password_entry_length}
-use Rattle.stun_proto.specs.Client as auth
+use Rattle.turn_client_proto_api.specs.Addition.{password_entry_length}
+use Rattle.turn_client_proto_api.specs.Client as auth
 
 -- a challenge whose texts are within the limits of their attributes
 pub record IsShortChallenge (challenge : auth.Challenge) : Type 0 where

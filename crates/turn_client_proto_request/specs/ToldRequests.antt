@@ -3,7 +3,7 @@ use Rattle.std.specs.Prelude.{◌≡◌, ℕ, ◌<◌, ◌≤◌, ◌^◌, [], �
 use Rattle.std.specs.Net.Addr.{IsIpv4Addr, IsIpv6Addr, MatchIp}
 use Rattle.std.specs.declared.net.socket_addr.SocketAddr.{SocketAddr}
 use Rattle.stun_types.specs.MessageClasses.{Request}
-use Rattle.turn_runs.specs.Messages as run
+use Rattle.turn_runs_stun.specs.Messages as run
 use Rattle.turn_types.specs.TurnRegistry.{allocate_method, channel_bind_method, connect_method, connection_bind_method, create_permission_method, refresh_method}
 use Rattle.turn_types.specs.TurnShows.{address_in}
 use Rattle.turn_client_proto_request.specs.Requests.{allocation_lifetime, peer_attribute, peer_of}

@@ -6,11 +6,11 @@ ghost use Rattle.std.specs.Net.Socket.{IsSocketAddr, socket_flowinfo, socket_sco
 ghost use Rattle.std.specs.declared.net.socket_addr.SocketAddr.{SocketAddr};
 ghost use Rattle.stun_types.specs.Grammar.{number_at, refusal};
 ghost use Rattle.stun_types.specs.Registry.{longest_username};
-ghost use Rattle.stun_proto.specs.Sending.{is_request};
-ghost use Rattle.stun_proto.specs.Client.{Client};
-ghost use Rattle.stun_proto.specs.ClientValidation.{IsTaken, IsTurnedDown};
-ghost use Rattle.stun_proto.specs.ClientAuthErrors.{LongTermClientAuthError};
-ghost use Rattle.stun_proto.specs.ClientValidations.{LongTermClientValidation};
+ghost use Rattle.turn_client_proto_api.specs.Sending.{is_request};
+ghost use Rattle.turn_client_proto_api.specs.Client.{Client};
+ghost use Rattle.turn_client_proto_api.specs.ClientValidation.{IsTaken, IsTurnedDown};
+ghost use Rattle.turn_client_proto_api.specs.ClientAuthErrors.{LongTermClientAuthError};
+ghost use Rattle.turn_client_proto_api.specs.ClientValidations.{LongTermClientValidation};
 ghost use Rattle.turn_runs_stun.specs.StunWire.{told_by};
 ghost use Rattle.turn_client_proto_request.specs.Requests.{request_text};
 ghost use Rattle.turn_client_proto_request.specs.ShortTexts.{HasShortTexts};

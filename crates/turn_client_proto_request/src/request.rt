@@ -7,9 +7,9 @@ ghost use Rattle.turn_client_proto_request.specs.ShortTexts.{HasShortTexts};
 use crate::unsigned::write_unsigned;
 use std::alloc::Global;
 use std::net::{IpAddr, SocketAddr};
-use stun_proto::auth::LongTermClientAuth;
 use stun_types::message::{MessageWrite, TransactionId};
 use stun_types::{NoMemory, TransportType};
+use turn_client_proto_api::auth::LongTermClientAuth;
 use turn_client_proto_api::families::RequestedFamilies;
 
 /// For how many seconds a client asks for an allocation, and for its renewal (RFC 8656, section 7.1).

@@ -2,7 +2,7 @@
 
 ghost use Rattle.std.specs.Prelude.{◌≡◌, ◌≢◌, ◌≤◌, [], ◌∷◌, IfOk, length};
 ghost use Rattle.std.specs.List.{IsDistinct};
-ghost use Rattle.stun_proto.specs.SupportedAlgorithms.{is_same_algorithm};
+ghost use Rattle.turn_client_proto_api.specs.SupportedAlgorithms.{is_same_algorithm};
 ghost use Rattle.stun_types.specs.Registry.{longest_username};
 ghost use Rattle.turn_client_proto_request.specs.Requests.{request_text};
 ghost use Rattle.turn_client_proto_request.specs.Judging.{IsJudged, signer_of};
@@ -11,9 +11,11 @@ use crate::laws::texts_stay_short;
 use crate::request::{TurnRequest, write_request};
 use std::alloc::Global;
 use std::marker::Model;
-use stun_proto::auth::{LongTermClientAuth, LongTermClientAuthError, LongTermClientValidation};
 use stun_types::NoMemory;
 use stun_types::message::{IntegrityAlgorithm, LongTermCredentials, Message, TransactionId};
+use turn_client_proto_api::auth::{
+    LongTermClientAuth, LongTermClientAuthError, LongTermClientValidation,
+};
 use turn_client_proto_api::config::TurnConfig;
 
 /// The client's side of long-term authentication. Its name, and the realm and the nonce of the
@@ -25,7 +27,7 @@ pub struct Signer {
 }
 
 impl Model for Signer {
-    ghost use Rattle.stun_proto.specs.Client.{Client};
+    ghost use Rattle.turn_client_proto_api.specs.Client.{Client};
     ghost use Rattle.turn_client_proto_request.specs.ShortTexts.{HasShortTexts};
 
     ghost Value = { Client };

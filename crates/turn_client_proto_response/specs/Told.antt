@@ -4,7 +4,7 @@ use Rattle.std.specs.List.{filter_map, take_while}
 use Rattle.std.specs.Option.{option_and_then}
 use Rattle.std.specs.declared.net.socket_addr.SocketAddr.{SocketAddr}
 use Rattle.byteorder.specs.Endian.{big_number}
-use Rattle.stun_proto.specs.Claims.{code_told}
+use Rattle.turn_client_proto_api.specs.Claims.{code_told}
 use Rattle.stun_types.specs.Attributes.{Attr}
 use Rattle.stun_types.specs.Grammar.{number_at, shown}
 use Rattle.stun_types.specs.Registry.{error_code_kind}

@@ -7,12 +7,12 @@ ghost use Rattle.turn_client_proto_response.specs.Told.{relayed_told};
 use crate::told::relayed_in;
 use std::alloc::Global;
 use std::net::SocketAddr;
-use stun_proto::Instant;
 use stun_types::attribute::AttributeStaticType;
 use stun_types::message::Message;
 use stun_types::{AddressFamily, NoMemory, TransportType};
 use turn_client_proto_allocation::allocation::Allocation;
 use turn_client_proto_allocation::listed::Allocations;
+use turn_client_proto_api::Instant;
 use turn_client_proto_api::families::RequestedFamilies;
 use turn_types::attribute::XorRelayedAddress;
 

@@ -6,9 +6,9 @@ use Rattle.stun_proto.specs.Numbers.{NothingNew}
 use Rattle.stun_proto.specs.Sending.{with_request}
 use Rattle.stun_proto.specs.State.{Agent}
 use Rattle.stun_proto_agent.proofs.Numbers.{sent}
-use Rattle.turn_runs.specs.Members.{IsIn}
-use Rattle.turn_runs.specs.Messages as run
-use Rattle.turn_runs_stun.specs.StunWire.{stun_wire, told_by}
+use Rattle.turn_client_proto_poll.specs.Members.{IsIn}
+use Rattle.turn_client_proto_poll.specs.Messages as run
+use Rattle.turn_client_proto_poll.specs.StunWire.{stun_wire, told_by}
 use Rattle.turn_client_proto_poll.specs.Core.Authenticating.{numbers_sent}
 use Rattle.turn_client_proto_poll.specs.Core.Waiting.{Queued}
 use Rattle.turn_client_proto_poll.specs.Core.declared.protocol.Phase.{Phase}

@@ -21,10 +21,10 @@ use Rattle.stun_proto.specs.State.{Agent}
 use Rattle.stun_proto_agent.proofs.Numbers.{answered_without, handled_new, still_shows}
 use Rattle.stun_proto_client.proofs.Stepping.{step_of}
 use Rattle.turn_types.specs.TurnRegistry.{allocate_method}
-use Rattle.turn_runs.specs.Members.{IsIn}
-use Rattle.turn_runs.specs.Messages as run
-use Rattle.turn_runs.specs.Steps.{ClientStep, IsAnswered, IsOwnKey, Told, WasKnown}
-use Rattle.turn_runs_stun.specs.StunWire.{AreValid, stun_wire, told_by}
+use Rattle.turn_client_proto_poll.specs.Members.{IsIn}
+use Rattle.turn_client_proto_poll.specs.Messages as run
+use Rattle.turn_client_proto_poll.specs.Steps.{ClientStep, IsAnswered, IsOwnKey, Told, WasKnown}
+use Rattle.turn_client_proto_poll.specs.StunWire.{AreValid, stun_wire, told_by}
 use Rattle.turn_client_proto_poll.specs.Api.declared.event.TurnEvent.TheVariants.{AllocationCreateFailed}
 use Rattle.turn_client_proto_poll.specs.Request.Judging.{IsJudged}
 use Rattle.turn_client_proto_poll.specs.Response.Granting.{are_of_one_family, families_without, first_of_each, is_wanted}

@@ -10,10 +10,10 @@ use Rattle.stun_proto.specs.Sending.{with_request}
 use Rattle.stun_proto_agent.proofs.Numbers.{handled_new}
 use Rattle.stun_proto_client.proofs.Stepping.{step_of}
 use Rattle.turn_types.specs.TurnRegistry.{connection_attempt_method}
-use Rattle.turn_runs.specs.Members.{IsIn}
-use Rattle.turn_runs.specs.Messages as run
-use Rattle.turn_runs.specs.Steps.{AreNumbered, IsNumberAt, MayDraw}
-use Rattle.turn_runs_stun.specs.StunWire.{stun_wire, told_by}
+use Rattle.turn_client_proto_poll.specs.Members.{IsIn}
+use Rattle.turn_client_proto_poll.specs.Messages as run
+use Rattle.turn_client_proto_poll.specs.Steps.{AreNumbered, IsNumberAt, MayDraw}
+use Rattle.turn_client_proto_poll.specs.StunWire.{stun_wire, told_by}
 use Rattle.turn_client_proto_poll.specs.Request.Judging.{IsJudged}
 use Rattle.turn_client_proto_poll.specs.Request.Requests.{request_text}
 use Rattle.turn_client_proto_poll.specs.Request.ShortTexts.{HasShortTexts}

@@ -15,9 +15,9 @@ use Rattle.stun_proto.specs.Agents.{Transaction}
 use Rattle.stun_proto.specs.Client as signers
 use Rattle.stun_proto.specs.State.{Agent}
 use Rattle.stun_proto_agent.proofs.Numbers.{fresh_shows}
-use Rattle.turn_runs.specs.Members.{IsIn}
-use Rattle.turn_runs.specs.Runs as runs
-use Rattle.turn_runs.specs.Words.{DeskWords}
+use Rattle.turn_client_proto_poll.specs.Members.{IsIn}
+use Rattle.turn_client_proto_poll.specs.Runs as runs
+use Rattle.turn_client_proto_poll.specs.Words.{DeskWords}
 use Rattle.turn_client_proto_poll.specs.Api.Config.{Config}
 use Rattle.turn_client_proto_poll.specs.Request.Judging.{signer_of}
 use Rattle.turn_client_proto_poll.specs.Request.ShortTexts.{HasShortTexts}

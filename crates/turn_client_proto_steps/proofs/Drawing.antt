@@ -6,10 +6,10 @@ use Rattle.stun_proto.specs.Agents.{transmitted}
 use Rattle.stun_proto.specs.Numbers.{NothingNew}
 use Rattle.stun_proto.specs.State.{Agent, is_tcp}
 use Rattle.stun_proto_agent.proofs.Numbers.{transmitted_new}
-use Rattle.turn_runs.specs.Members.{IsIn}
-use Rattle.turn_runs.specs.Messages as run
-use Rattle.turn_runs.specs.Steps.{MayDraw}
-use Rattle.turn_runs_stun.specs.StunWire.{stun_wire, told_by}
+use Rattle.turn_client_proto_poll.specs.Members.{IsIn}
+use Rattle.turn_client_proto_poll.specs.Messages as run
+use Rattle.turn_client_proto_poll.specs.Steps.{MayDraw}
+use Rattle.turn_client_proto_poll.specs.StunWire.{stun_wire, told_by}
 use Rattle.std.specs.declared.net.ip_addr.IpAddr.{IpAddr}
 use Rattle.turn_client_proto_poll.specs.Allocation.Refreshing.{refreshing}
 use Rattle.turn_client_proto_poll.specs.Permission.Wanting.{refreshed_first, renewal_first, renewing, wanted, wants}

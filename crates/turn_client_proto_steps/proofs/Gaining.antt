@@ -14,9 +14,9 @@ use Rattle.stun_types.specs.declared.transport.TransportType.{TransportType}
 use Rattle.stun_proto.specs.State.{Agent}
 use Rattle.turn_types.specs.TurnRegistry.{xor_relayed_address_kind}
 use Rattle.turn_types.specs.TurnShows.{address_in, addresses_shown, each_shown}
-use Rattle.turn_runs.specs.Members.{IsIn, NoneTwice}
-use Rattle.turn_runs.specs.Messages as run
-use Rattle.turn_runs.specs.Steps.{Told, told_for}
+use Rattle.turn_client_proto_poll.specs.Members.{IsIn, NoneTwice}
+use Rattle.turn_client_proto_poll.specs.Messages as run
+use Rattle.turn_client_proto_poll.specs.Steps.{Told, told_for}
 use Rattle.turn_client_proto_poll.specs.Allocation.Refreshing.{granted}
 use Rattle.turn_client_proto_poll.specs.Api.Families.{is_same_family}
 use Rattle.turn_client_proto_poll.specs.Response.Granting.{are_of_one_family, first_of_each}

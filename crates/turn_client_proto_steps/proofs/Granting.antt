@@ -17,10 +17,10 @@ use Rattle.stun_proto.specs.Handling.{after_message, ends_one}
 use Rattle.stun_proto.specs.Numbers.{IsWithout, ShowsNumbers}
 use Rattle.stun_proto.specs.State.{Agent}
 use Rattle.stun_proto_agent.proofs.Numbers.{answered_without, handled_new, still_shows}
-use Rattle.turn_runs.specs.Members.{IsIn}
-use Rattle.turn_runs.specs.Messages as run
-use Rattle.turn_runs.specs.Steps.{ClientStep, IsAnswered, Told, WasKnown}
-use Rattle.turn_runs_stun.specs.StunWire.{told_by}
+use Rattle.turn_client_proto_poll.specs.Members.{IsIn}
+use Rattle.turn_client_proto_poll.specs.Messages as run
+use Rattle.turn_client_proto_poll.specs.Steps.{ClientStep, IsAnswered, Told, WasKnown}
+use Rattle.turn_client_proto_poll.specs.StunWire.{told_by}
 use Rattle.turn_client_proto_poll.specs.Allocation.Awaited.{asks_for_permission}
 use Rattle.turn_client_proto_poll.specs.Allocation.Permissions.{not_asked_by}
 use Rattle.turn_client_proto_poll.specs.Permission.Asking.{address_asked, at_transport, has_asked, peer_asked}

@@ -2,7 +2,7 @@
 use Rattle.std.proofs.Common.{ℕ, zero, suc, ◌*◌, Bool, true, false, List, [], ◌∷◌, Option, Some, None, if◌then◌else◌, refl, sym, subst, inl, inr}
 use Rattle.std.specs.Prelude.{map, nat_le}
 use Rattle.stun_proto.specs.Moments.{moment_after}
-use Rattle.turn_runs.specs.Members.{IsIn}
+use Rattle.turn_client_proto_poll.specs.Members.{IsIn}
 use Rattle.turn_client_proto_poll.specs.Allocation.Changes.{change_first}
 use Rattle.turn_client_proto_poll.specs.Allocation.Polling.{has_ended, kept, polled, stays}
 use Rattle.turn_client_proto_poll.specs.Allocation.Refreshing.{deleted, least_lifetime, lifetime_asked, refreshing, renewed, renewed_by, second, stands_for}

@@ -4,7 +4,7 @@ use Rattle.std.specs.List.{filter, find}
 use Rattle.std.specs.Option.{option_and_then, option_map}
 use Rattle.std.specs.declared.net.ip_addr.IpAddr.{IpAddr}
 use Rattle.stun_types.specs.declared.transport.TransportType.{TransportType}
-use Rattle.turn_runs.specs.Members.{IsIn}
+use Rattle.turn_client_proto_poll.specs.Members.{IsIn}
 use Rattle.turn_client_proto_poll.specs.Allocation.Awaited.{asks_for_permission, is_among, renews_permission}
 use Rattle.turn_client_proto_poll.specs.Allocation.Changes.{change_first}
 use Rattle.turn_client_proto_poll.specs.Allocation.Permissions.{asked_again, awaiting, has_lapsed, is_over, not_asked_by, not_over, not_renewed_by, polled_permission, polled_permissions, renewed_again, renewed_first, renewed_permission, standing, wants_renewal, with_number}

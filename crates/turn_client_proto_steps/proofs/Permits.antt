@@ -6,9 +6,9 @@ use Rattle.stun_types.specs.declared.transport.TransportType.{TransportType}
 use Rattle.stun_proto.specs.Agents.{Transaction}
 use Rattle.stun_proto.specs.Sending.{with_request}
 use Rattle.stun_proto_agent.proofs.Numbers.{sent}
-use Rattle.turn_runs.specs.Messages as run
-use Rattle.turn_runs.specs.Names.{socket_ip}
-use Rattle.turn_runs_stun.specs.StunWire.{told_by}
+use Rattle.turn_client_proto_poll.specs.Messages as run
+use Rattle.turn_client_proto_poll.specs.Names.{socket_ip}
+use Rattle.turn_client_proto_poll.specs.StunWire.{told_by}
 use Rattle.turn_client_proto_poll.specs.Request.Requests.{peer_of, request_text}
 use Rattle.turn_client_proto_poll.specs.Request.declared.request.TurnRequest.TheVariants.{CreatePermission}
 use Rattle.turn_client_proto_poll.specs.Core.declared.protocol.Protocol.{Protocol}

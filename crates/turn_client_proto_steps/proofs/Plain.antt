@@ -4,10 +4,10 @@ use Rattle.std.specs.List.{filter_map}
 use Rattle.stun_types.specs.MessageClasses.{Request}
 use Rattle.stun_types.specs.declared.family.AddressFamily.{AddressFamily}
 use Rattle.turn_types.specs.TurnRegistry.{connection_attempt_method}
-use Rattle.turn_runs.specs.Members.{IsIn}
-use Rattle.turn_runs.specs.Messages as run
-use Rattle.turn_runs.specs.Steps.{AreNumbered, ClientStep, MayDraw}
-use Rattle.turn_runs_stun.specs.StunWire.{stun_wire}
+use Rattle.turn_client_proto_poll.specs.Members.{IsIn}
+use Rattle.turn_client_proto_poll.specs.Messages as run
+use Rattle.turn_client_proto_poll.specs.Steps.{AreNumbered, ClientStep, MayDraw}
+use Rattle.turn_client_proto_poll.specs.StunWire.{stun_wire}
 use Rattle.turn_client_proto_poll.specs.Api.declared.event.TurnEvent.{TurnEvent}
 use Rattle.turn_client_proto_poll.specs.Api.declared.event.TurnEvent.TheVariants.{AllocationCreateFailed}
 use Rattle.turn_client_proto_poll.specs.Core.declared.protocol.Protocol.{Protocol}

@@ -1,8 +1,8 @@
 -- REFRESH requests that a client makes.
 use Rattle.std.proofs.Common.{◌≡◌, ℕ, ◌+◌, ◌<◌, ◌≤◌, ◌^◌, Bool, false, if◌then◌else◌, [], ◌∷◌, map, Option, Some, None, Result, Ok, Err, refl, sym, ap, ◌∙◌, subst, arith, inl, inr}
 use Rattle.std.specs.Prelude.{IfNone, IfSome, MatchResult}
-use Rattle.turn_runs.specs.Members.{IsIn}
-use Rattle.turn_runs_stun.specs.StunWire.{told_by}
+use Rattle.turn_client_proto_poll.specs.Members.{IsIn}
+use Rattle.turn_client_proto_poll.specs.StunWire.{told_by}
 use Rattle.turn_client_proto_poll.specs.Allocation.Refreshing.{deleted}
 use Rattle.turn_client_proto_poll.specs.Api.declared.error.DeleteError.{DeleteError}
 use Rattle.turn_client_proto_poll.specs.Api.declared.error.DeleteError.TheVariants.{NoAllocation, NoMemory}

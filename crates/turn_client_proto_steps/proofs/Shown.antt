@@ -5,8 +5,8 @@ use Rattle.std.specs.declared.net.ip_addr.IpAddr.{IpAddr}
 use Rattle.std.specs.declared.net.socket_addr.SocketAddr.{SocketAddr}
 use Rattle.stun_types.specs.declared.transport.TransportType.{TransportType}
 use Rattle.stun_types.specs.declared.transport.TransportType.TheVariants.{Udp, Tcp}
-use Rattle.turn_runs.specs.Members.{IsIn}
-use Rattle.turn_runs.specs.Messages as run
+use Rattle.turn_client_proto_poll.specs.Members.{IsIn}
+use Rattle.turn_client_proto_poll.specs.Messages as run
 use Rattle.turn_client_proto_poll.specs.Allocation.Listed.{is_shown, relayed_shown}
 use Rattle.turn_client_proto_poll.specs.Permission.Same.{is_same_transport}
 use Rattle.turn_client_proto_poll.specs.Permission.Shown.{addresses_of, is_at, permissions_at, permissions_in}

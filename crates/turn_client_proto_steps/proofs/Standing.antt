@@ -21,9 +21,9 @@ use Rattle.stun_proto.specs.Numbers.{NothingNew}
 use Rattle.stun_proto.specs.State.{Agent}
 use Rattle.stun_proto_agent.proofs.Numbers.{handled_new}
 use Rattle.turn_types.specs.TurnRegistry.{create_permission_method, refresh_method}
-use Rattle.turn_runs.specs.Members.{IsIn}
-use Rattle.turn_runs.specs.Messages as run
-use Rattle.turn_runs_stun.specs.StunWire.{told_by}
+use Rattle.turn_client_proto_poll.specs.Members.{IsIn}
+use Rattle.turn_client_proto_poll.specs.Messages as run
+use Rattle.turn_client_proto_poll.specs.StunWire.{told_by}
 use Rattle.turn_client_proto_poll.specs.Allocation.Awaited.{is_refresh}
 use Rattle.turn_client_proto_poll.specs.Allocation.Listed.{awaits_refresh, refresh_asked, refreshed_again}
 use Rattle.turn_client_proto_poll.specs.Allocation.Refreshing.{ends_by, lifetime_asked, refreshing, renewed}

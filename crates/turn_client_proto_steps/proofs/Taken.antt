@@ -5,7 +5,7 @@ use Rattle.std.specs.Prelude.{is_some}
 use Rattle.std.specs.FinMap as map
 use Rattle.std.specs.List.{list_any}
 use Rattle.stun_proto.specs.Agents.{Transaction}
-use Rattle.turn_runs.specs.Members.{IsIn}
+use Rattle.turn_client_proto_poll.specs.Members.{IsIn}
 use Rattle.turn_client_proto_poll.specs.Allocation.Awaited.{asks_for_channel, asks_for_permission, has_number, is_attempt, is_awaited, is_binding, is_bound_by, is_connecting, is_number, is_refresh, renews_channel, renews_permission}
 use Rattle.turn_client_proto_poll.specs.Allocation.Listed.{is_any_awaited}
 use Rattle.turn_client_proto_poll.specs.Core.Authenticating.{numbers_sent}

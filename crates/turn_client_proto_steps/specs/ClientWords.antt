@@ -10,10 +10,10 @@ use Rattle.stun_proto.specs.State.{Agent}
 use Rattle.stun_types.specs.SocketAddrs.{socket_addr_cmp}
 use Rattle.turn_types.specs.Frames.{IsFrame}
 use Rattle.turn_types.specs.Streams as streams
-use Rattle.turn_runs.specs.Members.{IsIn}
-use Rattle.turn_runs.specs.Messages as run
-use Rattle.turn_runs.specs.Words.{ClientWords, DeskWords, Words}
-use Rattle.turn_runs_stun.specs.StunWire.{stun_wire}
+use Rattle.turn_client_proto_poll.specs.Members.{IsIn}
+use Rattle.turn_client_proto_poll.specs.Messages as run
+use Rattle.turn_client_proto_poll.specs.Words.{ClientWords, DeskWords, Words}
+use Rattle.turn_client_proto_poll.specs.StunWire.{stun_wire}
 use Rattle.turn_client_proto_steps.specs.Held.{Allocation, Binding, Channel, Connecting, Connection, PendingChannel, PendingPermission, PendingRefresh, Permission, Waiting}
 use Rattle.turn_client_proto_poll.specs.Api.declared.event.TurnEvent.{TurnEvent}
 use Rattle.turn_client_proto_poll.specs.Api.declared.event.TurnEvent.TheVariants.{AllocationCreated, AllocationCreateFailed, PermissionCreated, PermissionCreateFailed, ChannelCreated, ChannelCreateFailed, TcpConnected, TcpConnectFailed}

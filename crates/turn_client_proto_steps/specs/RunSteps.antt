@@ -1,7 +1,7 @@
 -- A call of a client as a step of a run.
 use Rattle.std.specs.Prelude.{◌≡◌, ℕ, List, [], ◌∷◌, Option, None}
-use Rattle.turn_runs.specs.Messages.{Notice}
-use Rattle.turn_runs.specs.Steps.{Call, ClientStep}
+use Rattle.turn_client_proto_poll.specs.Messages.{Notice}
+use Rattle.turn_client_proto_poll.specs.Steps.{Call, ClientStep}
 use Rattle.turn_client_proto_poll.specs.Core.declared.protocol.Protocol.{Protocol}
 use Rattle.turn_client_proto_steps.specs.ClientWords.{client_words}
 use Rattle.turn_client_proto_steps.specs.RunClient.{Client}

@@ -12,9 +12,9 @@ use Rattle.stun_proto.specs.Agents.{Transaction}
 use Rattle.stun_proto.specs.Numbers.{ShowsNumbers}
 use Rattle.stun_proto.specs.State.{Agent}
 use Rattle.turn_types.specs.TurnRegistry.{allocate_method}
-use Rattle.turn_runs.specs.Members.{IsIn}
-use Rattle.turn_runs.specs.Messages.{Asks, Holds, Permission}
-use Rattle.turn_runs_stun.specs.StunWire.{told_by}
+use Rattle.turn_client_proto_poll.specs.Members.{IsIn}
+use Rattle.turn_client_proto_poll.specs.Messages.{Asks, Holds, Permission}
+use Rattle.turn_client_proto_poll.specs.StunWire.{told_by}
 use Rattle.turn_client_proto_poll.specs.Core.Waiting.{Queued}
 use Rattle.turn_client_proto_poll.specs.Core.declared.protocol.Phase.{Phase}
 use Rattle.turn_client_proto_poll.specs.Core.declared.protocol.Phase.TheVariants.{Initial, InitialSent, Authenticating, Authenticated, Ended}

@@ -7,4 +7,4 @@ pub mod laws;
 
 // What stands above this crate has these through it.
 pub use stun_proto as proto;
-pub use turn_desk_grant::{decision, grant};
+pub use turn_desk_grant::{decision, grant, verdict};

@@ -1,9 +1,9 @@
 //! What events in a world are answered.
 
 use std::net::{IpAddr, SocketAddr};
-use stun_proto::Instant;
 use stun_types::data::Data;
 use stun_types::{Transmit, TransportType};
+use turn_client_proto_api::Instant;
 use turn_client_proto_api::answer::Socket5Tuple;
 use turn_client_proto_api::data::TurnPeerData;
 use turn_client_proto_api::error::{CreatePermissionError, DeleteError};

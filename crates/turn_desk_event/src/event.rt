@@ -1,8 +1,8 @@
 //! What happens in a world.
 
 use std::net::{IpAddr, SocketAddr};
-use stun_proto::Instant;
 use stun_types::TransportType;
+use turn_client_proto_api::Instant;
 use turn_desk_grant::decision::Decision;
 
 /// A call of a client by its user.

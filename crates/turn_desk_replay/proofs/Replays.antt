@@ -5,7 +5,7 @@ use Rattle.std.specs.Option.{option_copied}
 use Rattle.std.specs.Prelude.{Option, Some, None, Result, Ok, Err, OnOk}
 use Rattle.std.specs.Io.KnownBytes.{Appends}
 use Rattle.std.proofs.lemmas.List.{append_assoc, append-nil}
-use Rattle.program_lines.proofs.AppendLemmas.{appends_nothing, appends_on}
+use Rattle.program_lines.proofs.AppendLemmas.{appends_on}
 use Rattle.program_lines.specs.Cut.{lines_behind, lines_of}
 use Rattle.program_lines.specs.Stop.{bad_text, status_of, stop_text}
 use Rattle.program_lines.specs.declared.status.Status.{Status}

@@ -1,22 +1,24 @@
 -- The definitions that the contracts of a replay cite, each file under its own name; and those of the crates below.
 pub mod Answers
 pub mod Happenings
+pub mod Keeping
 pub mod Progress
 pub mod Replay
 pub mod Settings
+pub mod Wanted
 -- What stands above this crate has these through it.
-pub use Rattle.turn_desk_core.specs.AskedFor
-pub use Rattle.turn_desk_core.specs.AuthLending
-pub use Rattle.turn_desk_core.specs.Decisions
-pub use Rattle.turn_desk_core.specs.DeskIsolation
-pub use Rattle.turn_desk_core.specs.DeskSteps
-pub use Rattle.turn_desk_core.specs.Granted
-pub use Rattle.turn_desk_core.specs.Grants
-pub use Rattle.turn_desk_core.specs.Replies
-pub use Rattle.turn_desk_core.specs.Requests
-pub use Rattle.turn_desk_core.specs.State
-pub use Rattle.turn_desk_core.specs.Steps
-pub use Rattle.turn_desk_core.specs.Verdicts
+pub use Rattle.turn_desk_world.specs.AskedFor
+pub use Rattle.turn_desk_world.specs.AuthLending
+pub use Rattle.turn_desk_world.specs.Decisions
+pub use Rattle.turn_desk_world.specs.DeskIsolation
+pub use Rattle.turn_desk_world.specs.DeskSteps
+pub use Rattle.turn_desk_world.specs.Granted
+pub use Rattle.turn_desk_world.specs.Grants
+pub use Rattle.turn_desk_world.specs.Replies
+pub use Rattle.turn_desk_world.specs.Requests
+pub use Rattle.turn_desk_world.specs.State
+pub use Rattle.turn_desk_world.specs.Steps
+pub use Rattle.turn_desk_world.specs.Verdicts
 pub use Rattle.turn_desk_trace.specs.Address
 pub use Rattle.turn_desk_trace.specs.Answer
 pub use Rattle.turn_desk_trace.specs.Bytes

@@ -2,11 +2,11 @@
 use Rattle.std.specs.Prelude.{◌≡◌, ◌≤◌, ℕ, Bool, true, false, not, ◌&&◌, ◌||◌, List, [], ◌∷◌, ◌++◌, length, Option, Some, None, is_some}
 use Rattle.std.specs.Option.{option_map}
 use Rattle.stun_types.specs.declared.transport.TransportType.TheVariants.{Udp}
-use Rattle.turn_desk_core.specs.Features.{Feature}
-use Rattle.turn_desk_core.specs.State.{State}
-use Rattle.turn_desk_event.specs.declared.answer.Answer.{Answer}
-use Rattle.turn_desk_event.specs.declared.event.Event.{Event}
-use Rattle.turn_desk_event.specs.declared.event.Event.TheVariants.{Call, Draw, ToClient, ToDesk}
+use Rattle.turn_desk_world.specs.Features.{Feature}
+use Rattle.turn_desk_world.specs.State.{State}
+use Rattle.turn_desk_world.specs.declared.answer.Answer.{Answer}
+use Rattle.turn_desk_world.specs.declared.event.Event.{Event}
+use Rattle.turn_desk_world.specs.declared.event.Event.TheVariants.{Call, Draw, ToClient, ToDesk}
 use Rattle.turn_desk_trace.specs.Answer.{named_by}
 use Rattle.turn_desk_trace.specs.declared.setup.Algorithms.{Algorithms}
 use Rattle.turn_desk_trace.specs.declared.setup.Client.{Client as ClientSetup}

@@ -1,5 +1,5 @@
 -- What a replay prints, of a writer whose bytes are known.
-use Rattle.std.specs.Prelude.{◌≡◌, ◌≢◌, ℕ, ◌+◌, Bool, true, false, List, [], ◌∷◌, ◌++◌, codes, string_bytes, Option, None, Some, Result, Ok, Err}
+use Rattle.std.specs.Prelude.{◌≡◌, ◌≢◌, ℕ, ◌+◌, Bool, true, false, List, [], ◌∷◌, ◌++◌, codes, Option, None, Some, Result, Ok, Err}
 use Rattle.std.specs.Io.KnownBytes.{Appends}
 use Rattle.program_lines.specs.Cut.{lines_of, says_nothing}
 use Rattle.program_lines.specs.Stop.{bad_text, status_of, stop_text}
@@ -7,8 +7,8 @@ use Rattle.program_lines.specs.declared.status.Status.{Status}
 use Rattle.program_lines.specs.declared.status.Status.TheVariants.{Done, BadTrace, NoMemory, Fault}
 use Rattle.program_lines.specs.declared.stop.Stop.{Stop}
 use Rattle.program_lines.specs.declared.stop.Stop.TheVariants as stop
-use Rattle.turn_desk_event.specs.declared.answer.Answer.{Answer}
-use Rattle.turn_desk_event.specs.declared.event.Event.{Event as Happening}
+use Rattle.turn_desk_world.specs.declared.answer.Answer.{Answer}
+use Rattle.turn_desk_world.specs.declared.event.Event.{Event as Happening}
 use Rattle.turn_desk_trace.specs.Answer.{answer_text}
 use Rattle.turn_desk_trace.specs.TraceLines.{IsLine}
 use Rattle.turn_desk_trace.specs.declared.line.Line.{Line}

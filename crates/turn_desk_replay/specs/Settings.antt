@@ -2,8 +2,8 @@
 use Rattle.std.specs.Prelude.{ℕ, List, [], Option, Some, None}
 use Rattle.std.specs.Duration.{as_nanos}
 use Rattle.std.specs.FinMap as map
-use Rattle.turn_desk_core.specs.Features.{Feature}
-use Rattle.turn_desk_core.specs.State.{State}
+use Rattle.turn_desk_world.specs.Features.{Feature}
+use Rattle.turn_desk_world.specs.State.{State}
 use Rattle.turn_desk_world.specs.Config.{Config, default_config}
 use Rattle.turn_desk_trace.specs.Setup.{algorithms_in_order, families_in_order}
 use Rattle.turn_desk_trace.specs.declared.setup.Algorithms.{Algorithms}

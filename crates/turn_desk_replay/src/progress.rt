@@ -4,29 +4,31 @@ ghost use Rattle.std.specs.Prelude.{◌≡◌, ◌≤◌, ◌||◌, ◌++◌, �
 ghost use Rattle.std.specs.Option.{option_map};
 ghost use Rattle.std.specs.String.{string_bytes};
 ghost use Rattle.turn_desk_trace.specs.Answer.{named_by};
-ghost use Rattle.turn_desk_replay.specs.Progress.{IsBounded, IsClientAdded, IsDeskAdded, IsHappened, IsRtoSet, IsRunOfOne, IsSetUp, IsUserAdded, can_happen, can_happen_in, can_set_up, is_of_client, progress_of, world_of};
-ghost use Rattle.turn_desk_replay.specs.Replay.{IsBadLine, IsLineDone, IsTold, line_text, start};
+ghost use Rattle.turn_desk_replay.specs.Progress.{IsBounded, IsClientAdded, IsDeskAdded, IsRtoSet, IsRunOfOne, IsSetUp, IsUserAdded, can_happen, can_happen_in, can_set_up, is_of_client, progress_of, world_of};
+ghost use Rattle.turn_desk_replay.specs.Replay.{IsBadLine, line_text, start};
+ghost use Rattle.turn_desk_replay.specs.Keeping.{IsHappenedKept, IsLineDoneKept, IsToldKept};
+ghost use Rattle.turn_desk_replay.specs.Wanted.{is_wanted, kept_if};
 
 use crate::setting::{Rto, add_user, new_client, new_desk};
 use program_lines::cut::is_skipped;
 use program_lines::refusal::LineError;
-use std::alloc::Global;
+use std::alloc::{AllocError, Global};
 use std::slice;
 use stun_types::NoMemory;
-use turn_desk_core::desk::Desk;
-use turn_desk_core::proto::auth::Feature;
-use turn_desk_event::answer::Answer;
-use turn_desk_event::event::Event;
 use turn_desk_trace::line::{Line, read_line};
 use turn_desk_trace::named::Named;
 use turn_desk_trace::print::answer_line;
 use turn_desk_trace::setup::{Algorithms, Client, MAX_REALM, MAX_USERNAME, Setup};
+use turn_desk_world::answer::Answer;
 use turn_desk_world::client::client::TurnClient;
+use turn_desk_world::core_desk::Desk;
+use turn_desk_world::event::Event;
+use turn_desk_world::proto::auth::Feature;
 use turn_desk_world::world::World;
 
 /// What a replay keeps from line to line: what the setup lines have made, the world from the first
-/// event on, and what each event line so far was answered. Contracts see the record `Progress` of
-/// `specs/Progress.antt`, by `progress_of`.
+/// event on, and for each event line so far the bytes that it was answered, or none where no line can
+/// name them. Contracts see the record `Progress` of `specs/Progress.antt`, by `progress_of`.
 #[derive(Debug, Drop)]
 pub(crate) struct Progress {
     alloc: Global,
@@ -38,25 +40,32 @@ pub(crate) struct Progress {
 }
 
 impl Progress {
-    /// Nothing was said yet. It keeps the allocator, and holds no memory.
-    pub(crate) fn new(alloc: Global) -> Self
-        ensures { progress_of result ≡ start }
+    /// Nothing was said yet. It keeps the allocator, and has room for the answers of so many event
+    /// lines. `NoMemory` where that is refused.
+    pub(crate) fn new(alloc: Global, lines: usize) -> Result<Self, NoMemory>
+        ensures { IfOk result (λ progress. progress_of progress ≡ start) }
     {
-        Progress {
+        let named = Vec::with_capacity(alloc, lines)?;
+        Ok(Progress {
             alloc,
             desk: None,
             rto: None,
             client: None,
             world: None,
-            named: Vec::new(alloc),
-        }
+            named,
+        })
     }
 
     /// Does what a line says, where it says something. Answers the line that is printed, where the
-    /// line is an event's. `Bad` where it spells no line that may stand here; `NoMemory` where memory
-    /// is refused. With either the replay has ended.
-    pub(crate) fn take_line(&mut self, line: &[u8]) -> Result<Option<String>, LineError>
-        ensures done { IfOk result (λ text. IsLineDone (progress_of self.old) line.now
+    /// line is an event's. Of its answer the bytes are kept where a later line can name them, as the
+    /// flag in `wanted` says. `Bad` where it spells no line that may stand here; `NoMemory` where
+    /// memory is refused. With either the replay has ended.
+    pub(crate) fn take_line(
+        &mut self,
+        line: &[u8],
+        wanted: &[bool],
+    ) -> Result<Option<String>, LineError>
+        ensures done { IfOk result (λ text. IsLineDoneKept wanted.now (progress_of self.old) line.now
             (line_text (option_map (λ t. string_bytes t) text)) (progress_of self.new)) }
         ensures bad { result ≡ Err LineError.Bad → IsBadLine (progress_of self.old) line.now }
     {
@@ -68,7 +77,7 @@ impl Progress {
                 Ok(()) => Ok(None),
                 Err(error) => Err(error),
             },
-            Ok(Line::Event(event)) => match self.tell(event) {
+            Ok(Line::Event(event)) => match self.tell(event, wanted) {
                 Ok(text) => Ok(Some(text)),
                 Err(error) => Err(error),
             },
@@ -176,60 +185,84 @@ impl Progress {
 impl Progress {
     /// Lets an event happen, and answers the line that tells what it was answered. `Bad` where there is
     /// no desk, or an event of the client comes with no client.
-    fn tell(&mut self, event: Event) -> Result<String, LineError>
-        ensures ok { IfOk result (λ text. IsTold (progress_of self.old) event
+    fn tell(&mut self, event: Event, wanted: &[bool]) -> Result<String, LineError>
+        ensures ok { IfOk result (λ text. IsToldKept wanted.now (progress_of self.old) event
             (string_bytes text) (progress_of self.new)) }
         ensures bad { result ≡ Err LineError.Bad
             → can_happen (progress_of self.old) event ≡ false }
     {
-        let answer = self.happen(&event)?;
+        let answer = self.happen(&event, wanted)?;
         let text = answer_line(self.alloc, &answer)?;
         Ok(text)
     }
 
-    /// Lets an event happen, and answers what it is answered, whose bytes are kept. `Bad` where there is
-    /// no desk, or an event of the client comes with no client.
-    fn happen(&mut self, event: &Event) -> Result<Answer, LineError>
-        ensures ok { IfOk result (λ answer. IsHappened (progress_of self.old) event.now answer
-            (progress_of self.new)) }
+    /// Lets an event happen, and answers what it is answered, whose bytes are kept where a later line
+    /// can name them. `Bad` where there is no desk, or an event of the client comes with no client.
+    fn happen(&mut self, event: &Event, wanted: &[bool]) -> Result<Answer, LineError>
+        ensures ok { IfOk result (λ answer. IsHappenedKept wanted.now (progress_of self.old)
+            event.now answer (progress_of self.new)) }
         ensures bad { result ≡ Err LineError.Bad
             → can_happen (progress_of self.old) event.now ≡ false }
     {
-        let Some(mut world) = self.take_world() else {
+        self.begin();
+        let Some(world) = &mut self.world else {
             return Err(LineError::Bad);
         };
-        if !can_happen_in(&world, event) {
+        if !can_happen_in(world, event) {
             return Err(LineError::Bad);
         }
-        let answer = run_one(&mut world, event)?;
-        self.keep(&answer)?;
-        self.world = Some(world);
+        let answer = run_one(world, event)?;
+        keep(self.alloc, wanted, &mut self.named, &answer)?;
         Ok(answer)
     }
 
-    /// Keeps the bytes of an answer, behind those of the answers before.
-    fn keep(&mut self, answer: &Answer) -> Result<(), NoMemory>
-        ensures { OnOk result (self.new.named.items
-            ≡ self.old.named.items ++ named_by answer.now ∷ []) }
-    {
-        let named = Named::of(self.alloc, answer)?;
-        self.named.push(named)?;
-        Ok(())
-    }
-
-    /// The world as it stands: before the first event that of the desk and the client which the setup
-    /// lines have made. None where there is no desk.
-    fn take_world(&mut self) -> Option<World>
-        ensures world { result ≡ world_of (progress_of self.old) }
+    /// Makes the world of the desk and the client that the setup lines have made, before the first event.
+    /// There is none where there is no desk.
+    fn begin(&mut self)
+        ensures world { self.new.world ≡ world_of (progress_of self.old) }
         ensures named { self.new.named.items ≡ self.old.named.items }
     {
-        if let Some(world) = self.world.take() {
-            return Some(world);
+        if self.world.is_none()
+            && let Some(desk) = self.desk.take()
+        {
+            self.world = Some(World::new(self.alloc, desk, self.client.take()));
         }
-        let Some(desk) = self.desk.take() else {
-            return None;
-        };
-        Some(World::new(self.alloc, desk, self.client.take()))
+    }
+}
+
+/// Keeps the bytes of an answer behind those of the answers before: none where no line can name them.
+fn keep(
+    alloc: Global,
+    wanted: &[bool],
+    named: &mut Vec<Named>,
+    answer: &Answer,
+) -> Result<(), NoMemory>
+    ensures { OnOk result (named.new.items ≡ named.old.items
+        ++ kept_if (is_wanted wanted.now (length named.old.items)) (named_by answer.now) ∷ []) }
+{
+    let bytes = kept(alloc, is_wanted(wanted, named.len()), answer)?;
+    named.push(bytes)?;
+    Ok(())
+}
+
+/// Whether a line can name the answer at this place, by its flag.
+fn is_wanted(wanted: &[bool], place: usize) -> bool
+    ensures { result ≡ is_wanted wanted.now place }
+{
+    match wanted.get(place) {
+        Some(flag) => *flag,
+        None => true,
+    }
+}
+
+/// The bytes of an answer where they are wanted, else none.
+fn kept(alloc: Global, wanted: bool, answer: &Answer) -> Result<Named, AllocError>
+    ensures { IfOk result (λ bytes. bytes ≡ kept_if wanted (named_by answer.now)) }
+{
+    if wanted {
+        Named::of(alloc, answer)
+    } else {
+        Ok(Named::new(Vec::new(alloc)))
     }
 }
 

@@ -11,13 +11,13 @@ use std::alloc::Global;
 use std::time::Duration;
 use stun_types::message::{IntegrityAlgorithm, LongTermCredentials};
 use stun_types::{AddressFamily, NoMemory};
-use turn_desk_core::desk::Desk;
-use turn_desk_core::proto::auth::{Feature, LongTermServerAuth};
 use turn_desk_trace::setup::{Algorithms, Client, Families, MAX_REALM, MAX_USERNAME};
 use turn_desk_world::client::api::TurnConfig;
 use turn_desk_world::client::client::TurnClient;
 use turn_desk_world::client::types::TurnCredentials;
 use turn_desk_world::client::udp::TurnClientUdp;
+use turn_desk_world::core_desk::Desk;
+use turn_desk_world::proto::auth::{Feature, LongTermServerAuth};
 
 /// How long each request of a client waits for its response.
 #[derive(Clone, Copy, Debug)]

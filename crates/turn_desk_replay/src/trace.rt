@@ -1,14 +1,17 @@
 //! The replay of a trace.
 
-ghost use Rattle.std.specs.Prelude.{◌≡◌, ◌≢◌, ◌+◌, ◌≤◌, List, ℕ, IfErr, OnOk, length};
+ghost use Rattle.std.specs.Prelude.{◌≡◌, ◌≢◌, ◌+◌, ◌≤◌, All, List, ℕ, IfErr, OnOk, length};
 ghost use Rattle.std.specs.Io.KnownBytes.{Appends, Consumes};
 ghost use Rattle.program_lines.specs.Cut.{lines_of};
 ghost use Rattle.program_lines.specs.Input.{TakesAll, TakesAtMost};
 ghost use Rattle.program_lines.specs.Stop.{status_of};
 ghost use Rattle.turn_desk_replay.specs.Progress.{progress_of};
-ghost use Rattle.turn_desk_replay.specs.Replay.{IsLineDone, IsReplayed, IsStopped, Prints};
+ghost use Rattle.turn_desk_replay.specs.Keeping.{IsLineDoneKept};
+ghost use Rattle.turn_desk_replay.specs.Replay.{IsReplayed, IsStopped, Prints, start};
+ghost use Rattle.turn_desk_replay.specs.Wanted.{IsCovered};
 
 use crate::progress::Progress;
+use crate::wanted::wanted_answers;
 use program_lines::cut::cut_line;
 use program_lines::input::{InputError, MAX_INPUT, read_input};
 use program_lines::status::Status;
@@ -20,6 +23,9 @@ use std::io::{Read, Write};
 /// event was answered. At the first bad line it prints `bad trace: line N`, lines counted from 1; where
 /// memory is refused `no memory`; where the trace can't be read or is too long `read fault`. After a
 /// failed write nothing more is printed.
+///
+/// Beside the trace itself, and the world, it keeps at most 40 bytes for each line of the trace, and
+/// the bytes of those answers that a line of the trace can name.
 pub fn replay<I: Read, O: Write>(alloc: Global, input: &mut I, output: &mut O) -> Status
     // At most one byte more than the longest trace is taken from the reader.
     ensures taken { TakesAtMost (MAX_INPUT + 1) (I.remaining input.old) (I.remaining input.new) }
@@ -59,12 +65,50 @@ fn replay_lines<O: Write>(alloc: Global, trace: &[u8], output: &mut O) -> Result
     requires { length trace.now ≤ MAX_INPUT }
     ensures { IsReplayed trace.now result (O.contents output.old) (O.contents output.new) }
 {
-    let mut progress = Progress::new(alloc);
+    match wanted_answers(alloc, trace) {
+        Ok(wanted) => replay_wanted(alloc, trace, wanted.as_slice(), output),
+        Err(_) => Err(Stop::NoMemory),
+    }
+}
+
+/// The same, where for each answer a flag tells whether a line can name it.
+fn replay_wanted<O: Write>(
+    alloc: Global,
+    trace: &[u8],
+    wanted: &[bool],
+    output: &mut O,
+) -> Result<(), Stop>
+    requires short { length trace.now ≤ MAX_INPUT }
+    requires covered { All (IsCovered wanted.now) (lines_of trace.now) }
+    ensures { IsReplayed trace.now result (O.contents output.old) (O.contents output.new) }
+{
+    match Progress::new(alloc, wanted.len()) {
+        Ok(mut progress) => {
+            let done = go_on(&mut progress, trace, wanted, output);
+            drop(progress);
+            done
+        }
+        Err(_) => Err(Stop::NoMemory),
+    }
+}
+
+/// Does what the lines of a trace say from its beginning on, and prints what its events are answered.
+fn go_on<O: Write>(
+    progress: &mut Progress,
+    trace: &[u8],
+    wanted: &[bool],
+    output: &mut O,
+) -> Result<(), Stop>
+    requires short { length trace.now ≤ MAX_INPUT }
+    requires covered { All (IsCovered wanted.now) (lines_of trace.now) }
+    requires begun { progress_of progress.old ≡ start }
+    ensures { IsReplayed trace.now result (O.contents output.old) (O.contents output.new) }
+{
     let mut rest = trace;
     let mut number = 1usize;
     'lines: loop {
         let (line, after) = cut_line(rest);
-        if let Err(stop) = replay_line(&mut progress, number, line, output) {
+        if let Err(stop) = replay_line(progress, number, line, wanted, output) {
             return Err(stop);
         }
         let Some(after) = after else {
@@ -81,16 +125,18 @@ fn replay_line<O: Write>(
     progress: &mut Progress,
     number: usize,
     line: &[u8],
+    wanted: &[bool],
     output: &mut O,
 ) -> Result<(), Stop>
     ensures done { OnOk result ((printed : List ℕ)
         × Appends (O.contents output.old) (O.contents output.new) printed
-        × IsLineDone (progress_of progress.old) line.now printed (progress_of progress.new)) }
+        × IsLineDoneKept wanted.now (progress_of progress.old) line.now printed
+        (progress_of progress.new)) }
     ensures stopped { IfErr result (λ stop. status_of stop ≢ Status.Fault
         → (O.contents output.new ≡ O.contents output.old)
         × IsStopped (progress_of progress.old) number line.now stop) }
 {
-    match progress.take_line(line) {
+    match progress.take_line(line, wanted) {
         Ok(None) => Ok(()),
         Ok(Some(text)) => print_line(text.as_str(), output),
         Err(error) => Err(stop_at(number, error)),

@@ -14,7 +14,7 @@ use Rattle.stun_types.specs.ValueReading.{value_refusal}
 use Rattle.stun_types.specs.Xor.{xored}
 use Rattle.turn_types.specs.TurnRegistry.{channel_number_kind, connection_id_kind, requested_transport_kind, xor_peer_address_kind}
 use Rattle.turn_types.specs.TurnShows.{address_in, addresses_shown, each_shown, first_shown, number_in, number_shown, unless_refused}
-use Rattle.turn_desk_grant.specs.AskedFor.{channel_asked, channel_in, connection_asked, connection_in, peer_asked, peer_in, peers_told, transport_asked, transport_in}
+use Rattle.turn_desk_core.specs.AskedFor.{channel_asked, channel_in, connection_asked, connection_in, peer_asked, peer_in, peers_told, transport_asked, transport_in}
 use Rattle.turn_runs_stun.specs.StunWire.{protocol_transport}
 
 abbrev is_of : ℕ → Attr → Bool

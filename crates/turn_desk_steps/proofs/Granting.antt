@@ -8,11 +8,11 @@ use Rattle.stun_types.specs.Signing.{signature}
 use Rattle.stun_types.specs.Types.{method_of}
 use Rattle.turn_types.specs.TurnRegistry.{xor_peer_address_kind}
 use Rattle.turn_types.specs.TurnShows.{addresses_shown}
-use Rattle.turn_desk_grant.specs.AskedFor.{are_peers, peer_asked, peers_told, some_peers}
-use Rattle.turn_desk_grant.specs.Grants.{IsGrant, IsAllocated, IsRefreshed, IsPermitted, IsBound, IsConnected, IsJoined, Allocated, Refreshed, Permitted, Bound, Connected, Joined}
-use Rattle.turn_desk_grant.specs.declared.decision.Decision.{Decision}
-use Rattle.turn_desk_grant.specs.declared.grant.Grant as granted
-use Rattle.turn_runs.specs.Messages.{IsGrantFor}
+use Rattle.turn_desk_core.specs.AskedFor.{are_peers, peer_asked, peers_told, some_peers}
+use Rattle.turn_desk_core.specs.Grants.{IsGrant, IsAllocated, IsRefreshed, IsPermitted, IsBound, IsConnected, IsJoined, Allocated, Refreshed, Permitted, Bound, Connected, Joined}
+use Rattle.turn_desk_core.specs.declared.decision.Decision.{Decision}
+use Rattle.turn_desk_core.specs.declared.grant.Grant as granted
+use Rattle.turn_runs_stun.specs.Messages.{IsGrantFor}
 use Rattle.turn_runs_stun.specs.StunWire.{told_by}
 use Rattle.turn_desk_steps.specs.DeskRun.{CanBeTold, told_grant}
 use Rattle.turn_desk_steps.proofs.Asking.{channel_same, connection_same, one_peer, peers_same, transport_same}

@@ -3,3 +3,5 @@ pub mod Granting
 pub mod Replies
 pub mod Signing
 pub mod Stepping
+-- What stands above this crate has these through it.
+pub use Rattle.turn_runs_stun.proofs.Lawful

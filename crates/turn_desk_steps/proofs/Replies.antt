@@ -16,8 +16,8 @@ use Rattle.stun_types.specs.Xor.{xored}
 use Rattle.stun_types.specs.ValueReading.{value_refusal}
 use Rattle.turn_types.specs.TurnRegistry.{connection_id_kind, lifetime_kind, xor_relayed_address_kind}
 use Rattle.turn_types.specs.TurnShows.{address_in, addresses_shown, each_shown, number_in, number_shown, unless_refused}
-use Rattle.turn_desk_grant.specs.Granted.{connected_attributes, refreshed_attributes}
-use Rattle.turn_desk_grant.specs.Replies.{allocated_attributes, relayed_attributes}
+use Rattle.turn_desk_core.specs.Granted.{connected_attributes, refreshed_attributes}
+use Rattle.turn_desk_core.specs.Replies.{allocated_attributes, relayed_attributes}
 use Rattle.turn_desk_steps.specs.DeskRun.{AreTold}
 
 abbrev is_of : ℕ → Attr → Bool

@@ -8,10 +8,10 @@ use Rattle.stun_types.specs.Grammar.{shown}
 use Rattle.stun_types.specs.Integrity.{Validates, attribute_kind}
 use Rattle.stun_types.specs.IntegrityAlgorithms.{IntegrityAlgorithm, Sha1, Sha256}
 use Rattle.stun_types.specs.Shape.{rank}
-use Rattle.turn_desk_grant.specs.Replies.{relayed_attributes}
-use Rattle.turn_desk_grant.specs.Verdicts.{reply_attributes}
-use Rattle.turn_desk_grant.specs.declared.verdict.Verdict.{Verdict}
-use Rattle.turn_desk_grant.specs.declared.verdict.Verdict.TheVariants.{Fails, Allocates, Refreshes, Permits, Binds, Connects, Joins}
+use Rattle.turn_desk_core.specs.Replies.{relayed_attributes}
+use Rattle.turn_desk_core.specs.Verdicts.{reply_attributes}
+use Rattle.turn_desk_core.specs.declared.verdict.Verdict.{Verdict}
+use Rattle.turn_desk_core.specs.declared.verdict.Verdict.TheVariants.{Fails, Allocates, Refreshes, Permits, Binds, Connects, Joins}
 use Rattle.turn_runs_stun.specs.StunWire.{Cover}
 
 -- ---- where the integrity attribute stands

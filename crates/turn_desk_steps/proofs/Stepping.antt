@@ -22,8 +22,8 @@ use Rattle.stun_proto.specs.Server.{Server, nonce_at, refreshed, with_outcome}
 use Rattle.stun_proto.specs.ServerSigning.{party_by_client, party_by_outcome}
 use Rattle.turn_types.specs.TurnRegistry.{connection_id_kind}
 use Rattle.turn_types.specs.TurnShows.{number_in, unless_refused}
-use Rattle.turn_desk_grant.specs.Verdicts.{reply_attributes, reply_type, verdict_on}
-use Rattle.turn_desk_grant.specs.declared.grant.Grant as granted
+use Rattle.turn_desk_core.specs.Verdicts.{reply_attributes, reply_type, verdict_on}
+use Rattle.turn_desk_core.specs.declared.grant.Grant as granted
 use Rattle.turn_desk_core.specs.State.{State}
 use Rattle.turn_desk_core.specs.Steps.{IsAnswer, IsChallenge, IsVerdict, key_at, key_of_party}
 use Rattle.turn_desk_core.specs.DeskSteps.{DeskStep as CoreStep}
@@ -31,10 +31,10 @@ use Rattle.turn_desk_core.proofs.Grants.{exactly_granted}
 use Rattle.turn_desk_core.proofs.Keys.{kept_outcome, taken_key}
 use Rattle.turn_desk_core.proofs.Nonces.{refreshed_nonce, refreshed_realm}
 use Rattle.turn_desk_core.proofs.StepLaws.{accepted_valid, answer_step}
-use Rattle.turn_runs.specs.Members.{IsIn}
-use Rattle.turn_runs.specs.Messages.{Grant, IsResponse, Message}
-use Rattle.turn_runs.specs.Steps.{DeskStep, Grants}
-use Rattle.turn_runs.proofs.Tools.{in_left}
+use Rattle.turn_runs_stun.specs.Members.{IsIn}
+use Rattle.turn_runs_stun.specs.Messages.{Grant, IsResponse, Message}
+use Rattle.turn_runs_stun.specs.Steps.{DeskStep, Grants}
+use Rattle.turn_runs_stun.proofs.Tools.{in_left}
 use Rattle.turn_runs_stun.specs.StunWire.{AreValid, Cover, stun_wire, told_by}
 use Rattle.turn_desk_steps.specs.DeskRun.{DeskCall, IsHandled, IsReplied, desk_words, told_grant}
 use Rattle.turn_desk_steps.proofs.Granting.{is_for}

@@ -7,15 +7,15 @@ use Rattle.stun_types.specs.Grammar.{number_at}
 use Rattle.stun_types.specs.Headers.{AreBytes}
 use Rattle.stun_types.specs.IntegrityAlgorithms.{IntegrityAlgorithm}
 use Rattle.turn_types.specs.TurnShows.{address_in}
-use Rattle.turn_desk_grant.specs.Replies.{relayed_attribute}
-use Rattle.turn_desk_grant.specs.Requests.{IsServed}
-use Rattle.turn_desk_grant.specs.declared.decision.Decision.{Decision}
-use Rattle.turn_desk_grant.specs.declared.decision.Decision.TheVariants as by
-use Rattle.turn_desk_grant.specs.declared.grant.Grant as granted
+use Rattle.turn_desk_core.specs.Replies.{relayed_attribute}
+use Rattle.turn_desk_core.specs.Requests.{IsServed}
+use Rattle.turn_desk_core.specs.declared.decision.Decision.{Decision}
+use Rattle.turn_desk_core.specs.declared.decision.Decision.TheVariants as by
+use Rattle.turn_desk_core.specs.declared.grant.Grant as granted
 use Rattle.turn_desk_core.specs.State.{State}
 use Rattle.turn_desk_core.specs.Steps.{IsAnswer, IsGranted, key_at}
-use Rattle.turn_runs.specs.Messages.{Grant}
-use Rattle.turn_runs.specs.Words.{DeskWords}
+use Rattle.turn_runs_stun.specs.Messages.{Grant}
+use Rattle.turn_runs_stun.specs.Words.{DeskWords}
 
 -- bytes came from an address at a moment, and the desk may have replied
 pub record DeskCall : Type 0 where

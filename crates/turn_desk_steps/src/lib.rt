@@ -1,7 +1,7 @@
 //! What a desk does, in the words of a run of a client and a desk (RFC 8656).
 #![tactic(auto)]
 
-ghost use Rattle.turn_runs.specs.Steps.{DeskStep};
+ghost use Rattle.turn_runs_stun.specs.Steps.{DeskStep};
 ghost use Rattle.turn_runs_stun.specs.StunWire.{stun_wire};
 ghost use Rattle.turn_desk_steps.specs.DeskRun.{DeskCall, IsHandled, desk_words};
 
@@ -10,3 +10,6 @@ ghost use Rattle.turn_desk_steps.specs.DeskRun.{DeskCall, IsHandled, desk_words}
 pub fn desk_runs()
     ensures { (d : DeskCall) → IsHandled d → DeskStep stun_wire desk_words d }
 {}
+
+// What stands above this crate has these through it.
+pub use turn_desk_core::{decision, desk, grant, laws, proto};

@@ -11,12 +11,12 @@ use Rattle.stun_types.specs.declared.family.AddressFamily.{AddressFamily}
 use Rattle.stun_types.specs.declared.family.AddressFamily.TheVariants.{IPV4, IPV6}
 use Rattle.stun_types.specs.declared.transport.TransportType.{TransportType}
 use Rattle.stun_types.specs.declared.transport.TransportType.TheVariants.{Udp, Tcp}
-use Rattle.turn_client_proto_api.specs.declared.error.CreatePermissionError.{CreatePermissionError}
-use Rattle.turn_client_proto_api.specs.declared.error.CreatePermissionError.TheVariants as Permits
-use Rattle.turn_client_proto_api.specs.declared.error.DeleteError.{DeleteError}
-use Rattle.turn_client_proto_api.specs.declared.error.DeleteError.TheVariants as Deletes
-use Rattle.turn_client_proto_api.specs.declared.event.TurnEvent.{TurnEvent}
-use Rattle.turn_client_proto_api.specs.declared.event.TurnEvent.TheVariants as Events
+use Rattle.turn_desk_event.specs.declared.error.CreatePermissionError.{CreatePermissionError}
+use Rattle.turn_desk_event.specs.declared.error.CreatePermissionError.TheVariants as Permits
+use Rattle.turn_desk_event.specs.declared.error.DeleteError.{DeleteError}
+use Rattle.turn_desk_event.specs.declared.error.DeleteError.TheVariants as Deletes
+use Rattle.turn_desk_event.specs.declared.api_event.TurnEvent.{TurnEvent}
+use Rattle.turn_desk_event.specs.declared.api_event.TurnEvent.TheVariants as Events
 use Rattle.turn_desk_event.specs.declared.answer.Answer.{Answer}
 use Rattle.turn_desk_event.specs.declared.answer.Answer.TheVariants as Answers
 use Rattle.turn_desk_event.specs.declared.answer.Refusal.{Refusal}

@@ -1,9 +1,8 @@
 -- The bytes that a BYTES word names. The answers of the event lines so far are lists of bytes, the
 -- first line's first; a line that was answered by no bytes has none.
-use Rattle.std.specs.Prelude.{ℕ, ◌+◌, ◌-◌, ◌==◌, nat_le, ◌&&◌, if◌then◌else◌, List, [], ◌∷◌, ◌++◌, map, drop, take, length, slice_get, slice_range, slice_index, Option, Some, None}
+use Rattle.std.specs.Prelude.{ℕ, ◌-◌, ◌==◌, nat_le, ◌&&◌, if◌then◌else◌, List, [], ◌∷◌, ◌++◌, map, drop, length, slice_get, slice_range, slice_index, Option, Some, None}
 use Rattle.std.specs.Option.{option_map}
 use Rattle.std.specs.List.{slice_split}
-use Rattle.stun_types.specs.Registry.{greatest_size}
 use Rattle.program_lines.specs.LowerHex.{hex_bytes, is_dash}
 use Rattle.turn_desk_trace.specs.TraceNumbers.{number}
 
@@ -56,15 +55,6 @@ both (Some bytes) others = prepend bytes others
 unfoldable pub joined : List (Option (List ℕ)) → Option (List ℕ)
 joined [] = Some []
 joined (bytes ∷ rest) = both bytes (joined rest)
-
--- how many of the bytes that a word names are read: one more than a message can have, so that what is
--- longer is still too long
-abbrev pub most_bytes : ℕ
-most_bytes = greatest_size + 1
-
--- the first bytes, as many as are read
-abbrev pub first_bytes : Option (List ℕ) → Option (List ℕ)
-first_bytes named = option_map (λ bytes. take most_bytes bytes) named
 
 -- the bytes that a BYTES word names: none for `-`, else those of the parts that `+` joins
 unfoldable pub named_bytes : List (List ℕ) → List ℕ → Option (List ℕ)

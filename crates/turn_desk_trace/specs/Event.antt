@@ -9,7 +9,7 @@ use Rattle.turn_desk_event.specs.declared.event.ClientCall.TheVariants.{Poll, Po
 use Rattle.turn_desk_event.specs.declared.event.Event.{Event}
 use Rattle.turn_desk_event.specs.declared.event.Event.TheVariants.{Call, Draw, ToClient, ToDesk}
 use Rattle.turn_desk_trace.specs.Answer.{transport_word}
-use Rattle.turn_desk_trace.specs.Bytes.{first_bytes, named_bytes}
+use Rattle.turn_desk_trace.specs.Bytes.{named_bytes}
 use Rattle.turn_desk_trace.specs.Decision.{IsDecision}
 use Rattle.turn_desk_trace.specs.TraceNumbers.{number, seed_of}
 
@@ -62,7 +62,7 @@ IsCall name rest RelayedAddresses moment = (name ≡ codes "relayed") × IsNoMom
 -- the words, of which the last ones are a decision, spell bytes that reach the desk
 abbrev pub IsToDeskOf : List (List ℕ) → List ℕ → List ℕ → List ℕ → List ℕ → List (List ℕ) → Event → Type 0
 IsToDeskOf answers now from bytes seed decision (ToDesk b f n d s) =
-    (number now ≡ Some n) × IsSocketText from f × (first_bytes (named_bytes answers bytes) ≡ Some b.items)
+    (number now ≡ Some n) × IsSocketText from f × (named_bytes answers bytes ≡ Some b.items)
     × (seed_of seed ≡ Some s) × IsDecision decision d
 IsToDeskOf answers now from bytes seed decision (ToClient b f t n) = ⊥
 IsToDeskOf answers now from bytes seed decision (Draw n) = ⊥
@@ -84,7 +84,7 @@ IsToDesk answers (now ∷ from ∷ rest) event = IsToDeskFrom answers now from r
 abbrev pub IsToClientOf : List (List ℕ) → List ℕ → List ℕ → List ℕ → List ℕ → Event → Type 0
 IsToClientOf answers now from to bytes (ToClient b f t n) =
     (number now ≡ Some n) × IsSocketText from f × IsSocketText to t
-    × (first_bytes (named_bytes answers bytes) ≡ Some b.items)
+    × (named_bytes answers bytes ≡ Some b.items)
 IsToClientOf answers now from to bytes (ToDesk b f n d s) = ⊥
 IsToClientOf answers now from to bytes (Draw n) = ⊥
 IsToClientOf answers now from to bytes (Call call n) = ⊥

@@ -1,10 +1,10 @@
 //! BYTES: parts joined by `+`, each lower case hex or bytes that an earlier event line answered.
 
-ghost use Rattle.std.specs.Prelude.{◌≡◌, ◌≤◌, Some, None, Err, IfOk, OnOk, length, map};
+ghost use Rattle.std.specs.Prelude.{◌≡◌, Some, None, Err, IfOk, OnOk, map};
 ghost use Rattle.std.specs.Option.{option_copied};
 ghost use Rattle.program_lines.specs.LowerHex.{hex_bytes};
 ghost use Rattle.turn_desk_trace.specs.TraceNumbers.{number};
-ghost use Rattle.turn_desk_trace.specs.Bytes.{answer_of, answered_part, first_bytes, joined, most_bytes, named_bytes, part_bytes, prepend, range_of, reference_bytes, some_bytes};
+ghost use Rattle.turn_desk_trace.specs.Bytes.{answer_of, answered_part, joined, named_bytes, part_bytes, prepend, range_of, reference_bytes, some_bytes};
 
 use crate::named::Named;
 use crate::number::read_u64;
@@ -12,21 +12,16 @@ use program_lines::lower_hex::{decode_lower, is_no_bytes};
 use program_lines::refusal::LineError;
 use program_lines::word::pieces;
 use std::alloc::Global;
-use stun_types::{NoMemory, registry};
-
-/// How many bytes of a word are read: one more than a message can have.
-const MOST_BYTES: usize = registry::MAX_MESSAGE_LENGTH + 1;
+use stun_types::NoMemory;
 
 /// The bytes that a BYTES word names: `-` is no bytes, and else its parts, which `+` joins, give
-/// theirs in their order. A part that names no bytes makes the word bad. Of more bytes than a
-/// message can have only the first are read, one more than that: they are no message either, so a
-/// word that names an answer again and again takes no more memory.
+/// theirs in their order. A part that names no bytes makes the word bad. All bytes are read, however
+/// many: a word that names a long answer again and again takes memory for each time.
 ///
 /// `answers` are those of the event lines so far, the first of them first. Where memory is refused,
 /// `NoMemory`.
 pub fn read_bytes(alloc: Global, word: &str, answers: &[Named]) -> Result<Vec<u8>, LineError>
-    ensures ok { IfOk result (λ bytes. first_bytes (named_bytes answers.now word.now)
-        ≡ Some bytes.items) }
+    ensures ok { IfOk result (λ bytes. named_bytes answers.now word.now ≡ Some bytes.items) }
     ensures bad { result ≡ Err LineError.Bad → named_bytes answers.now word.now ≡ None }
 {
     if is_no_bytes(word) {
@@ -36,10 +31,10 @@ pub fn read_bytes(alloc: Global, word: &str, answers: &[Named]) -> Result<Vec<u8
     join_parts(alloc, parts.as_slice(), answers)
 }
 
-/// The first bytes that the parts of a word name, in the order of the parts.
+/// The bytes that the parts of a word name, in the order of the parts.
 fn join_parts(alloc: Global, parts: &[&str], answers: &[Named]) -> Result<Vec<u8>, LineError>
-    ensures ok { IfOk result (λ bytes. first_bytes (joined (map (λ x. part_bytes answers.now x.now)
-        parts.now)) ≡ Some bytes.items) }
+    ensures ok { IfOk result (λ bytes. joined (map (λ x. part_bytes answers.now x.now) parts.now)
+        ≡ Some bytes.items) }
     ensures bad { result ≡ Err LineError.Bad → joined
         (map (λ x. part_bytes answers.now x.now) parts.now) ≡ None }
 {
@@ -52,16 +47,14 @@ fn join_parts(alloc: Global, parts: &[&str], answers: &[Named]) -> Result<Vec<u8
     Ok(bytes)
 }
 
-/// Appends the bytes that a part names, as far as they are read.
+/// Appends the bytes that a part names.
 fn push_part(
     alloc: Global,
     bytes: &mut Vec<u8>,
     part: &str,
     answers: &[Named],
 ) -> Result<(), LineError>
-    requires short { length bytes.old.items ≤ most_bytes }
-    ensures ok { OnOk result (first_bytes (prepend bytes.old.items (part_bytes answers.now
-        part.now))
+    ensures ok { OnOk result (prepend bytes.old.items (part_bytes answers.now part.now)
         ≡ Some bytes.new.items) }
     ensures bad { result ≡ Err LineError.Bad → part_bytes answers.now part.now ≡ None }
 {
@@ -78,9 +71,7 @@ fn push_answered(
     reference: &str,
     answers: &[Named],
 ) -> Result<(), LineError>
-    requires short { length bytes.old.items ≤ most_bytes }
-    ensures ok { OnOk result (first_bytes (prepend bytes.old.items (answered_part answers.now
-        reference.now))
+    ensures ok { OnOk result (prepend bytes.old.items (answered_part answers.now reference.now)
         ≡ Some bytes.new.items) }
     ensures bad { result ≡ Err LineError.Bad → answered_part answers.now reference.now ≡ None }
 {
@@ -93,9 +84,7 @@ fn push_answered(
 
 /// Appends the bytes of a part that is lower case hex.
 fn push_hex(alloc: Global, bytes: &mut Vec<u8>, part: &str) -> Result<(), LineError>
-    requires short { length bytes.old.items ≤ most_bytes }
-    ensures ok { OnOk result (first_bytes (prepend bytes.old.items (some_bytes (hex_bytes
-        part.now)))
+    ensures ok { OnOk result (prepend bytes.old.items (some_bytes (hex_bytes part.now))
         ≡ Some bytes.new.items) }
     ensures bad { result ≡ Err LineError.Bad → some_bytes (hex_bytes part.now) ≡ None }
 {
@@ -103,19 +92,16 @@ fn push_hex(alloc: Global, bytes: &mut Vec<u8>, part: &str) -> Result<(), LineEr
     push_some(bytes, decoded.as_slice())
 }
 
-/// Appends bytes that a part named, as far as they are read. Where they are none, the part named
-/// nothing.
+/// Appends bytes that a part named. Where they are none, the part named nothing.
 fn push_some(bytes: &mut Vec<u8>, named: &[u8]) -> Result<(), LineError>
-    requires short { length bytes.old.items ≤ most_bytes }
-    ensures ok { OnOk result (first_bytes (prepend bytes.old.items (some_bytes (Some named.now)))
+    ensures ok { OnOk result (prepend bytes.old.items (some_bytes (Some named.now))
         ≡ Some bytes.new.items) }
     ensures bad { result ≡ Err LineError.Bad → some_bytes (Some named.now) ≡ None }
 {
     if named.is_empty() {
         return Err(LineError::Bad);
     }
-    let room = MOST_BYTES - bytes.len();
-    bytes.extend_from_slice(&named[..named.len().min(room)])?;
+    bytes.extend_from_slice(named)?;
     Ok(())
 }
 

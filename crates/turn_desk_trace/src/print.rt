@@ -10,10 +10,10 @@ use program_lines::lower_hex::write_hex;
 use std::alloc::{AllocError, Global};
 use std::net::{IpAddr, SocketAddr};
 use stun_types::{AddressFamily, TransportType};
-use turn_client_proto_api::answer::Socket5Tuple;
-use turn_client_proto_api::error::{CreatePermissionError, DeleteError};
-use turn_client_proto_api::event::TurnEvent;
 use turn_desk_event::answer::{Answer, Refusal};
+use turn_desk_event::api_answer::Socket5Tuple;
+use turn_desk_event::api_event::TurnEvent;
+use turn_desk_event::error::{CreatePermissionError, DeleteError};
 
 /// The line that an answer is printed as, with its line feed. Where memory is refused,
 /// `AllocError`.

@@ -8,7 +8,7 @@ use Rattle.stun_types.specs.Headers.{AreBytes}
 use Rattle.stun_types.specs.ParseErrors.{StunParseError}
 use Rattle.stun_types.specs.declared.transmit.Transmit.{Transmit}
 use Rattle.stun_types.specs.declared.transport.TransportType.{TransportType}
-use Rattle.turn_runs.specs.Messages.{Notice}
+use Rattle.turn_client_proto.specs.Messages.{Notice}
 use Rattle.turn_client_proto.specs.Allocation.Listed.{relayed_shown}
 use Rattle.turn_client_proto.specs.Permission.Shown.{addresses_of, permissions_at}
 use Rattle.turn_client_proto.specs.Api.declared.answer.TurnPollRet.TheVariants as poll

@@ -3,11 +3,11 @@ use Rattle.std.proofs.Common.{◌≡◌, ℕ, List}
 use Rattle.std.specs.Prelude.{MatchOption}
 use Rattle.std.specs.declared.net.socket_addr.SocketAddr.{SocketAddr}
 use Rattle.stun_types.specs.Grammar.{number_at}
-use Rattle.turn_runs.specs.Runs.{AtDesk}
-use Rattle.turn_runs.specs.Steps.{DeskStep}
-use Rattle.turn_runs_stun.specs.StunWire.{stun_wire}
-use Rattle.turn_desk_grant.specs.declared.decision.Decision.{Decision}
-use Rattle.turn_desk_grant.specs.declared.decision.Decision.TheVariants as by
+use Rattle.turn_client_proto.specs.Runs.{AtDesk}
+use Rattle.turn_client_proto.specs.Steps.{DeskStep}
+use Rattle.turn_desk_steps.specs.StunWire.{stun_wire}
+use Rattle.turn_desk_event.specs.declared.decision.Decision.{Decision}
+use Rattle.turn_desk_event.specs.declared.decision.Decision.TheVariants as by
 use Rattle.turn_desk_event.specs.declared.answer.Answer.{Answer}
 use Rattle.turn_desk_event.specs.declared.answer.Answer.TheVariants as answer
 use Rattle.turn_desk_event.specs.declared.event.Event.{Event}

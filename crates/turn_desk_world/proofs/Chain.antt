@@ -1,6 +1,6 @@
 -- A run behind a step.
 use Rattle.std.proofs.Common.{List, [], ◌∷◌, ◌++◌, sym, subst}
-use Rattle.turn_runs.specs.Runs.{Step, AtClient, AtDesk, AtEach, Leads}
+use Rattle.turn_client_proto.specs.Runs.{Step, AtClient, AtDesk, AtEach, Leads}
 
 pub leads_behind : {C D : Type 0} (first mid last : C) (one : Step C D) (later : List (Step C D)) → Leads first (one ∷ []) mid → Leads mid later last → Leads first (later ++ one ∷ []) last
 leads_behind first mid last one [] here is = subst (λ c. Leads first (one ∷ []) c) (sym is) here

@@ -1,8 +1,8 @@
 -- Runs of a world whose client is new are safe.
 use Rattle.std.proofs.Common.{List}
-use Rattle.turn_runs.specs.Runs.{AreDistinct, IsUnforged, NoForgery}
-use Rattle.turn_runs.proofs.Safe.{safe}
-use Rattle.turn_runs_stun.proofs.Lawful.{lawful}
+use Rattle.turn_client_proto.specs.Runs.{AreDistinct, IsUnforged, NoForgery}
+use Rattle.turn_client_proto.proofs.Safe.{safe}
+use Rattle.turn_desk_steps.proofs.Lawful.{lawful}
 use Rattle.turn_client_proto_steps.specs.Beginning.{first_client}
 use Rattle.turn_client_proto_steps.specs.RunClient.{Client}
 use Rattle.turn_client_proto_steps.proofs.Beginning.{new_sound, new_unasked}

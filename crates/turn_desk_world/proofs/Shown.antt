@@ -4,13 +4,13 @@ use Rattle.std.specs.List.{AllByRecursion}
 use Rattle.std.specs.declared.net.ip_addr.IpAddr.{IpAddr}
 use Rattle.std.specs.declared.net.socket_addr.SocketAddr.{SocketAddr}
 use Rattle.stun_types.specs.declared.transport.TransportType.{TransportType}
-use Rattle.turn_runs.specs.Headline.{IsSafe, Traced}
-use Rattle.turn_runs.specs.Members.{IsIn}
-use Rattle.turn_runs.specs.Messages.{Held, Allocation, Permission}
-use Rattle.turn_runs.specs.Runs.{Step, AtClient, AtDesk, AtEach, AtSome}
-use Rattle.turn_runs.specs.Steps.{Call}
-use Rattle.turn_runs.proofs.Keeps.{traced_later}
-use Rattle.turn_runs_stun.proofs.Lawful.{lawful}
+use Rattle.turn_client_proto.specs.Headline.{IsSafe, Traced}
+use Rattle.turn_client_proto.specs.Members.{IsIn}
+use Rattle.turn_client_proto.specs.Messages.{Held, Allocation, Permission}
+use Rattle.turn_client_proto.specs.Runs.{Step, AtClient, AtDesk, AtEach, AtSome}
+use Rattle.turn_client_proto.specs.Steps.{Call}
+use Rattle.turn_client_proto.proofs.Keeps.{traced_later}
+use Rattle.turn_desk_steps.proofs.Lawful.{lawful}
 use Rattle.turn_client_proto.specs.Allocation.Listed.{relayed_shown}
 use Rattle.turn_client_proto.specs.Permission.Shown.{addresses_of, permissions_at}
 use Rattle.turn_client_proto.specs.Kept.{Protocol}

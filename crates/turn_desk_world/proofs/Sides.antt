@@ -2,7 +2,7 @@
 use Rattle.std.proofs.Common.{◌≡◌, not, List, [], ◌∷◌, Option, ap, subst}
 use Rattle.std.specs.List.{filter}
 use Rattle.turn_client_proto.specs.Kept.{Protocol}
-use Rattle.turn_desk_core.specs.State.{State}
+use Rattle.turn_desk_steps.specs.State.{State}
 use Rattle.turn_desk_event.specs.declared.answer.Answer.{Answer}
 use Rattle.turn_desk_event.specs.declared.event.Event.{Event}
 use Rattle.turn_desk_event.specs.declared.event.Event.TheVariants.{Call, Draw, ToClient, ToDesk}

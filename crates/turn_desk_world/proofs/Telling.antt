@@ -1,7 +1,7 @@
 -- The answers to some events are steps of a run, each lawful.
 use Rattle.std.proofs.Common.{◌≡◌, ℕ, true, false, List, [], ◌∷◌, ◌++◌, Option, Some, None, refl, sym, ap, ◌∙◌, subst}
 use Rattle.std.specs.List.{AllByRecursion}
-use Rattle.turn_runs.specs.Runs.{Step, AtClient, AtDesk, AtEach, IsLawful, Leads}
+use Rattle.turn_client_proto.specs.Runs.{Step, AtClient, AtDesk, AtEach, IsLawful, Leads}
 use Rattle.turn_client_proto.specs.Kept.{Protocol}
 use Rattle.turn_client_proto_steps.specs.RunClient.{Client}
 use Rattle.turn_client_proto_steps.specs.RunSteps.{call_of}

@@ -9,3 +9,17 @@ pub use Rattle.turn_client_proto.specs.Beginning
 pub use Rattle.turn_client_proto.specs.Clients
 pub use Rattle.turn_client_proto.specs.Config
 pub use Rattle.turn_client_proto.specs.Kept
+-- What stands above this crate has these through it.
+pub use Rattle.turn_desk_steps.specs.AskedFor
+pub use Rattle.turn_desk_steps.specs.AuthLending
+pub use Rattle.turn_desk_steps.specs.Decisions
+pub use Rattle.turn_desk_steps.specs.DeskIsolation
+pub use Rattle.turn_desk_steps.specs.DeskSteps
+pub use Rattle.turn_desk_steps.specs.Features
+pub use Rattle.turn_desk_steps.specs.Granted
+pub use Rattle.turn_desk_steps.specs.Grants
+pub use Rattle.turn_desk_steps.specs.Replies
+pub use Rattle.turn_desk_steps.specs.Requests
+pub use Rattle.turn_desk_steps.specs.State
+pub use Rattle.turn_desk_steps.specs.Steps
+pub use Rattle.turn_desk_steps.specs.Verdicts

@@ -5,11 +5,11 @@ use Rattle.std.specs.declared.net.ip_addr.IpAddr.{IpAddr}
 use Rattle.std.specs.declared.net.socket_addr.SocketAddr.{SocketAddr}
 use Rattle.stun_types.specs.Registry.{longest_username}
 use Rattle.stun_types.specs.declared.transport.TransportType.{TransportType}
-use Rattle.turn_runs.specs.Headline.{AnswersOnce, IsSafe, Traced}
-use Rattle.turn_runs.specs.Members.{IsIn}
-use Rattle.turn_runs.specs.Messages.{Held, Allocation, Permission}
-use Rattle.turn_runs.specs.Runs.{Step, AreDistinct, AtEach, IsLawful, Leads, NoForgery}
-use Rattle.turn_runs.specs.Words.{Words}
+use Rattle.turn_client_proto.specs.Headline.{AnswersOnce, IsSafe, Traced}
+use Rattle.turn_client_proto.specs.Members.{IsIn}
+use Rattle.turn_client_proto.specs.Messages.{Held, Allocation, Permission}
+use Rattle.turn_client_proto.specs.Runs.{Step, AreDistinct, AtEach, IsLawful, Leads, NoForgery}
+use Rattle.turn_client_proto.specs.Words.{Words}
 use Rattle.turn_client_proto.specs.Beginning.{IsNew}
 use Rattle.turn_client_proto.specs.Config.{Config}
 use Rattle.turn_client_proto.specs.Kept.{Protocol}

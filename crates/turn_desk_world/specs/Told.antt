@@ -3,14 +3,14 @@ use Rattle.std.specs.Prelude.{◌≡◌, ℕ, ◌++◌, List, [], ◌∷◌, Opt
 use Rattle.std.specs.List.{filter_map}
 use Rattle.std.specs.declared.net.socket_addr.SocketAddr.{SocketAddr}
 use Rattle.stun_types.specs.Grammar.{number_at}
-use Rattle.turn_runs.specs.Messages.{Notice, Payload, FromPeer}
-use Rattle.turn_runs.specs.Runs.{Step, AtClient, AtDesk}
-use Rattle.turn_runs.specs.Steps.{Call}
+use Rattle.turn_client_proto.specs.Messages.{Notice, Payload, FromPeer}
+use Rattle.turn_client_proto.specs.Runs.{Step, AtClient, AtDesk}
+use Rattle.turn_client_proto.specs.Steps.{Call}
 use Rattle.turn_client_proto.specs.Drawing.{sent_of}
 use Rattle.turn_client_proto_steps.specs.ClientWords.{notice_of}
 use Rattle.turn_client_proto_steps.specs.RunClient.{Client}
-use Rattle.turn_desk_grant.specs.declared.decision.Decision.{Decision}
-use Rattle.turn_desk_grant.specs.declared.decision.Decision.TheVariants as by
+use Rattle.turn_desk_event.specs.declared.decision.Decision.{Decision}
+use Rattle.turn_desk_event.specs.declared.decision.Decision.TheVariants as by
 use Rattle.turn_desk_event.specs.declared.answer.Answer.{Answer}
 use Rattle.turn_desk_event.specs.declared.answer.Answer.TheVariants as answer
 use Rattle.turn_desk_event.specs.declared.event.Event.{Event}

@@ -9,9 +9,9 @@ use rand_core::SeedableRng;
 use std::net::SocketAddr;
 use stun_proto::Instant;
 use stun_types::NoMemory;
-use turn_desk_core::desk::Desk;
 use turn_desk_event::answer::Answer;
-use turn_desk_grant::decision::Decision;
+use turn_desk_event::decision::Decision;
+use turn_desk_steps::desk::Desk;
 
 /// Bytes reach a desk, which draws its words from the generator of a seed.
 pub(crate) fn ask(
@@ -28,11 +28,12 @@ pub(crate) fn ask(
     are_bytes(bytes);
     numbers_have_four_bytes(decision);
     let mut words = ChaCha20Rng::from_seed(seed);
-    match desk.handle(bytes, from, now, decision, &mut words)? {
-        Some(reply) => {
+    match desk.handle(bytes, from, now, decision, &mut words) {
+        Ok(Some(reply)) => {
             are_bytes(reply.as_slice());
             Ok(Answer::Reply(reply))
         }
-        None => Ok(Answer::Nothing),
+        Ok(None) => Ok(Answer::Nothing),
+        Err(error) => Err(error),
     }
 }

@@ -42,17 +42,19 @@ fn call(
             Ok(Answer::Have(client.have_permission(transport, ip)))
         }
         ClientCall::Permissions(transport, relayed) => {
-            let list = permissions(alloc, client, transport, relayed)?;
-            Ok(Answer::Permissions(list))
+            match permissions(alloc, client, transport, relayed) {
+                Ok(list) => Ok(Answer::Permissions(list)),
+                Err(error) => Err(error),
+            }
         }
         ClientCall::ProtocolError => {
             client.protocol_error()?;
             Ok(Answer::Done)
         }
-        ClientCall::RelayedAddresses => {
-            let relayed = relayed(alloc, client)?;
-            Ok(Answer::Relayed(relayed))
-        }
+        ClientCall::RelayedAddresses => match relayed(alloc, client) {
+            Ok(relayed) => Ok(Answer::Relayed(relayed)),
+            Err(error) => Err(error),
+        },
     }
 }
 
@@ -157,9 +159,10 @@ fn draw(client: &mut TurnClient, now: Instant) -> Result<Answer, NoMemory>
     ensures { IfOk result (λ answer.
         IsDrawnAs answer (protocol_of client.old) now (protocol_of client.new)) }
 {
-    match client.poll_transmit(now)? {
-        Some(transmit) => Ok(Answer::Transmit(transmit)),
-        None => Ok(Answer::Nothing),
+    match client.poll_transmit(now) {
+        Ok(Some(transmit)) => Ok(Answer::Transmit(transmit)),
+        Ok(None) => Ok(Answer::Nothing),
+        Err(error) => Err(error),
     }
 }
 
@@ -180,7 +183,10 @@ fn feed(
     match client.recv(transmit, now) {
         TurnRecvRet::Handled => Ok(Answer::Handled),
         TurnRecvRet::Ignored(_) => Ok(Answer::Ignored),
-        TurnRecvRet::PeerData(data) => Ok(Answer::Peer(data.into_owned(alloc)?)),
+        TurnRecvRet::PeerData(data) => match data.into_owned(alloc) {
+            Ok(owned) => Ok(Answer::Peer(owned)),
+            Err(error) => Err(error),
+        },
         TurnRecvRet::PeerIcmp {
             transport,
             peer,
@@ -282,12 +288,10 @@ impl Driven {
         ensures { IfOk result (λ answer. IsAtClient now (λ p q. IsCalled what answer p now q)
             self.old answer self.new) }
     {
-        let Some(mut client) = self.client.take() else {
+        let Some(client) = &mut self.client else {
             return Ok(Answer::OutOfRange);
         };
-        let answer = call_in_range(self.alloc, &mut client, what, now);
-        self.client = Some(client);
-        answer
+        call_in_range(self.alloc, client, what, now)
     }
 
     /// The client is asked for what it sends, where there is one, and the moment is in range.
@@ -296,12 +300,10 @@ impl Driven {
         ensures { IfOk result (λ answer. IsAtClient now (λ p q. IsDrawnAs answer p now q)
             self.old answer self.new) }
     {
-        let Some(mut client) = self.client.take() else {
+        let Some(client) = &mut self.client else {
             return Ok(Answer::OutOfRange);
         };
-        let answer = draw_in_range(&mut client, now);
-        self.client = Some(client);
-        answer
+        draw_in_range(client, now)
     }
 
     /// Bytes reach the client, where there is one, and the moment is in range.
@@ -317,11 +319,9 @@ impl Driven {
             IsAtClient now (λ p q. IsFed answer p bytes.now from to now q)
             self.old answer self.new) }
     {
-        let Some(mut client) = self.client.take() else {
+        let Some(client) = &mut self.client else {
             return Ok(Answer::OutOfRange);
         };
-        let answer = feed_in_range(self.alloc, &mut client, bytes, from, to, now);
-        self.client = Some(client);
-        answer
+        feed_in_range(self.alloc, client, bytes, from, to, now)
     }
 }

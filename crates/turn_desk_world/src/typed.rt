@@ -4,7 +4,7 @@ ghost use Rattle.std.specs.Prelude.{◌<◌, ◌^◌};
 ghost use Rattle.stun_types.specs.Headers.{AreBytes};
 ghost use Rattle.turn_desk_world.specs.Desks.{HasFourBytes};
 
-use turn_desk_grant::decision::Decision;
+use turn_desk_event::decision::Decision;
 
 /// Bytes are below 256.
 pub(crate) fn are_bytes(bytes: &[u8])

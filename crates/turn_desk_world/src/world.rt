@@ -13,9 +13,9 @@ use std::alloc::Global;
 use std::marker::Model;
 use stun_types::NoMemory;
 use turn_client_proto::client::TurnClient;
-use turn_desk_core::desk::Desk;
 use turn_desk_event::answer::Answer;
 use turn_desk_event::event::Event;
+use turn_desk_steps::desk::Desk;
 
 /// A desk, and a client where there is one. Contracts see the record `World` of `specs/Model.antt`.
 #[derive(Debug, Drop)]

@@ -20,13 +20,20 @@ use std::process::ExitCode;
 
 fn main(rt: HostRuntime) -> io::Result<ExitCode> {
     let mut exchange = Exchange::new(rt.alloc());
+    let status = take_all(&rt, &mut exchange);
+    drop(exchange);
+    status
+}
+
+/// Takes all steps of an exchange, and answers the exit status.
+fn take_all(rt: &impl Print, exchange: &mut Exchange) -> io::Result<ExitCode> {
     let mut status = 0;
     for step in &STEPS {
-        if exchange.take(&rt, step)? {
+        if exchange.take(rt, step)? {
             continue;
         }
         status = 2;
-        if !exchange.take(&rt, step)? {
+        if !exchange.take(rt, step)? {
             return Ok(ExitCode::from(3));
         }
     }

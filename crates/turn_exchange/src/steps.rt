@@ -45,33 +45,38 @@ impl Exchange {
     }
 
     fn make_desk(&mut self) -> Result<(), NoMemory> {
-        let realm = String::from_str(self.alloc, "realm")?;
-        let mut auth = LongTermServerAuth::new(self.alloc, realm);
-        auth.add_supported_integrity(IntegrityAlgorithm::Sha256);
-        self.desk = Some(Desk::new(self.alloc, auth));
-        Ok(())
+        match String::from_str(self.alloc, "realm") {
+            Ok(realm) => {
+                let mut auth = LongTermServerAuth::new(self.alloc, realm);
+                auth.add_supported_integrity(IntegrityAlgorithm::Sha256);
+                self.desk = Some(Desk::new(self.alloc, auth));
+                Ok(())
+            }
+            Err(_) => Err(NoMemory),
+        }
     }
 
     fn add_user(&mut self) -> Result<(), NoMemory> {
-        let name = String::from_str(self.alloc, "user")?;
-        let password = String::from_str(self.alloc, "pass")?;
-        match &mut self.desk {
-            Some(desk) => desk
-                .auth_mut()
-                .add_user(LongTermCredentials::new(name, password)),
-            None => Err(NoMemory),
+        let Some(desk) = &mut self.desk else {
+            return Err(NoMemory);
+        };
+        match user(self.alloc) {
+            Ok(user) => desk.auth_mut().add_user(user),
+            Err(NoMemory) => Err(NoMemory),
         }
     }
 
     fn decide(&mut self) -> Result<(), NoMemory> {
-        let relayed = SocketAddr::new(IpAddr::V4(Ipv4Addr::new(203, 0, 113, 5)), 50_000);
-        let mut addresses = ListOf::new(self.alloc);
-        addresses.push(relayed)?;
-        self.decision = Some(Decision::Allocate {
-            addresses,
-            lifetime: 600,
-        });
-        Ok(())
+        match relayed(self.alloc) {
+            Ok(addresses) => {
+                self.decision = Some(Decision::Allocate {
+                    addresses,
+                    lifetime: 600,
+                });
+                Ok(())
+            }
+            Err(NoMemory) => Err(NoMemory),
+        }
     }
 
     /// Lets a request reach the desk.
@@ -83,16 +88,57 @@ impl Exchange {
         let now = Instant::from_nanos(50_000_000);
         let mut words = ChaCha20Rng::from_seed([request.seed; 32]);
         let answer = desk.handle(request.bytes, from, now, decision, &mut words);
-        let nonce = desk.auth_mut().nonce_for_client(from).unwrap_or("none");
-        print!(rt; "{} from {from}: nonce {nonce}, ", request.name)?;
-        print!(rt; "grants {}, ", desk.grants().len())?;
-        match &answer {
-            Ok(Some(reply)) => print_reply(rt, reply.as_slice())?,
-            Ok(None) => println!(rt; "no reply")?,
-            Err(NoMemory) => println!(rt; "no memory")?,
-        }
-        Ok(answer.is_ok())
+        let told = tell(rt, desk, request, &answer);
+        drop(answer);
+        told
     }
+}
+
+/// The user `user`.
+fn user(alloc: Global) -> Result<LongTermCredentials, NoMemory> {
+    match String::from_str(alloc, "user") {
+        Ok(name) => match String::from_str(alloc, "pass") {
+            Ok(password) => Ok(LongTermCredentials::new(name, password)),
+            Err(_) => {
+                drop(name);
+                Err(NoMemory)
+            }
+        },
+        Err(_) => Err(NoMemory),
+    }
+}
+
+/// The address that is relayed.
+fn relayed(alloc: Global) -> Result<ListOf<SocketAddr>, NoMemory> {
+    let relayed = SocketAddr::new(IpAddr::V4(Ipv4Addr::new(203, 0, 113, 5)), 50_000);
+    let mut addresses = ListOf::new(alloc);
+    match addresses.push(relayed) {
+        Ok(()) => Ok(addresses),
+        Err(NoMemory) => {
+            drop(addresses);
+            Err(NoMemory)
+        }
+    }
+}
+
+/// Prints what stands after a request: the nonce that a desk keeps for who sent it, how many grants there
+/// are, and the answer. Answers whether there was memory for that.
+fn tell(
+    rt: &impl Print,
+    desk: &mut Desk,
+    request: &Request,
+    answer: &Result<Option<Vec<u8>>, NoMemory>,
+) -> io::Result<bool> {
+    let from = request.sender.address();
+    let nonce = desk.auth_mut().nonce_for_client(from).unwrap_or("none");
+    print!(rt; "{} from {from}: nonce {nonce}, ", request.name)?;
+    print!(rt; "grants {}, ", desk.grants().len())?;
+    match answer {
+        Ok(Some(reply)) => print_reply(rt, reply.as_slice())?,
+        Ok(None) => println!(rt; "no reply")?,
+        Err(NoMemory) => println!(rt; "no memory")?,
+    }
+    Ok(answer.is_ok())
 }
 
 /// Prints a reply in lower case hex, and ends the line.

@@ -1,46 +1,50 @@
 //! The loop that drives an agent.
 
-use std::alloc::Global;
+use crate::samples::number;
 use stun_proto_agent::agent::{StunAgent, StunAgentPollRet};
 use stun_proto_agent::instant::Instant;
-use stun_types::NoMemory;
-use stun_types::message::TransactionId;
 
 /// The most turns of the loop.
 const MOST_TURNS: u32 = 64;
 
-/// What an agent sent and told, in order.
-#[derive(Debug, Drop)]
-pub(crate) struct Driven {
-    /// The moments of the transmissions that were made again, in nanoseconds.
-    pub(crate) sent: Vec<u64>,
-    /// The numbers that timed out or were cancelled.
-    pub(crate) ended: Vec<TransactionId>,
-}
-
-/// Drives an agent from a moment on: at each moment it sends what is due, then asks what ended, and goes
+/// Whether an agent that is driven from a moment on sends again at these moments, in units of so many
+/// nanoseconds, and ends no request: at each moment it sends what is due, then asks what ended, and goes
 /// to the moment that the agent tells to wait until, but never past `until`. It makes so many turns.
-pub(crate) fn drive(
-    alloc: Global,
+pub(crate) fn sends_at(
     agent: &mut StunAgent,
-    from: Instant,
-    until: Instant,
-) -> Result<Driven, NoMemory> {
-    let mut driven = Driven {
-        sent: Vec::new(alloc),
-        ended: Vec::new(alloc),
-    };
+    [from, until]: [Instant; 2],
+    again: &[u64],
+    unit: u64,
+) -> bool {
     let mut now = from;
+    let mut left = again;
     for _ in 0..MOST_TURNS {
         if agent.poll_transmit(now).is_some() {
-            driven.sent.push(now.as_nanos())?;
-            continue;
-        }
-        match agent.poll(now) {
-            StunAgentPollRet::WaitUntil(next) => now = next.min(until),
-            StunAgentPollRet::TransactionTimedOut(number)
-            | StunAgentPollRet::TransactionCancelled(number) => driven.ended.push(number)?,
+            let [first, rest @ ..] = left else {
+                return false;
+            };
+            if first.saturating_mul(unit) != now.as_nanos() {
+                return false;
+            }
+            left = rest;
+        } else if let StunAgentPollRet::WaitUntil(next) = agent.poll(now) {
+            now = next.min(until);
+        } else {
+            return false;
         }
     }
-    Ok(driven)
+    left.is_empty()
+}
+
+/// Whether the request of number 1 times out at the end, and no earlier: the agent waits until then, and
+/// behind it until `next`.
+pub(crate) fn ends_at(agent: &mut StunAgent, end: u64, next: StunAgentPollRet) -> bool {
+    let last = Instant::from_nanos(end);
+    let early = Instant::from_nanos(end.saturating_sub(1));
+    let told = [agent.poll(early), agent.poll(last), agent.poll(last)];
+    told == [
+        StunAgentPollRet::WaitUntil(last),
+        StunAgentPollRet::TransactionTimedOut(number(1)),
+        next,
+    ]
 }

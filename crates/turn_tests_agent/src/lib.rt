@@ -4,11 +4,7 @@
 #![tactic(auto)]
 
 #[cfg(test)]
-mod cancelling;
-#[cfg(test)]
 mod driving;
-#[cfg(test)]
-mod handling;
 #[cfg(test)]
 mod moments;
 #[cfg(test)]
@@ -17,6 +13,8 @@ mod samples;
 mod schedules;
 #[cfg(test)]
 mod sending;
+#[cfg(test)]
+mod steps;
 #[cfg(test)]
 mod telling;
 #[cfg(test)]

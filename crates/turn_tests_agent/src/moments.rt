@@ -9,25 +9,27 @@ use stun_proto_schedule::instant::Instant;
 fn is_sum(rt: &impl Abort, nanos: u64, added: Duration, sum: Option<u64>) {
     let start = Instant::from_nanos(nanos);
     let checked = start.checked_add(added).map(|later| later.as_nanos());
-    assert_eq!(rt; checked, sum, "{nanos} {added:?}");
     let reached = sum.unwrap_or(u64::MAX);
     let later = start.saturating_add(added);
-    assert_eq!(rt; later.as_nanos(), reached, "{nanos} {added:?}");
     // no moment is later than a later one
     let since = [later.duration_since(start), start.duration_since(later)];
-    let expected = [
-        Duration::from_nanos(reached.saturating_sub(nanos)),
-        Duration::ZERO,
-    ];
-    assert_eq!(rt; since, expected, "{nanos} {added:?}");
+    let passed = Duration::from_nanos(reached.saturating_sub(nanos));
+    assert_eq!(rt;
+        (checked, later.as_nanos(), since),
+        (sum, reached, [passed, Duration::ZERO]),
+        "{nanos} {added:?}"
+    );
 }
 
 #[test]
 fn sums_and_differences(rt: HostRuntime) {
-    assert_eq!(rt; Instant::ZERO.as_nanos(), 0);
-    let nanosecond = Duration::from_nanos(1);
-    is_sum(&rt, 0, Duration::from_secs(1), Some(1_000_000_000));
-    is_sum(&rt, u64::MAX - 1, nanosecond, Some(u64::MAX));
-    is_sum(&rt, u64::MAX, nanosecond, None);
-    is_sum(&rt, 0, Duration::MAX, None);
+    let first = Instant::ZERO.as_nanos();
+    for (nanos, added, sum) in [
+        (first, Duration::from_secs(1), Some(1_000_000_000)),
+        (u64::MAX - 1, Duration::from_nanos(1), Some(u64::MAX)),
+        (u64::MAX, Duration::from_nanos(1), None),
+        (0, Duration::MAX, None),
+    ] {
+        is_sum(&rt, nanos, added, sum);
+    }
 }

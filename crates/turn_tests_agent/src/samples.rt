@@ -1,9 +1,9 @@
 //! Messages, addresses and agents that several tables share.
 
 use std::alloc::Global;
-use std::net::SocketAddr;
-use std::test::Fail;
+use std::net::{IpAddr, Ipv4Addr, SocketAddr};
 use stun_proto_agent::agent::{StunAgent, StunAgentPollRet};
+use stun_proto_agent::error::StunError;
 use stun_proto_agent::instant::Instant;
 use stun_types::TransportType;
 use stun_types::message::TransactionId;
@@ -17,12 +17,20 @@ pub(crate) const SUCCESS: u16 = 0x0101;
 
 pub(crate) const ERROR: u16 = 0x0111;
 
-/// The agent's own address, that of the other side, and a third one.
-pub(crate) const HERE: &str = "192.168.0.1:1000";
+/// The agent's own address.
+pub(crate) fn here() -> SocketAddr {
+    SocketAddr::new(IpAddr::V4(Ipv4Addr::new(192, 168, 0, 1)), 1000)
+}
 
-pub(crate) const THERE: &str = "192.168.0.2:3478";
+/// That of the other side.
+pub(crate) fn there() -> SocketAddr {
+    SocketAddr::new(IpAddr::V4(Ipv4Addr::new(192, 168, 0, 2)), 3478)
+}
 
-pub(crate) const ELSEWHERE: &str = "192.168.0.3:3478";
+/// A third one.
+pub(crate) fn elsewhere() -> SocketAddr {
+    SocketAddr::new(IpAddr::V4(Ipv4Addr::new(192, 168, 0, 3)), 3478)
+}
 
 /// A millisecond, and an hour, in nanoseconds.
 pub(crate) const MILLISECOND: u64 = 1_000_000;
@@ -48,24 +56,15 @@ pub(crate) fn wait_until(nanos: u64) -> StunAgentPollRet {
 }
 
 /// An agent of a transport, with its own settings.
-pub(crate) fn agent(alloc: Global, transport: TransportType) -> Result<StunAgent, Fail> {
-    let here = HERE.parse::<SocketAddr>()?;
-    Ok(StunAgent::builder(alloc, transport, here).build())
+pub(crate) fn agent(alloc: Global, transport: TransportType) -> StunAgent {
+    StunAgent::builder(alloc, transport, here()).build()
 }
 
-/// Sends a BINDING request of a number at a moment, in nanoseconds.
-pub(crate) fn send(agent: &mut StunAgent, number: u8, nanos: u64) -> Result<(), Fail> {
+/// Sends a BINDING request of a number at a moment, in nanoseconds: that it goes out, or why not.
+pub(crate) fn send(agent: &mut StunAgent, number: u8, nanos: u64) -> Result<(), StunError> {
     let request = message(REQUEST, number);
-    let there = THERE.parse::<SocketAddr>()?;
-    agent.send_request(request.as_slice(), there, Instant::from_nanos(nanos))?;
-    Ok(())
-}
-
-/// An agent over UDP that sent BINDING requests of these numbers in the first moment.
-pub(crate) fn waiting(alloc: Global, numbers: &[u8]) -> Result<StunAgent, Fail> {
-    let mut agent = agent(alloc, TransportType::Udp)?;
-    for number in numbers {
-        send(&mut agent, *number, 0)?;
+    match agent.send_request(request.as_slice(), there(), Instant::from_nanos(nanos)) {
+        Ok(_) => Ok(()),
+        Err(error) => Err(error),
     }
-    Ok(agent)
 }

@@ -1,8 +1,9 @@
 //! What an agent sends, and what it refuses to.
 
 use crate::samples::{
-    ERROR, HERE, HOUR, INDICATION, REQUEST, SUCCESS, THERE, agent, message, wait_until,
+    ERROR, HOUR, INDICATION, REQUEST, SUCCESS, agent, here, message, there, wait_until,
 };
+use std::alloc::Global;
 use std::net::SocketAddr;
 use std::process::Abort;
 use std::test::Fail;
@@ -21,118 +22,103 @@ const TOO_FEW: StunError = StunError::ParseError(StunParseError::Truncated {
     actual: 3,
 });
 
-/// These bytes go from the agent's own address to the other side.
-fn is_sent(
-    rt: &impl Abort,
-    sent: &Transmit<&[u8]>,
-    transport: TransportType,
-    bytes: &[u8],
-) -> Result<(), Fail> {
-    assert_eq!(rt; sent.bytes, bytes);
-    assert_eq!(rt; sent.transport, transport);
-    let ends = [HERE.parse::<SocketAddr>()?, THERE.parse::<SocketAddr>()?];
-    assert_eq!(rt; [sent.from, sent.to], ends);
-    Ok(())
+/// That bytes are sent as they are to be, or why they are not.
+type Sent = Result<bool, StunError>;
+
+const SENT: Sent = Ok(true);
+
+const NO_REQUEST: Sent = Err(StunError::ProtocolViolation);
+
+const OUTSTANDING: Sent = Err(StunError::AlreadyInProgress);
+
+/// Whether these bytes go from the agent's own address to the other side.
+fn is_sent(sent: &Transmit<&[u8]>, transport: TransportType, bytes: &[u8]) -> bool {
+    let ends = [sent.from, sent.to];
+    sent.bytes == bytes && sent.transport == transport && ends == [here(), there()]
 }
 
-/// An agent refuses to send a request for this cause, or sends it.
-fn is_requested(
-    rt: &impl Abort,
-    agent: &mut StunAgent,
-    bytes: &[u8],
-    refused: Option<StunError>,
-) -> Result<(), Fail> {
+/// What an agent answers to a request that it is to send.
+fn requested(agent: &mut StunAgent, bytes: &[u8]) -> Sent {
     let transport = agent.transport();
-    match agent.send_request(bytes, THERE.parse::<SocketAddr>()?, Instant::ZERO) {
-        Ok(sent) => {
-            assert_eq!(rt; None, refused, "{bytes:?}");
-            is_sent(rt, &sent, transport, bytes)
-        }
-        Err(error) => {
-            assert_eq!(rt; Some(error), refused, "{bytes:?}");
-            Ok(())
-        }
+    match agent.send_request(bytes, there(), Instant::ZERO) {
+        Ok(sent) => Ok(is_sent(&sent, transport, bytes)),
+        Err(error) => Err(error),
     }
 }
 
-#[test]
-fn requests_are_sent_or_refused(rt: HostRuntime) -> Result<(), Fail> {
-    let no_request = Some(StunError::ProtocolViolation);
-    let outstanding = Some(StunError::AlreadyInProgress);
-    for transport in [TransportType::Udp, TransportType::Tcp] {
-        let mut agent = agent(rt.alloc(), transport)?;
-        is_requested(&rt, &mut agent, &[0, 0, 0], Some(TOO_FEW))?;
-        for (kind, of, refused) in [
-            (SUCCESS, 1, no_request),
-            (ERROR, 1, no_request),
-            (INDICATION, 1, no_request),
-            (REQUEST, 1, None),
-            (REQUEST, 1, outstanding),
-            // the number counts, not the bytes
-            (ALLOCATE, 1, outstanding),
-            (REQUEST, 2, None),
-        ] {
-            is_requested(&rt, &mut agent, &message(kind, of), refused)?;
-        }
-    }
-    Ok(())
-}
-
-/// An agent refuses to send what is not to be answered, for this cause, or sends it.
-fn is_told(
-    rt: &impl Abort,
-    agent: &StunAgent,
-    bytes: &[u8],
-    refused: Option<StunError>,
-) -> Result<(), Fail> {
-    match agent.send(bytes, THERE.parse::<SocketAddr>()?, Instant::ZERO) {
-        Ok(sent) => {
-            assert_eq!(rt; None, refused, "{bytes:?}");
-            is_sent(rt, &sent, agent.transport(), bytes)
-        }
-        Err(error) => {
-            assert_eq!(rt; Some(error), refused, "{bytes:?}");
-            Ok(())
-        }
+/// What it answers to a message that is not to be answered.
+fn told(agent: &StunAgent, bytes: &[u8]) -> Sent {
+    match agent.send(bytes, there(), Instant::ZERO) {
+        Ok(sent) => Ok(is_sent(&sent, agent.transport(), bytes)),
+        Err(error) => Err(error),
     }
 }
 
-#[test]
-fn other_messages_are_sent_or_refused(rt: HostRuntime) -> Result<(), Fail> {
-    let mut agent = agent(rt.alloc(), TransportType::Tcp)?;
-    is_told(&rt, &agent, &[0, 0, 0], Some(TOO_FEW))?;
-    for (kind, refused) in [
-        (REQUEST, Some(StunError::ProtocolViolation)),
-        (INDICATION, None),
-        (SUCCESS, None),
-        (ERROR, None),
+/// A new agent sends other messages than requests, and data, and waits for nothing of it.
+fn others_are_sent_or_refused(rt: &impl Abort, agent: &mut StunAgent) {
+    for (kind, expected) in [
+        (REQUEST, NO_REQUEST),
+        (INDICATION, SENT),
+        (SUCCESS, SENT),
+        (ERROR, SENT),
     ] {
-        is_told(&rt, &agent, &message(kind, 1), refused)?;
+        assert_eq!(rt; told(agent, &message(kind, 1)), expected, "{kind}");
     }
     // what is no message goes out as data
-    let data = agent.send_data([0, 0, 0].as_slice(), THERE.parse::<SocketAddr>()?);
-    is_sent(&rt, &data, TransportType::Tcp, &[0, 0, 0])?;
-    // nothing of it is waited for
-    assert_eq!(rt; agent.poll(Instant::ZERO), wait_until(HOUR));
-    Ok(())
+    let bytes = [0, 0, 0].as_slice();
+    let data = agent.send_data(bytes, there());
+    let is_data = is_sent(&data, agent.transport(), bytes);
+    let waits = agent.poll(Instant::ZERO) == wait_until(HOUR);
+    assert_eq!(rt;
+        (told(agent, bytes), [is_data, waits]),
+        (Err(TOO_FEW), [true; 2])
+    );
+}
+
+/// A new agent sends requests.
+fn requests_are_sent_or_refused(rt: &impl Abort, agent: &mut StunAgent) {
+    assert_eq!(rt; requested(agent, &[0, 0, 0]), Err(TOO_FEW));
+    for (kind, of, expected) in [
+        (SUCCESS, 1, NO_REQUEST),
+        (ERROR, 1, NO_REQUEST),
+        (INDICATION, 1, NO_REQUEST),
+        (REQUEST, 1, SENT),
+        (REQUEST, 1, OUTSTANDING),
+        // the number counts, not the bytes
+        (ALLOCATE, 1, OUTSTANDING),
+        (REQUEST, 2, SENT),
+    ] {
+        assert_eq!(rt;
+            requested(agent, &message(kind, of)),
+            expected,
+            "{kind} {of}"
+        );
+    }
+}
+
+/// An agent with its own settings, and with the other side's address where there is one.
+fn agent_to(alloc: Global, transport: TransportType, to: Option<SocketAddr>) -> StunAgent {
+    let builder = StunAgent::builder(alloc, transport, here());
+    match to {
+        Some(to) => builder.remote_addr(to).build(),
+        None => builder.build(),
+    }
 }
 
 #[test]
-fn settings_are_told(rt: HostRuntime) -> Result<(), Fail> {
-    let (here, there) = (HERE.parse::<SocketAddr>()?, THERE.parse::<SocketAddr>()?);
+fn messages_are_sent_or_refused(rt: HostRuntime) {
     for transport in [TransportType::Udp, TransportType::Tcp] {
-        let alone = StunAgent::builder(rt.alloc(), transport, here).build();
-        let agent = StunAgent::builder(rt.alloc(), transport, here)
-            .remote_addr(there)
-            .build();
-        assert_eq!(rt; [alone.transport(), agent.transport()], [transport; 2]);
-        assert_eq!(rt; [alone.local_addr(), agent.local_addr()], [here; 2]);
-        assert_eq!(rt;
-            [alone.remote_addr(), agent.remote_addr()],
-            [None, Some(there)]
-        );
+        let mut agent = agent(rt.alloc(), transport);
+        others_are_sent_or_refused(&rt, &mut agent);
+        requests_are_sent_or_refused(&rt, &mut agent);
+        drop(agent);
+        for to in [None, Some(there())] {
+            let agent = agent_to(rt.alloc(), transport, to);
+            let told = (agent.transport(), agent.local_addr(), agent.remote_addr());
+            drop(agent);
+            assert_eq!(rt; told, (transport, here(), to));
+        }
     }
-    Ok(())
 }
 
 #[test]

@@ -1,11 +1,12 @@
 //! What is told of a request that is outstanding.
 
 use crate::samples::{
-    ELSEWHERE, HERE, HOUR, SUCCESS, THERE, agent, message, number, wait_until, waiting,
+    HOUR, SUCCESS, agent, elsewhere, here, message, number, send, there, wait_until,
 };
 use std::net::SocketAddr;
 use std::process::Abort;
 use std::test::Fail;
+use stun_proto_agent::agent::StunAgent;
 use stun_proto_agent::instant::Instant;
 use stun_types::TransportType;
 use stun_types::message::{IntegrityAlgorithm, Message, TransactionId};
@@ -27,76 +28,78 @@ const SIGNED_BY_SHA256: &str =
 const SIGNED_BY_BOTH: &str =
     "000100502112a4420000000000000000000073920006000475736572001400057265616c6d0000000008001431682f230d2c995af16fc42b93a4d12c1cdddb45001c00201ef6be0a8b52b7c8596e40884e62786cb158b4cb892b1c90a128d65d125f27f5";
 
+/// Where a request goes, and the algorithm of the integrity that it shows.
+type Told = Option<(SocketAddr, Option<IntegrityAlgorithm>)>;
+
+/// What is told of a request that is sent to an address: where it is looked at, and where it may be changed.
+fn told_of(agent: &mut StunAgent, bytes: &[u8], to: SocketAddr) -> [Told; 2] {
+    let number = TransactionId::from(NUMBER);
+    if agent.send_request(bytes, to, Instant::ZERO).is_err() {
+        return [None; 2];
+    }
+    let shown = match agent.request_transaction(number) {
+        Some(request) => Some((request.peer_address(), request.integrity())),
+        None => None,
+    };
+    match agent.mut_request_transaction(number) {
+        Some(request) => [shown, Some((request.peer_address(), request.integrity()))],
+        None => [shown, None],
+    }
+}
+
 /// A request that is outstanding is told to go to an address, and to show integrity by an algorithm, or
 /// none.
 fn is_known(
     rt: &(impl Abort + AllocGlobal),
-    text: &str,
-    to: &str,
+    bytes: &[u8],
+    to: SocketAddr,
     integrity: Option<IntegrityAlgorithm>,
-) -> Result<(), Fail> {
-    let mut agent = agent(rt.alloc(), TransportType::Udp)?;
-    let to = to.parse::<SocketAddr>()?;
-    let bytes = hex::decode(rt.alloc(), text)?;
-    agent.send_request(bytes.as_slice(), to, Instant::ZERO)?;
-    let number = TransactionId::from(NUMBER);
-    let told = agent
-        .request_transaction(number)
-        .map(|request| (request.peer_address(), request.integrity()));
-    assert_eq!(rt; told, Some((to, integrity)), "{text}");
-    let told = agent
-        .mut_request_transaction(number)
-        .map(|request| (request.peer_address(), request.integrity()));
-    assert_eq!(rt; told, Some((to, integrity)), "{text}");
-    Ok(())
+) {
+    let mut agent = agent(rt.alloc(), TransportType::Udp);
+    let told = told_of(&mut agent, bytes, to);
+    drop(agent);
+    assert_eq!(rt; told, [Some((to, integrity)); 2], "{bytes:?}");
 }
 
 #[test]
 fn addresses_and_algorithms(rt: HostRuntime) -> Result<(), Fail> {
     let (sha1, sha256) = (IntegrityAlgorithm::Sha1, IntegrityAlgorithm::Sha256);
     for (text, to, integrity) in [
-        (UNSIGNED, THERE, None),
-        (SIGNED_BY_SHA1, THERE, Some(sha1)),
-        (SIGNED_BY_SHA256, ELSEWHERE, Some(sha256)),
-        (SIGNED_BY_BOTH, THERE, Some(sha256)),
+        (UNSIGNED, there(), None),
+        (SIGNED_BY_SHA1, there(), Some(sha1)),
+        (SIGNED_BY_SHA256, elsewhere(), Some(sha256)),
+        (SIGNED_BY_BOTH, there(), Some(sha256)),
     ] {
-        is_known(&rt, text, to, integrity)?;
+        let bytes = hex::decode(rt.alloc(), text)?;
+        is_known(&rt, bytes.as_slice(), to, integrity);
     }
     Ok(())
 }
 
-#[test]
-fn other_numbers_are_unknown(rt: HostRuntime) -> Result<(), Fail> {
-    let mut agent = waiting(rt.alloc(), &[1])?;
-    assert!(rt; agent.request_transaction(number(2)).is_none());
-    assert!(rt; agent.mut_request_transaction(number(2)).is_none());
-    assert!(rt; agent.mut_request_transaction(number(1)).is_some());
-    Ok(())
+/// What is told of the agent of a request that is outstanding, which ends while it is held: whether it is
+/// this agent, where the request is looked at and where it may be changed; whether the response is taken up;
+/// whether what was told stays; and whether nothing is waited for then.
+fn told_while_held(agent: &mut StunAgent) -> Option<[bool; 5]> {
+    let bytes = message(SUCCESS, 1);
+    let response = Message::from_bytes(bytes.as_slice()).ok()?;
+    let shown = agent.request_transaction(number(1))?;
+    let is_of_shown = shown.agent().local_addr() == here();
+    let mut request = agent.mut_request_transaction(number(1))?;
+    let is_of_changed = request.agent().local_addr() == here();
+    let answer = request.mut_agent().handle_stun_message(&response, there());
+    // nothing is changed of a request that ended
+    request.cancel();
+    request.cancel_retransmissions();
+    let stays = request.peer_address() == there() && request.integrity().is_none();
+    let waits = request.mut_agent().poll(Instant::ZERO) == wait_until(HOUR);
+    Some([is_of_shown, is_of_changed, answer == Ok(true), stays, waits])
 }
 
 #[test]
-fn agents_of_requests(rt: HostRuntime) -> Result<(), Fail> {
-    let mut agent = waiting(rt.alloc(), &[1])?;
-    let here = HERE.parse::<SocketAddr>()?;
-    let told = agent
-        .request_transaction(number(1))
-        .map(|request| request.agent().local_addr());
-    assert_eq!(rt; told, Some(here));
-    let Some(mut request) = agent.mut_request_transaction(number(1)) else {
-        return Err(Fail::from("no such request"));
-    };
-    assert_eq!(rt; request.agent().local_addr(), here);
-    // the response comes while the request is held: what was told stays, and nothing is changed
-    let bytes = message(SUCCESS, 1);
-    let response = Message::from_bytes(bytes.as_slice())?;
-    let there = THERE.parse::<SocketAddr>()?;
-    assert!(rt; request.mut_agent().handle_stun_message(&response, there)?);
-    request.cancel();
-    request.cancel_retransmissions();
-    assert_eq!(rt;
-        (request.peer_address(), request.integrity()),
-        (there, None)
-    );
-    assert_eq!(rt; request.mut_agent().poll(Instant::ZERO), wait_until(HOUR));
-    Ok(())
+fn agents_of_requests(rt: HostRuntime) {
+    let mut agent = agent(rt.alloc(), TransportType::Udp);
+    let sent = send(&mut agent, 1, 0);
+    let told = told_while_held(&mut agent);
+    drop(agent);
+    assert_eq!(rt; (sent, told), (Ok(()), Some([true; 5])));
 }

@@ -60,16 +60,17 @@ const SHORT_REPLY: &str =
 const STRONGER_REPLY: &str =
     "010300242112a442000000000000000000007392001c0020550a7b75133ca916599014530ef15cd078dbb719f4a9dc72f990ad4bb61066c7";
 
-/// A client with these settings.
-fn client_with(
-    alloc: Global,
-    algorithms: &str,
-    anonymity: &str,
-) -> Result<LongTermClientAuth, Fail> {
-    let mut client = LongTermClientAuth::new(alloc);
+/// A client of `user`, whose password is `pass`.
+fn new_client(alloc: Global) -> Result<LongTermClientAuth, Fail> {
     let name = String::from_str(alloc, "user")?;
     let password = String::from_str(alloc, "pass")?;
+    let mut client = LongTermClientAuth::new(alloc);
     client.set_credentials(LongTermCredentials::new(name, password));
+    Ok(client)
+}
+
+/// Gives a client these settings.
+fn set_up(client: &mut LongTermClientAuth, algorithms: &str, anonymity: &str) {
     match algorithms {
         "both" => client.add_supported_integrity(IntegrityAlgorithm::Sha256),
         "sha256" => client.set_supported_integrity(IntegrityAlgorithm::Sha256),
@@ -80,7 +81,6 @@ fn client_with(
         "disabled" => Feature::Disabled,
         _ => Feature::Auto,
     });
-    Ok(client)
 }
 
 /// What a client answers to a message, given in hex.
@@ -89,13 +89,16 @@ fn answer(
     client: &mut LongTermClientAuth,
     text: &str,
 ) -> Result<&'static str, Fail> {
-    answer_to(client, hex::decode(alloc, text)?.as_slice())
+    let bytes = hex::decode(alloc, text)?;
+    Ok(answer_to(client, bytes.as_slice()))
 }
 
 /// What a client answers to a message.
-fn answer_to(client: &mut LongTermClientAuth, bytes: &[u8]) -> Result<&'static str, Fail> {
-    let message = Message::from_bytes(bytes)?;
-    Ok(match client.validate_incoming_message(&message) {
+fn answer_to(client: &mut LongTermClientAuth, bytes: &[u8]) -> &'static str {
+    let Ok(message) = Message::from_bytes(bytes) else {
+        return "no message";
+    };
+    match client.validate_incoming_message(&message) {
         Ok(Answer::ResendRequest(IntegrityAlgorithm::Sha1)) => "resend-sha1",
         Ok(Answer::ResendRequest(IntegrityAlgorithm::Sha256)) => "resend-sha256",
         Ok(Answer::Validated(IntegrityAlgorithm::Sha1)) => "validated-sha1",
@@ -104,19 +107,35 @@ fn answer_to(client: &mut LongTermClientAuth, bytes: &[u8]) -> Result<&'static s
         Err(Error::IntegrityFailed(_)) => "integrity-failed",
         Err(Error::UnsupportedFeature) => "unsupported",
         Err(Error::NoMemory) => "no-memory",
-    })
+    }
 }
 
 /// The ALLOCATE request that a client signs.
 fn request(alloc: Global, client: &LongTermClientAuth) -> Result<Vec<u8>, StunWriteError> {
     let writer = begun(alloc, MessageClass::Request)?;
-    let signed = client.sign_outgoing_message(writer)?;
-    Ok(signed.finish())
+    Ok(client.sign_outgoing_message(writer)?.finish())
 }
 
-/// A client answers and signs as a row says.
-fn row_holds(rt: &(impl Abort + AllocGlobal), row: &str) -> Result<(), Fail> {
-    let words = words(rt.alloc(), row)?;
+/// A client signs this request, in hex, of which its own attributes are all but the header.
+fn is_signed(
+    rt: &(impl Abort + AllocGlobal),
+    client: &LongTermClientAuth,
+    expected: &str,
+) -> Result<(), Fail> {
+    let bytes = request(rt.alloc(), client)?;
+    let text = hex::encode(rt.alloc(), bytes.as_slice())?;
+    let grown = bytes.len().checked_sub(20);
+    let told = (text.as_str(), Some(client.message_signature_bytes()));
+    assert_eq!(rt; told, (expected, grown));
+    Ok(())
+}
+
+/// A client answers and signs as the words of a row say.
+fn holds(
+    rt: &(impl Abort + AllocGlobal),
+    client: &mut LongTermClientAuth,
+    words: &[&str],
+) -> Result<(), Fail> {
     let [
         algorithms,
         anonymity,
@@ -125,28 +144,36 @@ fn row_holds(rt: &(impl Abort + AllocGlobal), row: &str) -> Result<(), Fail> {
         signed,
         reply,
         verdict,
-    ] = words.as_slice()
+    ] = words
     else {
-        return if words.is_empty() {
-            Ok(())
-        } else {
-            Err(Fail::from(row))
-        };
+        return Err(Fail::from("no row"));
     };
-    let mut client = client_with(rt.alloc(), algorithms, anonymity)?;
-    let told = answer(rt.alloc(), &mut client, challenge)?;
-    assert_eq!(rt; told, *expected, "{row}");
+    set_up(client, algorithms, anonymity);
+    let told = answer(rt.alloc(), client, challenge)?;
+    assert_eq!(rt; told, *expected, "{challenge}");
     if *signed == "-" {
         return Ok(());
     }
-    let bytes = request(rt.alloc(), &client)?;
-    let expected = hex::decode(rt.alloc(), signed)?;
-    assert_eq!(rt; bytes.as_slice(), expected.as_slice(), "{row}");
-    let grown = bytes.len().checked_sub(20);
-    assert_eq!(rt; Some(client.message_signature_bytes()), grown, "{row}");
-    let told = answer(rt.alloc(), &mut client, reply)?;
-    assert_eq!(rt; told, *verdict, "{row}");
+    is_signed(rt, client, signed)?;
+    let told = answer(rt.alloc(), client, reply)?;
+    assert_eq!(rt; told, *verdict, "{challenge} {reply}");
     Ok(())
+}
+
+/// A client answers and signs as a row says.
+fn row_holds(rt: &(impl Abort + AllocGlobal), row: &str) -> Result<(), Fail> {
+    let words = words(rt.alloc(), row)?;
+    if words.is_empty() {
+        return Ok(());
+    }
+    match new_client(rt.alloc()) {
+        Ok(mut client) => {
+            let done = holds(rt, &mut client, words.as_slice());
+            drop(client);
+            done
+        }
+        Err(error) => Err(error),
+    }
 }
 
 #[test]
@@ -170,24 +197,40 @@ fn short_answer(alloc: Global, client: &ShortTermAuth, text: &str) -> Result<&'s
     })
 }
 
+/// The ALLOCATE request that a short-term client signs.
+fn short_request(alloc: Global, client: &ShortTermAuth) -> Result<Vec<u8>, StunWriteError> {
+    let writer = begun(alloc, MessageClass::Request)?;
+    Ok(client.sign_outgoing_message(writer)?.finish())
+}
+
+/// A short-term client signs and validates nothing without credentials, and by HMAC-SHA1 with them.
+fn short_holds(rt: &(impl Abort + AllocGlobal), client: &mut ShortTermAuth) -> Result<(), Fail> {
+    let bare = short_request(rt.alloc(), client)?;
+    let told = (bare.len(), short_answer(rt.alloc(), client, SHORT_REPLY)?);
+    assert_eq!(rt; told, (20, "none"));
+    let password = String::from_str(rt.alloc(), "pass")?;
+    client.set_credentials(
+        ShortTermCredentials::new(password),
+        IntegrityAlgorithm::Sha1,
+    );
+    let signed = short_request(rt.alloc(), client)?;
+    let text = hex::encode(rt.alloc(), signed.as_slice())?;
+    let told = (text.as_str(), client.message_signature_bytes());
+    assert_eq!(rt; told, (SHORT_REQUEST, 24));
+    for (text, expected) in [
+        (SHORT_REQUEST, "sha1"),
+        (SHORT_REPLY, "sha1"),
+        (STRONGER_REPLY, "refused"),
+    ] {
+        assert_eq!(rt; short_answer(rt.alloc(), client, text)?, expected);
+    }
+    Ok(())
+}
+
 #[test]
 fn short_term_credentials_sign_and_validate(rt: HostRuntime) -> Result<(), Fail> {
-    let sha1 = IntegrityAlgorithm::Sha1;
     let mut client = ShortTermAuth::new();
-    let bare = client.sign_outgoing_message(begun(rt.alloc(), MessageClass::Request)?)?;
-    assert_eq!(rt; bare.finish().len(), 20);
-    assert_eq!(rt; short_answer(rt.alloc(), &client, SHORT_REPLY)?, "none");
-    let password = String::from_str(rt.alloc(), "pass")?;
-    client.set_credentials(ShortTermCredentials::new(password), sha1);
-    let signed = client.sign_outgoing_message(begun(rt.alloc(), MessageClass::Request)?)?;
-    let expected = hex::decode(rt.alloc(), SHORT_REQUEST)?;
-    assert_eq!(rt; signed.finish().as_slice(), expected.as_slice());
-    assert_eq!(rt; client.message_signature_bytes(), 24);
-    assert_eq!(rt; short_answer(rt.alloc(), &client, SHORT_REQUEST)?, "sha1");
-    assert_eq!(rt; short_answer(rt.alloc(), &client, SHORT_REPLY)?, "sha1");
-    assert_eq!(rt;
-        short_answer(rt.alloc(), &client, STRONGER_REPLY)?,
-        "refused"
-    );
-    Ok(())
+    let done = short_holds(&rt, &mut client);
+    drop(client);
+    done
 }

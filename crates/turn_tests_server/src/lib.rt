@@ -3,12 +3,10 @@
 #![tactic(auto)]
 
 #[cfg(test)]
-mod algorithms;
-#[cfg(test)]
 mod client;
+#[cfg(test)]
+mod requests;
 #[cfg(test)]
 mod rows;
 #[cfg(test)]
 mod server;
-#[cfg(test)]
-mod userhash;

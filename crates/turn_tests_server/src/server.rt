@@ -10,7 +10,7 @@ use crate::rows::words;
 use rand_chacha::ChaCha20Rng;
 use rand_core::SeedableRng;
 use std::alloc::Global;
-use std::net::SocketAddr;
+use std::net::{IpAddr, Ipv4Addr, SocketAddr};
 use std::process::Abort;
 use std::test::Fail;
 use stun_proto::Instant;
@@ -37,28 +37,6 @@ const UNSIGNED: &str =
 /// A success response that is signed so.
 const RESPONSE: &str =
     "010300502112a4420000000000000000000073920006000475736572001400057265616c6d0000000015001d6f624d61744a6f7332514141416779694462494358775044615131686100000000080014a2c5250e3d16e720059362ce4fb201c9d0b46ddc";
-
-/// What a new server answers to ALLOCATE requests with USERNAME `user`, REALM `realm` and the first NONCE of
-/// the zero seed, but where said. Another program made and signed them.
-const MESSAGES: &str = "\
-# signed by HMAC-SHA1 for `user` in `realm`, under the password `pass`
-validated 000300582112a44200000000000000000000739200190004110000000006000475736572001400057265616c6d0000000015001d6f624d61744a6f7332514141416779694462494358775044615131686100000000080014d962baf8d45b23676d66d65b93d348cad097f263
-# an indication in place of a request
-validated 001300502112a4420000000000000000000073920006000475736572001400057265616c6d0000000015001d6f624d61744a6f73325141414167796944624943587750446151316861000000000800143803059ef1209a332cb979e186a51b24ce8c56a8
-# not signed
-unauthorized 000300402112a44200000000000000000000739200190004110000000006000475736572001400057265616c6d0000000015001d6f624d61744a6f73325141414167796944624943587750446151316861000000
-# no USERNAME
-bad-request 000300502112a4420000000000000000000073920019000411000000001400057265616c6d0000000015001d6f624d61744a6f7332514141416779694462494358775044615131686100000000080014cf8bcf1f90b5829d8c4b6dbaac0341c1d36c40a0
-# no USERNAME, and a USERHASH of 32 bytes
-unauthorized 000300742112a4420000000000000000000073920019000411000000001e00206868686868686868686868686868686868686868686868686868686868686868001400057265616c6d0000000015001d6f624d61744a6f73325141414167796944624943587750446151316861000000000800145a496106e9730e351d5eb0bd801e7f74d33894cf
-# a NONCE with another last character
-stale-nonce 000300582112a44200000000000000000000739200190004110000000006000475736572001400057265616c6d0000000015001d6f624d61744a6f733251414141677969446249435877504461513168620000000008001436a36d993b4fff84d5d41bb810ab253916d33846
-# USERNAME `User`
-unauthorized 000300582112a44200000000000000000000739200190004110000000006000455736572001400057265616c6d0000000015001d6f624d61744a6f73325141414167796944624943587750446151316861000000000800140c8d946e23e3e85138c555b3333023a445866f76
-# signed under the password `Pass`
-integrity-failed 000300582112a44200000000000000000000739200190004110000000006000475736572001400057265616c6d0000000015001d6f624d61744a6f73325141414167796944624943587750446151316861000000000800145a57b6e394646f42625b326f39ec319ce00f236d
-# a MESSAGE-INTEGRITY of four bytes
-integrity-failed 000300482112a44200000000000000000000739200190004110000000006000475736572001400057265616c6d0000000015001d6f624d61744a6f733251414141677969446249435877504461513168610000000008000401020304";
 
 /// The class of a message without attributes, what was done before, where it goes, how many bytes the server
 /// tells of a request or else of a response, and what it makes of the message.
@@ -88,54 +66,76 @@ success validated 192.168.0.1:1001 0 refused
 error validated 192.168.0.1:1001 0 refused";
 
 /// The address of the client.
-pub(crate) const CLIENT: &str = "192.168.0.1:1000";
+fn client() -> SocketAddr {
+    SocketAddr::new(IpAddr::V4(Ipv4Addr::new(192, 168, 0, 1)), 1000)
+}
 
-/// Makes `user` known to a server by a password.
-fn set_password(alloc: Global, server: &mut LongTermServerAuth, text: &str) -> Result<(), Fail> {
-    let name = String::from_str(alloc, "user")?;
-    let password = String::from_str(alloc, text)?;
+/// Makes a user known to a server by a password.
+pub(crate) fn add_user(
+    alloc: Global,
+    server: &mut LongTermServerAuth,
+    name: &str,
+    password: &str,
+) -> Result<(), Fail> {
+    let name = String::from_str(alloc, name)?;
+    let password = String::from_str(alloc, password)?;
     Ok(server.add_user(LongTermCredentials::new(name, password))?)
 }
 
-/// A server of the realm `realm` that knows `user` by the password `pass`, and what was done to it before
-/// it is asked.
-pub(crate) fn server_after(alloc: Global, before: &str) -> Result<LongTermServerAuth, Fail> {
-    let mut server = LongTermServerAuth::new(alloc, String::from_str(alloc, "realm")?);
-    set_password(alloc, &mut server, "pass")?;
+/// A server of the realm `realm` that knows `user` by the password `pass`.
+pub(crate) fn new_server(alloc: Global) -> Result<LongTermServerAuth, Fail> {
+    let realm = String::from_str(alloc, "realm")?;
+    let mut server = LongTermServerAuth::new(alloc, realm);
+    match add_user(alloc, &mut server, "user", "pass") {
+        Ok(()) => Ok(server),
+        Err(error) => {
+            drop(server);
+            Err(error)
+        }
+    }
+}
+
+/// What is done to such a server before it is asked.
+fn prepare(alloc: Global, server: &mut LongTermServerAuth, before: &str) -> Result<(), Fail> {
     if before == "list" {
         server.add_supported_integrity(IntegrityAlgorithm::Sha256);
     }
     if before != "new" && before != "stranger" {
-        answer(alloc, &mut server, SIGNED)?;
+        send(alloc, server, SIGNED)?;
     }
     match before {
-        "new" | "validated" => {}
-        "word" => set_password(alloc, &mut server, "word")?,
-        "other" => server.remove_user("other"),
-        "removed" => server.remove_user("user"),
-        _ => {
-            answer(alloc, &mut server, UNSIGNED)?;
+        "new" | "validated" => Ok(()),
+        "word" => add_user(alloc, server, "user", "word"),
+        "other" => {
+            server.remove_user("other");
+            Ok(())
         }
+        "removed" => {
+            server.remove_user("user");
+            Ok(())
+        }
+        "ceased" => {
+            server.set_supported_integrity(IntegrityAlgorithm::Sha256);
+            Ok(())
+        }
+        _ => send(alloc, server, UNSIGNED),
     }
-    Ok(server)
 }
 
-/// What a server answers to a message from the client, given in hex, as `answer_from_server`.
-pub(crate) fn answer(
-    alloc: Global,
-    server: &mut LongTermServerAuth,
-    text: &str,
-) -> Result<&'static str, Fail> {
-    answer_from_server(server, hex::decode(alloc, text)?.as_slice())
+/// Hands a server a message from the client, given in hex.
+fn send(alloc: Global, server: &mut LongTermServerAuth, text: &str) -> Result<(), Fail> {
+    let bytes = hex::decode(alloc, text)?;
+    answer(server, bytes.as_slice());
+    Ok(())
 }
 
 /// What a server answers to a message from the client, in the first moment and with the zero seed.
-fn answer_from_server(server: &mut LongTermServerAuth, bytes: &[u8]) -> Result<&'static str, Fail> {
-    let message = Message::from_bytes(bytes)?;
-    let from = CLIENT.parse::<SocketAddr>()?;
+fn answer(server: &mut LongTermServerAuth, bytes: &[u8]) -> &'static str {
+    let Ok(message) = Message::from_bytes(bytes) else {
+        return "no message";
+    };
     let mut words = ChaCha20Rng::from_seed([0; 32]);
-    let answer = server.validate_incoming_message(&message, from, Instant::ZERO, &mut words);
-    Ok(match answer {
+    match server.validate_incoming_message(&message, client(), Instant::ZERO, &mut words) {
         Ok(LongTermServerValidation::Validated(IntegrityAlgorithm::Sha1)) => "validated",
         Ok(LongTermServerValidation::Validated(IntegrityAlgorithm::Sha256)) => "validated-sha256",
         Err(Error::Unauthorized) => "unauthorized",
@@ -144,67 +144,62 @@ fn answer_from_server(server: &mut LongTermServerAuth, bytes: &[u8]) -> Result<&
         Err(Error::IntegrityFailed(IntegrityAlgorithm::Sha1)) => "integrity-failed",
         Err(Error::IntegrityFailed(IntegrityAlgorithm::Sha256)) => "integrity-failed-sha256",
         _ => "none of these",
-    })
+    }
 }
 
-/// A server answers so to a message, and keeps this user and this nonce for the client then.
-fn is_answered(
+/// A server answers so to a message, given in hex, and keeps this user and this nonce for the client then:
+/// the user with the algorithm by which it is validated, HMAC-SHA1 where that was before.
+pub(crate) fn is_answered(
     rt: &(impl Abort + AllocGlobal),
     server: &mut LongTermServerAuth,
     text: &str,
     expected: &str,
     kept: [Option<&str>; 2],
 ) -> Result<(), Fail> {
-    assert_eq!(rt; answer(rt.alloc(), server, text)?, expected, "{text}");
-    let client = CLIENT.parse::<SocketAddr>()?;
-    let user = server.validated_user(client);
-    let algorithm = user.map(|user| user.algorithm());
-    let told = [
-        user.map(|user| user.name()),
-        server.nonce_for_client(client),
-    ];
-    assert_eq!(rt; told, kept, "{text}");
-    let [user, _] = kept;
-    assert_eq!(rt; algorithm, user.map(|_| IntegrityAlgorithm::Sha1), "{text}");
+    let bytes = hex::decode(rt.alloc(), text)?;
+    let told = answer(server, bytes.as_slice());
+    let nonce = server.nonce_for_client(client());
+    let (user, algorithm) = match server.validated_user(client()) {
+        Some(user) => (Some(user.name()), Some(user.algorithm())),
+        None => (None, None),
+    };
+    let [name, _] = kept;
+    let by = match name {
+        None => None,
+        Some(_) if expected == "validated-sha256" => Some(IntegrityAlgorithm::Sha256),
+        Some(_) => Some(IntegrityAlgorithm::Sha1),
+    };
+    assert_eq!(rt;
+        (told, [user, nonce], algorithm),
+        (expected, kept, by),
+        "{text}"
+    );
     Ok(())
 }
 
-/// A new server answers as a row says.
-fn row_holds(rt: &(impl Abort + AllocGlobal), row: &str) -> Result<(), Fail> {
-    match words(rt.alloc(), row)?.as_slice() {
-        [] => Ok(()),
-        [expected, text] => {
-            let user = if *expected == "validated" {
-                Some("user")
-            } else {
-                None
-            };
-            let mut server = server_after(rt.alloc(), "new")?;
-            is_answered(rt, &mut server, text, expected, [user, Some(NONCE)])
-        }
-        _ => Err(Fail::from(row)),
-    }
-}
-
-#[test]
-fn messages_are_validated_or_refused(rt: HostRuntime) -> Result<(), Fail> {
-    for row in MESSAGES.lines() {
-        row_holds(&rt, row)?;
-    }
-    let (user, nonce) = (Some("user"), Some(NONCE));
-    // a response changes nothing; what is refused else forgets the user
-    for (before, text, expected, kept) in [
-        ("new", RESPONSE, "bad-request", [None, None]),
-        ("validated", RESPONSE, "bad-request", [user, nonce]),
-        ("validated", UNSIGNED, "unauthorized", [None, nonce]),
-    ] {
-        let mut server = server_after(rt.alloc(), before)?;
-        is_answered(&rt, &mut server, text, expected, kept)?;
-    }
+/// What was done before, a message, what it is answered, and what is kept then. A response changes nothing;
+/// what is refused else forgets the user.
+const MESSAGES: [(&str, &str, &str, [Option<&str>; 2]); 4] = [
+    ("new", RESPONSE, "bad-request", [None, None]),
+    (
+        "validated",
+        RESPONSE,
+        "bad-request",
+        [Some("user"), Some(NONCE)],
+    ),
+    ("validated", UNSIGNED, "unauthorized", [None, Some(NONCE)]),
     // it ceases to support HMAC-SHA1
-    let mut server = server_after(rt.alloc(), "validated")?;
-    server.set_supported_integrity(IntegrityAlgorithm::Sha256);
-    is_answered(&rt, &mut server, SIGNED, "bad-request", [None, nonce])
+    ("ceased", SIGNED, "bad-request", [None, Some(NONCE)]),
+];
+
+/// A server tells which algorithms it supports, one behind another is set or added.
+fn algorithms_are_told(rt: &impl Abort, server: &mut LongTermServerAuth) {
+    let (sha1, sha256) = (IntegrityAlgorithm::Sha1, IntegrityAlgorithm::Sha256);
+    assert_eq!(rt; server.supported_integrity(), [sha1].as_slice());
+    server.set_supported_integrity(sha256);
+    server.add_supported_integrity(sha1);
+    server.add_supported_integrity(sha256);
+    assert_eq!(rt; server.supported_integrity(), [sha256, sha1].as_slice());
 }
 
 /// A message of the method ALLOCATE and a class that is begun.
@@ -217,6 +212,51 @@ pub(crate) fn begun(alloc: Global, class: MessageClass) -> Result<MessageWriteVe
     let mtype = MessageType::from_class_method(class, Method(3));
     let number = TransactionId::from(0x7392u128);
     Message::builder(mtype, number, MessageWriteVec::new(alloc))
+}
+
+/// A server to which this was done.
+fn prepared(alloc: Global, before: &str) -> Result<LongTermServerAuth, Fail> {
+    match new_server(alloc) {
+        Ok(mut server) => match prepare(alloc, &mut server, before) {
+            Ok(()) => Ok(server),
+            Err(error) => {
+                drop(server);
+                Err(error)
+            }
+        },
+        Err(error) => Err(error),
+    }
+}
+
+/// A server to which something was done answers a message so, and keeps this.
+fn message_holds(
+    rt: &(impl Abort + AllocGlobal),
+    [before, text, expected]: [&str; 3],
+    kept: [Option<&str>; 2],
+) -> Result<(), Fail> {
+    match prepared(rt.alloc(), before) {
+        Ok(mut server) => {
+            let done = is_answered(rt, &mut server, text, expected, kept);
+            drop(server);
+            done
+        }
+        Err(error) => Err(error),
+    }
+}
+
+#[test]
+fn messages_are_validated_or_refused(rt: HostRuntime) -> Result<(), Fail> {
+    for (before, text, expected, kept) in MESSAGES {
+        message_holds(&rt, [before, text, expected], kept)?;
+    }
+    match new_server(rt.alloc()) {
+        Ok(mut server) => {
+            algorithms_are_told(&rt, &mut server);
+            drop(server);
+            Ok(())
+        }
+        Err(error) => Err(error),
+    }
 }
 
 /// What a server makes of a message of a class that goes to an address, by either call.
@@ -236,34 +276,33 @@ fn signed(
 /// A server makes this of a message, in hex, or refuses it.
 fn is_signed(
     rt: &(impl Abort + AllocGlobal),
-    server: &LongTermServerAuth,
-    class: MessageClass,
-    to: SocketAddr,
+    made: Result<[Vec<u8>; 2], StunWriteError>,
     expected: &str,
 ) -> Result<(), Fail> {
-    match signed(rt.alloc(), server, class, to) {
+    match made {
         Ok([bytes, again]) => {
             let expected = hex::decode(rt.alloc(), expected)?;
-            assert_eq!(rt; bytes.as_slice(), expected.as_slice());
-            assert_eq!(rt; again.as_slice(), expected.as_slice());
+            let made = [bytes.as_slice(), again.as_slice()];
+            assert_eq!(rt; made, [expected.as_slice(); 2]);
         }
         Err(error) => {
-            assert_eq!(rt; error, StunWriteError::IntegrityFailed);
-            assert_eq!(rt; expected, "refused");
+            assert_eq!(rt;
+                (error, expected),
+                (StunWriteError::IntegrityFailed, "refused")
+            );
         }
     }
     Ok(())
 }
 
-/// A server makes of a message what a row says.
-fn reply_holds(rt: &(impl Abort + AllocGlobal), row: &str) -> Result<(), Fail> {
-    let words = words(rt.alloc(), row)?;
-    let [class, before, to, size, expected] = words.as_slice() else {
-        return if words.is_empty() {
-            Ok(())
-        } else {
-            Err(Fail::from(row))
-        };
+/// A server makes of a message what the words of a row say.
+fn is_replied(
+    rt: &(impl Abort + AllocGlobal),
+    server: &LongTermServerAuth,
+    words: &[&str],
+) -> Result<(), Fail> {
+    let [class, before, to, size, expected] = words else {
+        return Err(Fail::from("no row"));
     };
     let class = match *class {
         "success" => MessageClass::Success,
@@ -272,11 +311,26 @@ fn reply_holds(rt: &(impl Abort + AllocGlobal), row: &str) -> Result<(), Fail> {
         _ => MessageClass::Indication,
     };
     let to = to.parse::<SocketAddr>()?;
-    let server = server_after(rt.alloc(), before)?;
-    is_signed(rt, &server, class, to, expected)?;
+    is_signed(rt, signed(rt.alloc(), server, class, to), expected)?;
     let told = server.message_signature_bytes(to, class == MessageClass::Request);
-    assert_eq!(rt; told, size.parse::<usize>()?, "{row}");
+    assert_eq!(rt; told, size.parse::<usize>()?, "{before} {expected}");
     Ok(())
+}
+
+/// A server makes of a message what a row says.
+fn reply_holds(rt: &(impl Abort + AllocGlobal), row: &str) -> Result<(), Fail> {
+    let words = words(rt.alloc(), row)?;
+    let Some(before) = words.as_slice().get(1) else {
+        return Ok(());
+    };
+    match prepared(rt.alloc(), before) {
+        Ok(server) => {
+            let done = is_replied(rt, &server, words.as_slice());
+            drop(server);
+            done
+        }
+        Err(error) => Err(error),
+    }
 }
 
 #[test]
@@ -288,30 +342,31 @@ fn messages_are_signed_or_refused(rt: HostRuntime) -> Result<(), Fail> {
 }
 
 #[test]
-fn refusals_and_algorithms_are_told(rt: HostRuntime) -> Result<(), Fail> {
-    let (sha1, sha256) = (IntegrityAlgorithm::Sha1, IntegrityAlgorithm::Sha256);
+fn refusals_are_told(rt: HostRuntime) -> Result<(), Fail> {
+    let sha1 = IntegrityAlgorithm::Sha1;
     let failed = "the integrity of the message does not hold";
-    for (error, text, reason) in [
-        (Error::Unauthorized, "unauthorized", Reason::Unauthorized),
+    for (error, text, reason, integrity) in [
+        (
+            Error::Unauthorized,
+            "unauthorized",
+            Reason::Unauthorized,
+            None,
+        ),
         (
             Error::IntegrityFailed(sha1),
             failed,
             Reason::IntegrityFailed,
+            Some(sha1),
         ),
-        (Error::BadRequest, "bad request", Reason::BadRequest),
-        (Error::StaleNonce, "stale nonce", Reason::StaleNonce),
-        (Error::NoMemory, "no memory", Reason::NoMemory),
+        (Error::BadRequest, "bad request", Reason::BadRequest, None),
+        (Error::StaleNonce, "stale nonce", Reason::StaleNonce, None),
+        (Error::NoMemory, "no memory", Reason::NoMemory, None),
     ] {
         let told = format!(in rt.alloc(); "{error}")?;
-        assert_eq!(rt; (told.as_str(), error.reason()), (text, reason));
-        let integrity = if text == failed { Some(sha1) } else { None };
-        assert_eq!(rt; error.integrity(), integrity, "{text}");
+        assert_eq!(rt;
+            (told.as_str(), error.reason(), error.integrity()),
+            (text, reason, integrity)
+        );
     }
-    let mut server = server_after(rt.alloc(), "new")?;
-    assert_eq!(rt; server.supported_integrity(), [sha1].as_slice());
-    server.set_supported_integrity(sha256);
-    server.add_supported_integrity(sha1);
-    server.add_supported_integrity(sha256);
-    assert_eq!(rt; server.supported_integrity(), [sha256, sha1].as_slice());
     Ok(())
 }

@@ -7,6 +7,8 @@ mod attribute_values;
 #[cfg(test)]
 mod attributes;
 #[cfg(test)]
+mod kept;
+#[cfg(test)]
 mod small_types;
 #[cfg(test)]
 mod texts;

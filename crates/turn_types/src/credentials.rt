@@ -4,8 +4,8 @@ ghost use Rattle.std.specs.Prelude.{◌≡◌, IfOk};
 
 use std::alloc::Global;
 use std::marker::Model;
-use stun_types::NoMemory;
-use stun_types::message::LongTermCredentials;
+use turn_types_transmit::NoMemory;
+use turn_types_transmit::stun_message::LongTermCredentials;
 
 /// The name and the password of a user of a TURN server. Contracts see the two texts.
 #[derive(Debug, Drop)]
@@ -16,7 +16,7 @@ pub struct TurnCredentials {
 
 impl Model for TurnCredentials {
     ghost use Rattle.std.specs.String.{string_bytes};
-    ghost use Rattle.stun_types.specs.Credentials.{NameAndPassword};
+    ghost use Rattle.turn_types_transmit.specs.Credentials.{NameAndPassword};
 
     ghost Value = { NameAndPassword };
 

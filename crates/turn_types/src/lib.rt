@@ -17,4 +17,4 @@ pub mod tcp;
 pub mod transmit;
 
 pub use crate::credentials::TurnCredentials;
-pub use stun_types::{AddressFamily, TransportType};
+pub use turn_types_transmit::{AddressFamily, TransportType};

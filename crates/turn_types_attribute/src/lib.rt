@@ -11,3 +11,9 @@ pub mod registry;
 pub mod requested_address_family;
 pub mod requested_transport;
 pub mod xor_relayed_address;
+
+// What stands above this crate has these through it.
+pub use stun_types::{
+    AddressFamily, NoMemory, Transmit, TransportType, attribute, message,
+    registry as stun_registry, transmit,
+};

@@ -2,9 +2,9 @@
 -- RFC 8489, section 6.2.2).
 use Rattle.std.specs.Prelude.{◌≡◌, ◌≤◌, ℕ, ◌+◌, ◌⊎◌, true, List, ◌++◌, length, None}
 use Rattle.std.specs.List.{AllByRecursion, concat}
-use Rattle.stun_types.specs.Attributes.{length_at, padded}
-use Rattle.stun_types.specs.Grammar.{header_refusal}
-use Rattle.stun_types.specs.Registry.{header_size}
+use Rattle.turn_types_attribute.specs.Attributes.{length_at, padded}
+use Rattle.turn_types_attribute.specs.Grammar.{header_refusal}
+use Rattle.turn_types_attribute.specs.Registry.{header_size}
 use Rattle.turn_types_attribute.specs.TurnRegistry.{channel_header_size}
 use Rattle.turn_types_frame.specs.StreamFronts.{is_channel_top, front}
 use Rattle.turn_types_frame.specs.Streams.{Fed, left_by}

@@ -2,14 +2,14 @@
 
 ghost use Rattle.std.specs.Prelude.{◌≡◌, ◌+◌, ◌<◌, ◌≤◌, ◌++◌, length, drop, None, Some, MatchResult, IfOk, IfErr, OnOk};
 ghost use Rattle.byteorder.specs.Endian.{big_bytes};
-ghost use Rattle.stun_types.specs.Attributes.{kind_at, length_at};
-ghost use Rattle.stun_types.specs.WriteErrors.{TooSmall};
+ghost use Rattle.turn_types_attribute.specs.Attributes.{kind_at, length_at};
+ghost use Rattle.turn_types_attribute.specs.WriteErrors.{TooSmall};
 ghost use Rattle.turn_types_attribute.specs.TurnRegistry.{channel_header_size};
 ghost use Rattle.turn_types_frame.specs.ChannelFrames.{IsLawful, channel_header_refusal, channel_refusal, frame_at, frame_text};
 
 use byteorder::{BigEndian, ByteOrder};
 use std::marker::Model;
-use stun_types::message::{StunParseError, StunWriteError};
+use turn_types_attribute::message::{StunParseError, StunWriteError};
 use turn_types_attribute::registry::{CHANNEL_HEADER_LENGTH, GREATEST_CHANNEL, LEAST_CHANNEL};
 
 /// The data of a channel, as it stands in a channel frame: a number from 0x4000 to 0x7FFF, and at most

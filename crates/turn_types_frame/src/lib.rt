@@ -6,3 +6,10 @@ pub mod front;
 mod kept;
 pub mod laws;
 pub mod tcp;
+
+// What stands above this crate has these through it.
+pub use turn_types_attribute::{
+    AddressFamily, NoMemory, Transmit, TransportType, additional_address_family, attribute,
+    dont_fragment, lifetime, message, registry, requested_address_family, requested_transport,
+    xor_relayed_address,
+};

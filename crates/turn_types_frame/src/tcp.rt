@@ -12,9 +12,9 @@ use std::convert::AsSlice;
 use std::fmt::Debug;
 use std::marker::Model;
 use std::ops::Range;
-use stun_types::attribute::pad_attribute_len;
-use stun_types::{NoMemory, Transmit};
+use turn_types_attribute::attribute::pad_attribute_len;
 use turn_types_attribute::registry::CHANNEL_HEADER_LENGTH;
+use turn_types_attribute::{NoMemory, Transmit};
 
 /// What a piece of a stream brought.
 #[derive(Debug, Drop)]

@@ -6,7 +6,7 @@ use Rattle.std.proofs.lemmas.Bool.{cases_Bool, eqb-true}
 use Rattle.stun_types_wire.specs.Attributes.{Attr}
 use Rattle.stun_types_wire.specs.Grammar.{number_at, shown}
 use Rattle.stun_types_wire.specs.Registry.{fingerprint_kind}
-use Rattle.stun_types.specs.Same.{ShowSame, without_fingerprint}
+use Rattle.turn_types_attribute.specs.Same.{ShowSame, without_fingerprint}
 use Rattle.turn_types_attribute.specs.TurnRegistry.{channel_number_kind, connection_id_kind, lifetime_kind, requested_transport_kind, xor_peer_address_kind, xor_relayed_address_kind}
 use Rattle.turn_types_peer.specs.TurnShows.{TellSame, each_shown, first_shown, address_in, addresses_shown, number_in}
 

@@ -6,14 +6,13 @@ ghost use Rattle.turn_types_attribute.specs.TurnRegistry.{connection_id_kind};
 use std::alloc::Global;
 use std::convert::TryFrom;
 use std::marker::Model;
-use stun_types::NoMemory;
-use stun_types::attribute::{
+use turn_types_attribute::attribute::{
     Attribute, AttributeFromRaw, AttributeStaticType, AttributeType, AttributeWrite, RawAttribute,
     write_attribute,
 };
-use stun_types::message::StunParseError;
+use turn_types_attribute::message::StunParseError;
 use turn_types_attribute::number::read_number;
-use turn_types_attribute::registry;
+use turn_types_attribute::{NoMemory, registry};
 
 /// The number by which a server knows a connection to a peer (RFC 6062, section 6.2.1). Any number of
 /// 32 bits is lawful. Contracts see the number.
@@ -83,7 +82,7 @@ impl AttributeWrite for ConnectionId {
 /// where it is another type, `Truncated` where the value is shorter, `TooLarge` where it is longer.
 impl<'a, 'raw> TryFrom<&'raw RawAttribute<'a>> for ConnectionId {
     ghost use Rattle.std.specs.Prelude.{◌≡◌, MatchResult, Some, None};
-    ghost use Rattle.stun_types.specs.ValueReading.{IsNamed, value_refusal};
+    ghost use Rattle.turn_types_attribute.specs.ValueReading.{IsNamed, value_refusal};
     ghost use Rattle.byteorder.specs.Endian.{big_number};
 
     type Error = StunParseError;
@@ -102,7 +101,7 @@ impl<'a, 'raw> TryFrom<&'raw RawAttribute<'a>> for ConnectionId {
 /// Refused as `try_from` is; no memory is taken.
 impl<'a> AttributeFromRaw<'a> for ConnectionId {
     ghost use Rattle.std.specs.Prelude.{false};
-    ghost use Rattle.stun_types.specs.ValueReading.{value_refusal};
+    ghost use Rattle.turn_types_attribute.specs.ValueReading.{value_refusal};
 
     ghost read_refusal = { value_refusal connection_id_kind 4 4 };
 

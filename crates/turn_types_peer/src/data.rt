@@ -1,20 +1,19 @@
 //! DATA (RFC 8656, section 18.4).
 
 ghost use Rattle.std.specs.Prelude.{◌≡◌, ◌<◌, ◌^◌, length, IfOk, MatchResult, None};
-ghost use Rattle.stun_types.specs.Registry.{longest_value};
-ghost use Rattle.stun_types.specs.ValueReading.{IsNamed, value_refusal};
+ghost use Rattle.turn_types_attribute.specs.Registry.{longest_value};
+ghost use Rattle.turn_types_attribute.specs.ValueReading.{IsNamed, value_refusal};
 ghost use Rattle.turn_types_attribute.specs.TurnRegistry.{data_kind};
 
 use std::alloc::Global;
 use std::marker::Model;
-use stun_types::NoMemory;
-use stun_types::attribute::{
+use turn_types_attribute::attribute::{
     Attribute, AttributeFromRaw, AttributeStaticType, AttributeType, AttributeWrite, RawAttribute,
     value_of, write_attribute,
 };
-use stun_types::message::StunParseError;
-use stun_types::registry::MAX_VALUE_LENGTH;
-use turn_types_attribute::registry;
+use turn_types_attribute::message::StunParseError;
+use turn_types_attribute::stun_registry::MAX_VALUE_LENGTH;
+use turn_types_attribute::{NoMemory, registry};
 
 /// What a peer sends, or what is sent to it (RFC 8656, section 18.4): at most 65,535 bytes of its own.
 /// [`Data::bytes_of`] tells them where they stand, without a copy. Contracts see the bytes.
@@ -104,8 +103,8 @@ impl AttributeWrite for Data {
 /// Any bytes. Refused with `WrongAttributeImplementation` where it is another type. Bytes that are owned
 /// already are kept, others are copied.
 impl<'a> AttributeFromRaw<'a> for Data {
-    ghost use Rattle.stun_types.specs.Registry.{longest_value};
-    ghost use Rattle.stun_types.specs.ValueReading.{value_refusal};
+    ghost use Rattle.turn_types_attribute.specs.Registry.{longest_value};
+    ghost use Rattle.turn_types_attribute.specs.ValueReading.{value_refusal};
 
     ghost read_refusal = { value_refusal data_kind 0 longest_value };
 

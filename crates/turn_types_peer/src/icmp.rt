@@ -1,7 +1,7 @@
 //! ICMP (RFC 8656, section 18.13).
 
 ghost use Rattle.std.specs.Prelude.{◌≡◌, None, MatchResult, length};
-ghost use Rattle.stun_types.specs.ValueReading.{IsNamed, value_refusal};
+ghost use Rattle.turn_types_attribute.specs.ValueReading.{IsNamed, value_refusal};
 ghost use Rattle.turn_types_attribute.specs.TurnRegistry.{icmp_kind};
 ghost use Rattle.turn_types_peer.specs.PeerValues.{icmp_told, icmp_value};
 
@@ -9,13 +9,12 @@ use byteorder::{BigEndian, ByteOrder};
 use std::alloc::Global;
 use std::convert::TryFrom;
 use std::marker::Model;
-use stun_types::NoMemory;
-use stun_types::attribute::{
+use turn_types_attribute::attribute::{
     Attribute, AttributeFromRaw, AttributeStaticType, AttributeType, AttributeWrite, RawAttribute,
     value_of, write_attribute,
 };
-use stun_types::message::StunParseError;
-use turn_types_attribute::registry;
+use turn_types_attribute::message::StunParseError;
+use turn_types_attribute::{NoMemory, registry};
 
 /// What a host or a router on the way to a peer reported by ICMP (RFC 8656, section 18.13). Contracts
 /// see the record `IcmpReport`.
@@ -114,7 +113,7 @@ impl AttributeWrite for Icmp {
 /// `TooLarge` where it is longer.
 impl<'a, 'raw> TryFrom<&'raw RawAttribute<'a>> for Icmp {
     ghost use Rattle.std.specs.Prelude.{◌≡◌, MatchResult, None};
-    ghost use Rattle.stun_types.specs.ValueReading.{IsNamed, value_refusal};
+    ghost use Rattle.turn_types_attribute.specs.ValueReading.{IsNamed, value_refusal};
     ghost use Rattle.turn_types_peer.specs.PeerValues.{icmp_told};
 
     type Error = StunParseError;
@@ -131,7 +130,7 @@ impl<'a, 'raw> TryFrom<&'raw RawAttribute<'a>> for Icmp {
 /// Refused as `try_from` is; no memory is taken.
 impl<'a> AttributeFromRaw<'a> for Icmp {
     ghost use Rattle.std.specs.Prelude.{false};
-    ghost use Rattle.stun_types.specs.ValueReading.{value_refusal};
+    ghost use Rattle.turn_types_attribute.specs.ValueReading.{value_refusal};
     ghost use Rattle.turn_types_peer.specs.PeerValues.{icmp_told, icmp_value};
 
     ghost read_refusal = { value_refusal icmp_kind 8 8 };

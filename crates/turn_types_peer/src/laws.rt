@@ -1,8 +1,8 @@
 //! What two messages tell that show the same. The function does nothing; its contract is a law.
 
 ghost use Rattle.std.specs.Prelude.{◌≡◌, ◌≢◌, ℕ, List};
-ghost use Rattle.stun_types.specs.Registry.{fingerprint_kind};
-ghost use Rattle.stun_types.specs.Same.{ShowSame};
+ghost use Rattle.turn_types_attribute.specs.Registry.{fingerprint_kind};
+ghost use Rattle.turn_types_attribute.specs.Same.{ShowSame};
 ghost use Rattle.turn_types_peer.specs.TurnShows.{TellSame, each_shown, first_shown};
 
 /// Two messages that show the same, a FINGERPRINT aside, show the same attributes of each other type,

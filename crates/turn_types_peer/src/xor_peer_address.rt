@@ -1,22 +1,21 @@
 //! XOR-PEER-ADDRESS (RFC 8656, section 18.3).
 
 ghost use Rattle.std.specs.Prelude.{Some, ◌≡◌};
-ghost use Rattle.stun_types.specs.ValueReading.{IsNamed};
-ghost use Rattle.stun_types.specs.Addresses.{address_of, address_value};
-ghost use Rattle.stun_types.specs.Xor.{xored};
+ghost use Rattle.turn_types_attribute.specs.ValueReading.{IsNamed};
+ghost use Rattle.turn_types_attribute.specs.Addresses.{address_of, address_value};
+ghost use Rattle.turn_types_attribute.specs.Xor.{xored};
 ghost use Rattle.turn_types_attribute.specs.TurnRegistry.{xor_peer_address_kind};
 
 use std::alloc::Global;
 use std::convert::TryFrom;
 use std::marker::Model;
 use std::net::SocketAddr;
-use stun_types::NoMemory;
-use stun_types::attribute::{
+use turn_types_attribute::attribute::{
     Attribute, AttributeFromRaw, AttributeStaticType, AttributeType, AttributeWrite, RawAttribute,
     XorSocketAddr,
 };
-use stun_types::message::{StunParseError, TransactionId};
-use turn_types_attribute::registry;
+use turn_types_attribute::message::{StunParseError, TransactionId};
+use turn_types_attribute::{NoMemory, registry};
 
 /// The address of a peer, xored as a XOR-MAPPED-ADDRESS is (RFC 8656, section 18.3). Contracts see the
 /// bytes of the value.
@@ -89,8 +88,8 @@ impl AttributeWrite for XorPeerAddress {
 /// has not the 8 bytes of IPv4 or the 20 of IPv6.
 impl<'a, 'raw> TryFrom<&'raw RawAttribute<'a>> for XorPeerAddress {
     ghost use Rattle.std.specs.Prelude.{◌≡◌, MatchResult, Some, None};
-    ghost use Rattle.stun_types.specs.ValueReading.{IsNamed};
-    ghost use Rattle.stun_types.specs.Addresses.{address_again, address_read_refusal};
+    ghost use Rattle.turn_types_attribute.specs.ValueReading.{IsNamed};
+    ghost use Rattle.turn_types_attribute.specs.Addresses.{address_again, address_read_refusal};
 
     type Error = StunParseError;
 
@@ -108,7 +107,7 @@ impl<'a, 'raw> TryFrom<&'raw RawAttribute<'a>> for XorPeerAddress {
 /// Refused as `try_from` is; no memory is taken.
 impl<'a> AttributeFromRaw<'a> for XorPeerAddress {
     ghost use Rattle.std.specs.Prelude.{false};
-    ghost use Rattle.stun_types.specs.Addresses.{address_again, address_read_refusal};
+    ghost use Rattle.turn_types_attribute.specs.Addresses.{address_again, address_read_refusal};
 
     ghost read_refusal = { address_read_refusal xor_peer_address_kind };
 

@@ -3,7 +3,7 @@ use Rattle.std.proofs.Common.{◌≡◌, ℕ, ◌+◌, ◌-◌, ◌≤◌, List,
 use Rattle.std.proofs.lemmas.List.{length-append, append-nil, drop_all}
 use Rattle.stun_types_wire.specs.Attributes.{Attr, attr_size}
 use Rattle.stun_types_wire.specs.Text.{attribute_text, body_text, header_text, message_text}
-use Rattle.stun_types_build.proofs.Adds.{length-attribute_text}
+use Rattle.turn_types_frame.proofs.Adds.{length-attribute_text}
 
 header_length : (kind len number : ℕ) (body : List ℕ) → length (header_text kind len number ++ body) ≡ 20 + length body
 unfolding header_text

@@ -1,14 +1,14 @@
 -- Indications that carry data of a peer or for one (RFC 8656, sections 11.1 and 11.3).
 use Rattle.std.specs.Prelude.{ℕ, List, [], ◌∷◌, ◌<◌, ◌≤◌, ◌^◌}
 use Rattle.std.specs.declared.net.socket_addr.SocketAddr.{SocketAddr}
-use Rattle.stun_types.specs.Adding.{attr_of}
-use Rattle.stun_types.specs.Addresses.{address_value}
-use Rattle.stun_types.specs.Attributes.{Attr}
-use Rattle.stun_types.specs.MessageClasses.{Indication}
-use Rattle.stun_types.specs.Text.{message_text}
-use Rattle.stun_types.specs.Types.{type_of}
-use Rattle.stun_types.specs.Xor.{xored}
-use Rattle.turn_types_attribute.specs.TurnRegistry.{data_kind, most_payload, xor_peer_address_kind}
+use Rattle.turn_types_frame.specs.Adding.{attr_of}
+use Rattle.turn_types_frame.specs.Addresses.{address_value}
+use Rattle.turn_types_frame.specs.Attributes.{Attr}
+use Rattle.turn_types_frame.specs.MessageClasses.{Indication}
+use Rattle.turn_types_frame.specs.Text.{message_text}
+use Rattle.turn_types_frame.specs.Types.{type_of}
+use Rattle.turn_types_frame.specs.Xor.{xored}
+use Rattle.turn_types_frame.specs.TurnRegistry.{data_kind, most_payload, xor_peer_address_kind}
 
 -- an indication of a method, with the address of a peer and the data
 pub record Sent : Type 0 where

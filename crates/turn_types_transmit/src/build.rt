@@ -5,7 +5,7 @@ ghost use Rattle.std.specs.Prelude.{◌≡◌, ◌==◌, ℕ, List, length, IfOk
 use std::alloc::Global;
 use std::fmt::Debug;
 use std::net::SocketAddr;
-use stun_types::{NoMemory, Transmit, TransportType};
+use turn_types_frame::{NoMemory, Transmit, TransportType};
 
 /// Bytes that can be written when they are sent, straight to where they are wanted. Contracts know
 /// them by the text.

@@ -8,10 +8,10 @@ use std::alloc::Global;
 use std::convert::AsSlice;
 use std::fmt::Debug;
 use std::marker::Model;
-use stun_types::NoMemory;
-use stun_types::attribute::pad_attribute_len;
-use turn_types_attribute::registry::CHANNEL_HEADER_LENGTH;
+use turn_types_frame::NoMemory;
+use turn_types_frame::attribute::pad_attribute_len;
 use turn_types_frame::channel::ChannelData;
+use turn_types_frame::registry::CHANNEL_HEADER_LENGTH;
 
 /// A channel frame that isn't written yet. Over a stream it is padded to a multiple of four bytes
 /// (RFC 8656, section 12.5). Contracts see the record `Channeled`.

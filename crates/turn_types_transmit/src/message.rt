@@ -1,7 +1,7 @@
 //! Data that is sent by an indication (RFC 8656, sections 11.1 and 11.3).
 
 ghost use Rattle.std.specs.Prelude.{◌≡◌, ◌+◌, ◌≤◌, length};
-ghost use Rattle.turn_types_attribute.specs.TurnRegistry.{data_method, most_payload, send_method};
+ghost use Rattle.turn_types_frame.specs.TurnRegistry.{data_method, most_payload, send_method};
 
 use crate::build::DelayedTransmitBuild;
 use std::alloc::Global;
@@ -9,10 +9,10 @@ use std::convert::AsSlice;
 use std::fmt::Debug;
 use std::marker::Model;
 use std::net::SocketAddr;
-use stun_types::NoMemory;
-use stun_types::attribute::{Attribute, AttributeWrite, RawAttribute};
-use stun_types::message::{MessageClass, MessageHeader, MessageType, Method, TransactionId};
-use turn_types_attribute::registry::{DATA, DATA_ATTRIBUTE, SEND};
+use turn_types_frame::NoMemory;
+use turn_types_frame::attribute::{Attribute, AttributeWrite, RawAttribute};
+use turn_types_frame::message::{MessageClass, MessageHeader, MessageType, Method, TransactionId};
+use turn_types_frame::registry::{DATA, DATA_ATTRIBUTE, SEND};
 use turn_types_peer::xor_peer_address::XorPeerAddress;
 
 /// An indication with the address of a peer and data, that isn't written yet. Contracts see the record
@@ -27,7 +27,7 @@ pub struct DelayedMessage<T: AsSlice<u8>> {
 
 impl<T: AsSlice<u8>> Model for DelayedMessage<T> {
     ghost use Rattle.std.specs.Prelude.{◌≤◌, ◌<◌, ◌^◌, length};
-    ghost use Rattle.turn_types_attribute.specs.TurnRegistry.{most_payload};
+    ghost use Rattle.turn_types_frame.specs.TurnRegistry.{most_payload};
     ghost use Rattle.turn_types_transmit.specs.Indications.{IsMethod, Sent};
 
     ghost Value = { Sent };

@@ -7,6 +7,7 @@ mod client;
 mod message;
 mod samples;
 mod served;
+mod user;
 mod validating;
 
 use crate::answers::{redirect, reject};
@@ -14,6 +15,7 @@ use crate::client::{begin, hear};
 use crate::message::{Looked, lifetime, look, sign};
 use crate::samples::{PASSWORD, SAMPLE, UNSIGNED};
 use crate::served::{allocate, serve};
+use crate::user::{key_of_user, server};
 use crate::validating::validate;
 use rand_chacha::ChaCha20Rng;
 use rand_core::SeedableRng;
@@ -22,13 +24,15 @@ use std::io;
 use std::net::{IpAddr, Ipv4Addr, Ipv6Addr, SocketAddr};
 use stun_proto::Instant;
 use stun_proto::auth::LongTermServerAuth;
-use stun_types::NoMemory;
+use stun_types::Transmit;
 use stun_types::attribute::ErrorCode;
+use stun_types::data::Data;
 use stun_types::message::{
-    IntegrityAlgorithm, LongTermCredentials, LongTermKeyCredentials, Message, MessageClass,
-    MessageIntegrityCredentials, MessageWriteMutSlice, ShortTermCredentials, TransactionId,
+    IntegrityAlgorithm, LongTermKeyCredentials, Message, MessageClass, MessageIntegrityCredentials,
+    MessageWriteMutSlice, ShortTermCredentials, TransactionId,
 };
 use stun_types::prelude::{MessageWrite, MessageWriteExt};
+use turn_client_proto::udp::TurnClientUdp;
 
 fn main(rt: HostRuntime) -> anyhow::Result<()> {
     look_at_samples(&rt)?;
@@ -122,29 +126,76 @@ fn answer_sample(rt: &impl Print, alloc: Global) -> anyhow::Result<()> {
 /// Signs a request under a nonce that was never drawn, and under the one that the server then keeps for
 /// the client, and has the server answer both.
 fn serve_user(rt: &impl Print, alloc: Global) -> anyhow::Result<()> {
-    let mut server = server(alloc)?;
-    let user = user(alloc)?.to_key(alloc, String::from_str(alloc, "realm")?)?;
+    match server(alloc) {
+        Ok(mut server) => {
+            let done = serve_key(rt, alloc, &mut server);
+            drop(server);
+            done
+        }
+        Err(error) => Err(error.into()),
+    }
+}
+
+/// Has a server answer both requests of the user.
+fn serve_key(
+    rt: &impl Print,
+    alloc: Global,
+    server: &mut LongTermServerAuth,
+) -> anyhow::Result<()> {
+    match key_of_user(alloc) {
+        Ok(user) => {
+            let done = serve_twice(rt, alloc, server, &user);
+            drop(user);
+            done
+        }
+        Err(error) => Err(error.into()),
+    }
+}
+
+/// Has a server answer both requests of a user.
+fn serve_twice(
+    rt: &impl Print,
+    alloc: Global,
+    server: &mut LongTermServerAuth,
+    user: &LongTermKeyCredentials,
+) -> anyhow::Result<()> {
     let from = SocketAddr::new(IpAddr::V4(Ipv4Addr::new(192, 0, 2, 9)), 50_000);
     let mut words = ChaCha20Rng::from_seed([0; 32]);
     for _ in 0..2 {
         let nonce = server.nonce_for_client(from).unwrap_or("none");
-        let signed = sign(alloc, TransactionId::from(7u128), &user, nonce)?;
-        print_hex(rt, "sign", signed.as_slice())?;
-        let request = Message::from_bytes(signed.as_slice())?;
-        if !request.has_class(MessageClass::Request) {
-            return Ok(());
+        match sign(alloc, TransactionId::from(7u128), user, nonce) {
+            Ok(signed) => {
+                let done = serve_signed(rt, alloc, server, signed.as_slice(), from, &mut words);
+                drop(signed);
+                done?;
+            }
+            Err(error) => return Err(error.into()),
         }
-        match serve(
-            alloc,
-            &mut server,
-            &request,
-            from,
-            Instant::ZERO,
-            &mut words,
-        ) {
-            Ok(reply) => print_hex(rt, "serve", reply.as_slice())?,
-            Err(error) => println!(rt; "serve: refused: {error}")?,
+    }
+    Ok(())
+}
+
+/// Prints a signed request, and what a server answers it.
+fn serve_signed(
+    rt: &impl Print,
+    alloc: Global,
+    server: &mut LongTermServerAuth,
+    signed: &[u8],
+    from: SocketAddr,
+    words: &mut ChaCha20Rng,
+) -> anyhow::Result<()> {
+    print_hex(rt, "sign", signed)?;
+    let request = Message::from_bytes(signed)?;
+    if !request.has_class(MessageClass::Request) {
+        return Ok(());
+    }
+    match serve(alloc, server, &request, from, Instant::ZERO, words) {
+        Ok(reply) => {
+            let printed = print_hex(rt, "serve", reply.as_slice());
+            drop(reply);
+            printed?;
         }
+        Err(error) => println!(rt; "serve: refused: {error}")?,
     }
     Ok(())
 }
@@ -154,9 +205,14 @@ fn challenge_client(rt: &impl Print, alloc: Global) -> anyhow::Result<()> {
     let from = SocketAddr::new(IpAddr::V4(Ipv4Addr::new(192, 0, 2, 9)), 50_000);
     for bytes in [UNSIGNED, SAMPLE] {
         let mut words = ChaCha20Rng::from_seed([0; 32]);
-        match allocate(alloc, bytes, from, &mut words)? {
-            Some(reply) => print_hex(rt, "allocate", reply.as_slice())?,
-            None => println!(rt; "allocate: no reply")?,
+        match allocate(alloc, bytes, from, &mut words) {
+            Ok(Some(reply)) => {
+                let printed = print_hex(rt, "allocate", reply.as_slice());
+                drop(reply);
+                printed?;
+            }
+            Ok(None) => println!(rt; "allocate: no reply")?,
+            Err(error) => return Err(error.into()),
         }
     }
     Ok(())
@@ -166,28 +222,31 @@ fn challenge_client(rt: &impl Print, alloc: Global) -> anyhow::Result<()> {
 fn begin_client(rt: &impl Print, alloc: Global) -> anyhow::Result<()> {
     let local = SocketAddr::new(IpAddr::V4(Ipv4Addr::new(192, 168, 0, 1)), 1000);
     let server = SocketAddr::new(IpAddr::V4(Ipv4Addr::new(10, 0, 0, 2)), 2000);
-    let (mut client, first) = begin(alloc, local, server, "user", "pass", [0; 32])?;
+    match begin(alloc, local, server, "user", "pass", [0; 32]) {
+        Ok((mut client, first)) => {
+            let done = tell_client(rt, &mut client, first.as_ref(), local);
+            drop(first);
+            drop(client);
+            done
+        }
+        Err(error) => Err(error.into()),
+    }
+}
+
+/// Prints what a client sends first, and hands it a datagram that came from an address.
+fn tell_client(
+    rt: &impl Print,
+    client: &mut TurnClientUdp,
+    first: Option<&Transmit<Data<'static>>>,
+    from: SocketAddr,
+) -> anyhow::Result<()> {
     match first {
         Some(sent) => print_hex(rt, "begin", sent.bytes.as_slice())?,
         None => println!(rt; "begin: nothing is sent")?,
     }
-    let is_heard = hear(&mut client, UNSIGNED, local, Instant::ZERO)?;
+    let is_heard = hear(client, UNSIGNED, from, Instant::ZERO)?;
     println!(rt; "hear: {is_heard}")?;
     Ok(())
-}
-
-/// The user `user`.
-fn user(alloc: Global) -> Result<LongTermCredentials, NoMemory> {
-    let name = String::from_str(alloc, "user")?;
-    let password = String::from_str(alloc, "pass")?;
-    Ok(LongTermCredentials::new(name, password))
-}
-
-/// A server of the realm `realm` that knows the user.
-fn server(alloc: Global) -> Result<LongTermServerAuth, NoMemory> {
-    let mut server = LongTermServerAuth::new(alloc, String::from_str(alloc, "realm")?);
-    server.add_user(user(alloc)?)?;
-    Ok(server)
 }
 
 /// Prints bytes in lower case hex behind a name.

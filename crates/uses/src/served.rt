@@ -1,20 +1,23 @@
 //! The server's side: requests that are validated and answered, and a desk that challenges.
 
-ghost use Rattle.std.specs.Prelude.{◌≡◌, ℕ, List, IfOk, MatchOption, OnOk};
+ghost use Rattle.std.specs.Prelude.{◌≡◌, ◌∷◌, [], ℕ, List, IfOk, MatchOption, OnOk};
+ghost use Rattle.std.specs.declared.net.socket_addr.SocketAddr.{SocketAddr as Address};
 ghost use Rattle.stun_types.specs.Attributes.{kind_at};
 ghost use Rattle.stun_types.specs.IntegrityAlgorithms.{IntegrityAlgorithm};
 ghost use Rattle.stun_types.specs.MessageClasses.{Request};
 ghost use Rattle.stun_types.specs.Types.{class_of};
 ghost use Rattle.stun_proto.specs.Server.{refreshed};
 ghost use Rattle.stun_proto.specs.ServerValidation.{Accepts};
+ghost use Rattle.turn_desk.specs.Decisions.{Allocate};
 ghost use Rattle.turn_desk.specs.Requests.{IsServed};
 
+use crate::user::server;
 use rand_core::Rng;
 use std::alloc::Global;
 use std::net::{IpAddr, Ipv4Addr, SocketAddr};
 use stun_proto::Instant;
 use stun_proto::auth::LongTermServerAuth;
-use stun_types::message::{LongTermCredentials, Message, MessageWriteVec};
+use stun_types::message::{Message, MessageWriteVec};
 use stun_types::prelude::MessageWrite;
 use stun_types::{ListOf, NoMemory};
 use turn_desk::{Decision, Desk};
@@ -51,16 +54,54 @@ pub(crate) fn allocate<R: Rng>(
     ensures { IfOk result (λ reply.
         MatchOption reply (¬ IsServed bytes.now) (λ _. IsServed bytes.now)) }
 {
-    let mut server = LongTermServerAuth::new(alloc, String::from_str(alloc, "realm")?);
-    let name = String::from_str(alloc, "user")?;
-    let password = String::from_str(alloc, "pass")?;
-    server.add_user(LongTermCredentials::new(name, password))?;
+    match server(alloc) {
+        Ok(server) => {
+            let mut desk = Desk::new(alloc, server);
+            let answer = relay(alloc, &mut desk, bytes, from, words);
+            drop(desk);
+            answer
+        }
+        Err(error) => Err(error),
+    }
+}
+
+/// The reply of a desk that relays 203.0.113.5:50000 for ten minutes, to bytes that came from an address.
+/// `None` where they are no request that a desk serves.
+fn relay<R: Rng>(
+    alloc: Global,
+    desk: &mut Desk,
+    bytes: &[u8],
+    from: SocketAddr,
+    words: &mut R,
+) -> Result<Option<Vec<u8>>, NoMemory>
+    ensures { IfOk result (λ reply.
+        MatchOption reply (¬ IsServed bytes.now) (λ _. IsServed bytes.now)) }
+{
+    match decision(alloc) {
+        Ok(decision) => {
+            let answer = desk.handle(bytes, from, Instant::ZERO, &decision, words);
+            drop(decision);
+            answer
+        }
+        Err(error) => Err(error),
+    }
+}
+
+/// The decision that 203.0.113.5:50000 is relayed for ten minutes.
+fn decision(alloc: Global) -> Result<Decision, NoMemory>
+    ensures { IfOk result (λ decision. (relayed : Address)
+        × (decision ≡ Allocate (relayed ∷ []) 600)) }
+{
     let mut addresses = ListOf::new(alloc);
-    addresses.push(SocketAddr::new(IpAddr::V4(Ipv4Addr::new(203, 0, 113, 5)), 50_000))?;
-    let decision = Decision::Allocate {
-        addresses,
-        lifetime: 600,
-    };
-    let mut desk = Desk::new(alloc, server);
-    desk.handle(bytes, from, Instant::ZERO, &decision, words)
+    let relayed = SocketAddr::new(IpAddr::V4(Ipv4Addr::new(203, 0, 113, 5)), 50_000);
+    match addresses.push(relayed) {
+        Ok(()) => Ok(Decision::Allocate {
+            addresses,
+            lifetime: 600,
+        }),
+        Err(error) => {
+            drop(addresses);
+            Err(error)
+        }
+    }
 }

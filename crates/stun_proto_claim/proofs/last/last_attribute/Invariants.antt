@@ -1,6 +1,6 @@
 use Rattle.std.proofs.Common.{◌≡◌, map}
 use Rattle.std.specs.Option.{option_or}
-use Rattle.stun_types.specs.Grammar.{shown}
+use Rattle.stun_proto_auth.specs.Grammar.{shown}
 use Rattle.stun_proto_claim.specs.Claims.{last_of_kind}
 use Rattle.stun_proto_claim.proofs.last.last_attribute.Given as goal
 

@@ -1,5 +1,5 @@
 use Rattle.std.proofs.Common.{◌≡◌, ◌≤◌, ◌+◌, ◌*◌, ℕ, List, length, get_or, take, ap, ◌∙◌, arith}
-use Rattle.stun_types_write.specs.Adding.{has_kind}
+use Rattle.stun_types_attribute.specs.Adding.{has_kind}
 use Rattle.stun_types_info.specs.TypeMarks.{is_marked}
 use Rattle.stun_types_info.specs.UnknownTypes.{types_told}
 use Rattle.stun_types_info.proofs.TypeMarks.{next_marked, all_marked}

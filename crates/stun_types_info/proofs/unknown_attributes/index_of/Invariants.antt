@@ -1,5 +1,5 @@
 use Rattle.std.proofs.Common.{◌≡◌, ◌||◌, ℕ, length}
-use Rattle.stun_types_write.specs.Adding.{has_kind}
+use Rattle.stun_types_attribute.specs.Adding.{has_kind}
 use Rattle.stun_types_info.specs.TypeMarks.{is_marked}
 use Rattle.stun_types_info.specs.UnknownTypes.{types_told}
 use Rattle.stun_types_info.proofs.unknown_attributes.index_of.Given as goal

@@ -1,5 +1,5 @@
 use Rattle.std.proofs.Common.{◌≡◌, length}
-use Rattle.stun_types_write.specs.Adding.{has_kind}
+use Rattle.stun_types_attribute.specs.Adding.{has_kind}
 use Rattle.stun_types_info.specs.UnknownTypes.{types_told}
 use Rattle.stun_types_info.proofs.unknown_attributes.tells_type.Given as goal
 

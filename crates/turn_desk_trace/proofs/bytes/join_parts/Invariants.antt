@@ -1,11 +1,10 @@
-use Rattle.std.proofs.Common.{◌≡◌, ◌≤◌, drop, length}
+use Rattle.std.proofs.Common.{◌≡◌, drop}
 use Rattle.std.specs.Prelude.{map}
-use Rattle.turn_desk_trace.specs.Bytes.{first_bytes, joined, most_bytes, part_bytes, prepend}
+use Rattle.turn_desk_trace.specs.Bytes.{joined, part_bytes, prepend}
 use Rattle.turn_desk_trace.proofs.bytes.join_parts.Given as goal
 
 -- the bytes so far stand in front of those of the parts that are left
 abbrev pub invariant-loop-part : goal.invariant-loop-part
 invariant-loop-part l =
-    (length l.bytes.items ≤ most_bytes) ×
-    (first_bytes (joined (map (λ x. part_bytes l.answers x.now) l.parts))
-    ≡ first_bytes (prepend l.bytes.items (joined (map (λ x. part_bytes l.answers x.now) (drop l.part-index l.parts)))))
+    joined (map (λ x. part_bytes l.answers x.now) l.parts)
+    ≡ prepend l.bytes.items (joined (map (λ x. part_bytes l.answers x.now) (drop l.part-index l.parts)))

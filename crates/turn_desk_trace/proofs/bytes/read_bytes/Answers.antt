@@ -1,12 +1,11 @@
 use Rattle.std.proofs.Common.{◌∙◌, sym, ap}
 use Rattle.std.specs.Prelude.{Some, map}
-use Rattle.turn_desk_trace.specs.Bytes.{first_bytes}
 use Rattle.turn_desk_trace.proofs.BytesLemmas.{named_dash, named_parts}
 use Rattle.turn_desk_trace.proofs.bytes.read_bytes.Goals as goal
 
 pub returns-then-is_no_bytes-clause-ok : goal.returns-then-is_no_bytes-clause-ok
 returns-then-is_no_bytes-clause-ok c =
-    ap (λ n. first_bytes n) (named_dash c.args.answers.now c.args.word.now (cc)) ∙ ap (λ b. Some b) (sym c.new.ensures.items)
+    named_dash c.args.answers.now c.args.word.now (cc) ∙ ap (λ b. Some b) (sym c.new.ensures.items)
 
 pub returns-clause-ok : goal.returns-clause-ok
 returns-clause-ok c =

@@ -1,6 +1,6 @@
 use Rattle.std.proofs.Common.{bit_xor, ap, ◌∙◌}
 use Rattle.byteorder.specs.Endian.{big_bytes}
-use Rattle.stun_types_digest.specs.Crc.{crc32}
+use Rattle.stun_types_wire.specs.Crc.{crc32}
 use Rattle.stun_types_wire.specs.Fingerprints.{fingerprint_value}
 use Rattle.stun_types_wire.specs.Registry.{fingerprint_mask}
 use Rattle.stun_types_fingerprint.proofs.Pieces.{told_in_pieces}

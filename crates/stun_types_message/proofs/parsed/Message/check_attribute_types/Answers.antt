@@ -1,7 +1,7 @@
 use Rattle.std.proofs.Common.{rules, ◌≡◌, ℕ, List, [], length, map, true, false, None, Some, refl, sym, ap, subst, ◌∙◌}
 use Rattle.std.specs.Prelude.{Option}
 use Rattle.std.proofs.lemmas.List.{length-map}
-use Rattle.stun_types_base.specs.Refusals.{IsCause}
+use Rattle.stun_types_attribute.specs.Refusals.{IsCause}
 use Rattle.stun_types_wire.specs.declared.attribute.AttributeType.{AttributeType}
 use Rattle.stun_types_wire.specs.declared.error.StunWriteError.{StunWriteError}
 use Rattle.stun_types_wire.specs.declared.error.StunWriteError.TheVariants.{NoMemory}

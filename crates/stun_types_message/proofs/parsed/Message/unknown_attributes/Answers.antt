@@ -1,6 +1,6 @@
 use Rattle.std.proofs.Common.{rules, ◌≡◌, ◌∷◌, [], None, List, ℕ, length, refl, ap, subst, ◌∙◌}
 use Rattle.std.proofs.lemmas.List.{length-map}
-use Rattle.stun_types_base.specs.Refusals.{IsCause}
+use Rattle.stun_types_attribute.specs.Refusals.{IsCause}
 use Rattle.stun_types_wire.specs.declared.error.StunWriteError.TheVariants.{NoMemory}
 use Rattle.stun_types_wire.specs.declared.attribute.AttributeType.{AttributeType}
 use Rattle.stun_types_wire.specs.Grammar.{number_at}

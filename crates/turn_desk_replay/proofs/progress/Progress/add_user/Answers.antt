@@ -1,5 +1,5 @@
 use Rattle.std.proofs.Common.{◌∙◌, sym, ap, Some}
-use Rattle.turn_desk_core.specs.State.{State}
+use Rattle.turn_desk_world.specs.State.{State}
 use Rattle.turn_desk_replay.specs.Progress.{progress_of}
 use Rattle.turn_desk_replay.proofs.progress.Progress.add_user.Goals as goal
 

@@ -2,8 +2,7 @@ use Rattle.std.proofs.Common.{ℕ, ◌≡◌, List, Err, refl, sym, ap, ◌∙�
 use Rattle.program_lines.specs.declared.refusal.LineError.TheVariants as error
 use Rattle.turn_desk_trace.specs.TraceLines.{IsLine}
 use Rattle.turn_desk_trace.specs.declared.line.Line.{Line}
-use Rattle.turn_desk_trace.specs.declared.line.Line.TheVariants.{Setup, Event}
-use Rattle.turn_desk_replay.specs.Replay.{Answered, SetUp}
+use Rattle.turn_desk_replay.specs.Keeping.{Answered, SetUp}
 use Rattle.turn_desk_replay.proofs.Standing.{unspelled}
 use Rattle.turn_desk_replay.proofs.progress.Progress.take_line.Goals as goal
 

@@ -1,0 +1,2 @@
+-- What stands above this crate has these through it.
+pub use Rattle.turn_desk_grant.specs.Requests
