@@ -60,7 +60,6 @@ uint32_t stun_bench_crc32(const uint8_t *text, size_t len);
 uint32_t stun_bench_fingerprint(const uint8_t *text, size_t len);
 bool stun_bench_parse(const uint8_t *bytes, size_t len);
 bool stun_bench_shows(const uint8_t *bytes, size_t len, const uint16_t *types, size_t count);
-bool stun_bench_look_up(const uint8_t *bytes, size_t len);
 bool stun_bench_read(const uint8_t *bytes, size_t len, struct allocation *told, bool *fingerprint);
 struct answer stun_bench_validate_sha1(const uint8_t *password, size_t password_len,
                                        const uint8_t *bytes, size_t len);
@@ -90,11 +89,6 @@ size_t stun_bench_sign_request_sha1(const uint8_t *password, size_t password_len
                                     size_t user_len, const uint8_t *realm, size_t realm_len,
                                     const uint8_t *nonce, size_t nonce_len, uint8_t *out,
                                     size_t out_len);
-size_t stun_bench_sign_request_sha256(const uint8_t *password, size_t password_len,
-                                      uint32_t lifetime, uint64_t number, const uint8_t *user,
-                                      size_t user_len, const uint8_t *realm, size_t realm_len,
-                                      const uint8_t *nonce, size_t nonce_len, uint8_t *out,
-                                      size_t out_len);
 
 size_t stun_bench_build_lent(const struct allocation *told, uint64_t number,
                              const uint8_t *software, size_t software_len, uint8_t *out,
@@ -139,6 +133,7 @@ static const struct allocation granted = {0xcb007105, 0xc0a80001, 600, 50000, 10
 static const uint64_t number = 0xd0e0f0a1a2a3a4a5;
 static const uint16_t request_types[] = {0x0019, 0x000d, 0x0006, 0x0014, 0x0015, 0x0008};
 static const uint16_t response_types[] = {0x8022, 0x001c, 0x0016};
+static const uint16_t whole_types[] = {0x0016, 0x000d, 0x0020, 0x8022, 0x0008, 0x8028};
 static uint8_t large[4096];
 // the seconds of each LIFETIME that is added
 static uint32_t lifetimes[ADDS_MOST];
@@ -188,7 +183,7 @@ TIMED(read_response, sink += stun_bench_read(WHOLE(response_sha1), &told, &finge
 TIMED(parse_request, sink += stun_bench_parse(WHOLE(request_sha1)))
 TIMED(look_up_request, sink += stun_bench_shows(WHOLE(request_sha1), ELEMENTS(request_types)))
 TIMED(parse_whole, sink += stun_bench_parse(WHOLE(response_whole)))
-TIMED(look_up_whole, sink += stun_bench_look_up(WHOLE(response_whole)))
+TIMED(look_up_whole, sink += stun_bench_shows(WHOLE(response_whole), ELEMENTS(whole_types)))
 TIMED(read_whole, sink += stun_bench_read(WHOLE(response_whole), &told, &fingerprint))
 TIMED(key_alone, sink += stun_bench_validate_sha1(KEY, response_sha1, 0).known)
 TIMED(validate_response_sha1, sink += stun_bench_validate_sha1(KEY, WHOLE(response_sha1)).holds)
@@ -206,7 +201,6 @@ TIMED(mark_lent_sha1, sink += stun_bench_mark_lent_sha1(KEY, RESPONSE))
 TIMED(sign_sha256, sink += stun_bench_sign_sha256(KEY, RESPONSE))
 TIMED(build_request, sink += stun_bench_build_request(REQUEST))
 TIMED(sign_request_sha1, sink += stun_bench_sign_request_sha1(KEY, REQUEST))
-TIMED(sign_request_sha256, sink += stun_bench_sign_request_sha256(KEY, REQUEST))
 TIMED(fingerprint_response, sink += stun_bench_fingerprint(COVERED(response_whole)))
 TIMED(fingerprint_request, sink += stun_bench_fingerprint(COVERED(request_whole)))
 TIMED(parse_channel, sink += stun_bench_parse_channel(stream, FRAME_SIZE))
@@ -235,7 +229,7 @@ enum {
     LOOK_UP_REQUEST, PARSE_WHOLE, LOOK_UP_WHOLE, READ_WHOLE, KEY_ALONE, VALIDATE_RESPONSE_SHA1,
     VALIDATE_WHOLE_SHA1, VALIDATE_REQUEST_SHA1, VALIDATE_RESPONSE_SHA256, VALIDATE_REQUEST_SHA256,
     BUILD, BUILD_LENT, SIGN_SHA1, MARK_SHA1, MARK_LENT_SHA1, SIGN_SHA256, BUILD_REQUEST,
-    SIGN_REQUEST_SHA1, SIGN_REQUEST_SHA256, FINGERPRINT_RESPONSE, FINGERPRINT_REQUEST,
+    SIGN_REQUEST_SHA1, FINGERPRINT_RESPONSE, FINGERPRINT_REQUEST,
     PARSE_CHANNEL, WRITE_CHANNEL, FEED_FEW, FEED_MORE, SMALL_ROWS,
     ADD_1 = SMALL_ROWS, ADD_18, ADD_899, ADD_1100, PARSE_UNKNOWNS, CHECK_UNKNOWNS, FEED_MANY,
     FEED_MOST, FEED_BYTES, ROWS
@@ -268,7 +262,6 @@ static const struct row rows[ROWS] = {
     [SIGN_SHA256] = {"key, build and sign response, SHA-256", sign_sha256, 16},
     [BUILD_REQUEST] = {"build request", build_request, 64},
     [SIGN_REQUEST_SHA1] = {"key, build and sign request, SHA-1", sign_request_sha1, 16},
-    [SIGN_REQUEST_SHA256] = {"key, build and sign request, SHA-256", sign_request_sha256, 16},
     [FINGERPRINT_RESPONSE] = {"FINGERPRINT of the response, over 92 bytes", fingerprint_response,
                               128},
     [FINGERPRINT_REQUEST] = {"FINGERPRINT of the request, over 116 bytes", fingerprint_request,
@@ -372,8 +365,8 @@ static void check_reading(void) {
     must(stun_bench_shows(WHOLE(request_sha1), ELEMENTS(request_types)), "look-ups");
     must(stun_bench_shows(WHOLE(response_sha256), ELEMENTS(response_types)), "look-ups");
     must(!stun_bench_shows(WHOLE(response_sha1), ELEMENTS(response_types)), "no SHA-256");
-    must(stun_bench_look_up(WHOLE(response_whole)), "look-ups");
-    must(!stun_bench_look_up(WHOLE(response_sha1)), "no FINGERPRINT");
+    must(stun_bench_shows(WHOLE(response_whole), ELEMENTS(whole_types)), "look-ups");
+    must(!stun_bench_shows(WHOLE(response_sha1), ELEMENTS(whole_types)), "no FINGERPRINT");
     must(stun_bench_read(WHOLE(response_whole), &told, &fingerprint), "read");
     must(fingerprint, "FINGERPRINT is shown");
 }
@@ -398,7 +391,6 @@ static void check_writing(void) {
          "FINGERPRINT of the response");
     must_be(stun_bench_build_request(REQUEST), WHOLE(request_unsigned), "build");
     must_be(stun_bench_sign_request_sha1(KEY, REQUEST), WHOLE(request_sha1), "sign, SHA-1");
-    must_be(stun_bench_sign_request_sha256(KEY, REQUEST), WHOLE(request_sha256), "sign, SHA-256");
     must(stun_bench_fingerprint(COVERED(request_whole)) ==
              number_at(request_whole + sizeof request_whole - sizeof(uint32_t)),
          "FINGERPRINT of the request");
@@ -566,8 +558,6 @@ static void tell_integrity(void) {
     tell("validate the request, SHA-256", NO_BOUND, under_key(VALIDATE_REQUEST_SHA256) / sha256);
     tell("sign the response, SHA-256", NO_BOUND,
          (under_key(SIGN_SHA256) - least[BUILD]) / sha256);
-    tell("sign the request, SHA-256", NO_BOUND,
-         (under_key(SIGN_REQUEST_SHA256) - least[BUILD_REQUEST]) / sha256);
 }
 
 static void tell_reading(void) {
@@ -627,8 +617,7 @@ static void tell_allocations(void) {
                                            PARSE_CHANNEL, WRITE_CHANNEL};
     static const unsigned signed_slices[] = {MARK_LENT_SHA1};
     static const unsigned into_vectors[] = {BUILD, BUILD_REQUEST};
-    static const unsigned signed_vectors[] = {SIGN_SHA1, MARK_SHA1, SIGN_SHA256, SIGN_REQUEST_SHA1,
-                                              SIGN_REQUEST_SHA256};
+    static const unsigned signed_vectors[] = {SIGN_SHA1, MARK_SHA1, SIGN_SHA256, SIGN_REQUEST_SHA1};
     tell("allocations of parse and look-ups", 0, most_taken(ELEMENTS(reading)));
     tell("of a key and a validation under it", 0, most_taken(ELEMENTS(validation)));
     tell("of FINGERPRINT", 0, most_taken(ELEMENTS(marks)));

@@ -1,0 +1,71 @@
+#!/usr/bin/env python3
+"""Measures what `turn-replay` keeps for each line of a trace, and of answers.
+
+It runs the program that `rt run` or `rt ci` built in `crates/turn_replay/out`, on traces of the longest
+kinds: 1,000,000 `draw` lines, of which each but the first is answered `none`; and answers that no line
+names, beside as many that a line names. What a process held at most is told by the system; what it holds
+of as many bytes that are one remark is taken off. More than 40 bytes a line, or more than 40 bytes for an
+answer that no line names, are a missed bound, and so is an answer that is named and takes nothing. It
+ends with 1 where a bound is missed.
+"""
+
+import os
+import subprocess
+import sys
+import tempfile
+from pathlib import Path
+
+TOP = Path(__file__).resolve().parent.parent
+PROGRAM = TOP / "crates/turn_replay/out/turn_replay"
+SETUP = (
+    "desk realm sha1 auto\n"
+    "user user pass\n"
+    "client udp 192.168.0.1:1000 10.0.0.2:2000 udp 4 sha1 auto user pass 0\n"
+)
+MOST = 40
+LINES = 1_000_000
+ANSWERS = 100_000
+
+
+def held(trace, status=0):
+    """How many bytes the program held at most on this trace, which ends with this status."""
+    with tempfile.TemporaryFile() as given:
+        given.write(trace.encode())
+        given.seek(0)
+        child = subprocess.Popen([PROGRAM], stdin=given, stdout=subprocess.DEVNULL)
+        _, ended, usage = os.wait4(child.pid, 0)
+    if os.waitstatus_to_exitcode(ended) != status:
+        sys.exit(f"the program ended with {os.waitstatus_to_exitcode(ended)} where {status} was due")
+    return usage.ru_maxrss * 1024
+
+
+def beside_a_remark(trace):
+    """The same, beside what it holds of one remark of as many bytes."""
+    setup = len(SETUP)
+    return held(trace) - held(SETUP + "#" * (len(trace) - setup))
+
+
+def told(name, bytes_each, is_met):
+    print(f"{name}: {bytes_each:.1f} bytes{'' if is_met else ', A MISSED BOUND'}")
+    return is_met
+
+
+def main():
+    if not PROGRAM.exists():
+        sys.exit(f"{PROGRAM} is not there: `rt run` in crates/turn_replay builds it")
+    each = beside_a_remark(SETUP + "draw 0\n" * LINES) / LINES
+    good = told("a `draw` line that is answered `none`", each, each <= MOST)
+    # A desk answers each request of no user with a challenge of some 100 bytes.
+    ask = "todesk 0 192.168.0.1:1000 @1 0 refuse 400\n"
+    asked = SETUP + "draw 0\n" + ask * ANSWERS
+    unnamed = beside_a_remark(asked) / ANSWERS
+    good &= told("an answer that no line names", unnamed, unnamed <= MOST)
+    words = "+".join(f"@{number}:0:1" for number in range(2, ANSWERS + 2))
+    naming = f"toclient 0 10.0.0.2:2000 192.168.0.1:1000 {words}\n"
+    named = (held(asked + naming) - held(asked + "#" * len(naming))) / ANSWERS
+    good &= told("an answer that a later line names", named, named > unnamed)
+    return 0 if good else 1
+
+
+if __name__ == "__main__":
+    sys.exit(main())
