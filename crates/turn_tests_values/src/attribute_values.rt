@@ -1,14 +1,13 @@
 //! Attributes as they are made, written, read back and refused. Samples are worked by hand; the hashes of
 //! names are those of Python's hashlib and of RFC 8489, appendix B.1.
 
-use crate::kept::{is_kept, is_made, is_read_as};
 use hex::FromHex;
 use std::alloc::Global;
 use std::convert::TryFrom;
 use std::process::Abort;
 use std::test::Fail;
 use stun_types::attribute::{
-    AlternateDomain, AlternateServer, AttributeFromRaw, AttributeType, Fingerprint,
+    AlternateDomain, AlternateServer, AttributeFromRaw, AttributeType, AttributeWrite, Fingerprint,
     MessageIntegrity, MessageIntegritySha256, PasswordAlgorithm, PasswordAlgorithmValue,
     PasswordAlgorithms, RawAttribute, Software, UnknownAttributes, Userhash,
 };
@@ -21,16 +20,55 @@ const MD5: PasswordAlgorithmValue = PasswordAlgorithmValue::MD5;
 
 const SHA256: PasswordAlgorithmValue = PasswordAlgorithmValue::SHA256;
 
+/// What an attribute is in bytes, in hex: header, value and padding. What lies behind them stays as it
+/// was. As a raw one it is the same.
+fn is_in_bytes<A: AttributeWrite>(
+    rt: &(impl Abort + AllocGlobal),
+    attribute: &A,
+    expected: &str,
+) -> Result<(), Fail> {
+    let expected = hex::decode(rt.alloc(), expected)?;
+    let mut written = [9; 48];
+    let size = attribute.write_into(&mut written)?;
+    let mut again = [9; 48];
+    attribute.to_raw(rt.alloc())?.write_into(&mut again)?;
+    assert_eq!(rt; &written[..size], expected.as_slice());
+    assert!(rt;
+        again == written && written.get(size) == Some(&9),
+        "{expected:?}"
+    );
+    Ok(())
+}
+
+/// An attribute is this in bytes, and what is read of it is so too.
+pub(crate) fn is_read_back<'a, A: AttributeWrite + AttributeFromRaw<'a> + Drop>(
+    rt: &(impl Abort + AllocGlobal),
+    attribute: &A,
+    expected: &str,
+) -> Result<(), Fail> {
+    is_in_bytes(rt, attribute, expected)?;
+    let read = written_and_read(rt.alloc(), attribute)?;
+    is_in_bytes(rt, &read, expected)
+}
+
+/// What is read of a raw attribute is this in bytes: what is not looked at is zero.
+pub(crate) fn is_read_as<
+    'a,
+    A: AttributeWrite + AttributeFromRaw<'a> + Drop,
+    R: Abort + AllocGlobal,
+>(rt: &R, raw: &'a [u8], expected: &str) -> Result<(), Fail> {
+    let read = A::from_raw(rt.alloc(), RawAttribute::from_bytes(raw)?)?;
+    is_in_bytes(rt, &read, expected)
+}
+
 /// What texts, addresses and numbers are in bytes.
 fn texts_and_numbers_in_bytes(rt: &(impl Abort + AllocGlobal)) -> Result<(), Fail> {
-    is_made(rt, Software::new(rt.alloc(), "desk"), "802200046465736b")?;
-    is_made(
-        rt,
-        AlternateDomain::new(rt.alloc(), "a.b"),
-        "80030003612e6200",
-    )?;
+    let software = Software::new(rt.alloc(), "desk")?;
+    is_read_back(rt, &software, "802200046465736b")?;
+    let domain = AlternateDomain::new(rt.alloc(), "a.b")?;
+    is_read_back(rt, &domain, "80030003612e6200")?;
     let server = AlternateServer::new("10.0.0.2:2000".parse()?);
-    is_kept(rt, &server, "80230008000107d00a000002")?;
+    is_read_back(rt, &server, "80230008000107d00a000002")?;
     let number = TransactionId::from(0xade0_b876_903d_f1a0_e56a_5d40u128);
     for (addr, expected) in [
         ("203.0.113.5:50000", "001600080001e242ea12d547"),
@@ -39,11 +77,12 @@ fn texts_and_numbers_in_bytes(rt: &(impl Abort + AllocGlobal)) -> Result<(), Fai
             "001600140002bd522112a442ade0b876903df1a0e56a5d41",
         ),
     ] {
-        is_kept(rt, &XorRelayedAddress::new(addr.parse()?, number), expected)?;
+        let relayed = XorRelayedAddress::new(addr.parse()?, number);
+        is_read_back(rt, &relayed, expected)?;
     }
-    is_kept(rt, &Lifetime::new(600), "000d000400000258")?;
+    is_read_back(rt, &Lifetime::new(600), "000d000400000258")?;
     let transport = RequestedTransport::new(RequestedTransport::TCP);
-    is_kept(rt, &transport, "0019000406000000")
+    is_read_back(rt, &transport, "0019000406000000")
 }
 
 #[test]
@@ -54,48 +93,20 @@ fn attributes_in_bytes_and_back(rt: HostRuntime) -> Result<(), Fail> {
     raw_ones_are_read(&rt)
 }
 
-/// A list of unknown types is in bytes what it is to be, before one is added and then; and so it tells
-/// whether two types are among them. A type that is there is not added.
-fn is_added(rt: &(impl Abort + AllocGlobal), unknown: &mut UnknownAttributes) -> Result<(), Fail> {
-    is_kept(rt, unknown, "000a000200170000")?;
-    let before = has(unknown, [0x0017, 0x1700]);
-    unknown.add_attribute(AttributeType(0x0017))?;
-    unknown.add_attribute(AttributeType(0x1700))?;
-    let told = [before, has(unknown, [0x0017, 0x1700])];
-    assert_eq!(rt; told, [[true, false], [true, true]]);
-    is_kept(rt, unknown, "000a000400171700")
-}
-
-/// A hundred types are added to none, each twice.
-fn are_added_once(rt: &impl Abort, types: &mut UnknownAttributes) -> Result<(), Fail> {
-    for value in (0..100).chain(0..100) {
-        types.add_attribute(AttributeType(value))?;
-    }
-    assert_eq!(rt;
-        (types.length(), has(types, [99, 100])),
-        (200, [true, false])
-    );
-    Ok(())
-}
-
 #[test]
 fn unknown_types_are_added(rt: HostRuntime) -> Result<(), Fail> {
-    match UnknownAttributes::new(rt.alloc(), &[AttributeType(0x0017)]) {
-        Ok(mut unknown) => {
-            let done = is_added(&rt, &mut unknown);
-            drop(unknown);
-            done?;
-        }
-        Err(error) => return Err(Fail::from(error)),
-    }
-    match UnknownAttributes::new(rt.alloc(), &[]) {
-        Ok(mut types) => {
-            let done = are_added_once(&rt, &mut types);
-            drop(types);
-            done
-        }
-        Err(error) => Err(Fail::from(error)),
-    }
+    let mut unknown = UnknownAttributes::new(rt.alloc(), &[AttributeType(0x0017)])?;
+    is_read_back(&rt, &unknown, "000a000200170000")?;
+    let before = has(&unknown, [0x0017, 0x1700]);
+    // a type that is there is not added
+    unknown.add_attribute(AttributeType(0x0017))?;
+    unknown.add_attribute(AttributeType(0x1700))?;
+    is_read_back(&rt, &unknown, "000a000400171700")?;
+    assert_eq!(rt;
+        [before, has(&unknown, [0x0017, 0x1700])],
+        [[true, false], [true, true]]
+    );
+    Ok(())
 }
 
 /// Whether types are among the unknown ones.
@@ -133,84 +144,42 @@ const HASHES: [(&str, &str, &str); 2] = [
     ),
 ];
 
-/// An algorithm has a name and an HMAC, and is this in bytes.
-fn is_algorithm(
-    rt: &(impl Abort + AllocGlobal),
-    algorithm: PasswordAlgorithmValue,
-    (name, integrity): (&str, IntegrityAlgorithm),
-    expected: &str,
-) -> Result<(), Fail> {
-    let told = format!(in rt.alloc(); "{algorithm}")?;
-    assert_eq!(rt;
-        (told.as_str(), algorithm.as_integrity()),
-        (name, integrity)
-    );
-    is_kept(rt, &PasswordAlgorithm::new(algorithm), expected)
-}
-
-/// A list of algorithms is read as it was made and written, or that is refused for this cause.
-fn is_read(
-    rt: &(impl Abort + AllocGlobal),
-    algorithms: &[PasswordAlgorithmValue],
-    refused: Option<StunParseError>,
-) {
-    let told = match read_back(rt.alloc(), algorithms) {
-        Ok(read) => {
-            let is_same = read.algorithms() == algorithms;
-            drop(read);
-            (is_same, None)
-        }
-        Err(error) => (false, Some(error)),
-    };
-    assert_eq!(rt; told, (refused.is_none(), refused));
-}
-
-/// What the two attributes of password algorithms are in bytes.
+/// What the two attributes of password algorithms are in bytes, and the names of algorithms.
 fn algorithms_in_bytes(rt: &(impl Abort + AllocGlobal)) -> Result<(), Fail> {
     let (sha1, sha256) = (IntegrityAlgorithm::Sha1, IntegrityAlgorithm::Sha256);
-    is_algorithm(rt, MD5, ("MD5", sha1), "001d000400010000")?;
-    is_algorithm(rt, SHA256, ("SHA256", sha256), "001d000400020000")?;
-    let both = PasswordAlgorithms::new(rt.alloc(), &[SHA256, MD5]);
-    is_made(rt, both, "800200080002000000010000")?;
-    is_read(rt, &[MD5; 8], None);
-    // a list of no algorithms is made and written, and is not read
-    let (expected, actual) = (4, 0);
-    is_read(
-        rt,
-        &[],
-        Some(StunParseError::Truncated { expected, actual }),
-    );
-    Ok(())
-}
-
-/// What is read of a list of algorithms that is made and written.
-fn read_back(
-    alloc: Global,
-    algorithms: &[PasswordAlgorithmValue],
-) -> Result<PasswordAlgorithms, StunParseError> {
-    match PasswordAlgorithms::new(alloc, algorithms) {
-        Ok(list) => {
-            let read = written_and_read(alloc, &list);
-            drop(list);
-            read
-        }
-        Err(_) => Err(StunParseError::NotStun),
+    for (algorithm, name, integrity, expected) in [
+        (MD5, "MD5", sha1, "001d000400010000"),
+        (SHA256, "SHA256", sha256, "001d000400020000"),
+    ] {
+        let told = format!(in rt.alloc(); "{algorithm}")?;
+        assert!(rt;
+            told.as_str() == name && algorithm.as_integrity() == integrity,
+            "{name}"
+        );
+        is_read_back(rt, &PasswordAlgorithm::new(algorithm), expected)?;
     }
+    let both = PasswordAlgorithms::new(rt.alloc(), &[SHA256, MD5])?;
+    is_read_back(rt, &both, "800200080002000000010000")?;
+    let eight = PasswordAlgorithms::new(rt.alloc(), &[MD5; 8])?;
+    let read = written_and_read(rt.alloc(), &eight)?;
+    assert!(rt; read.algorithms() == [MD5; 8].as_slice());
+    Ok(())
 }
 
 /// What USERHASH and the attributes of digests are in bytes.
 fn digests_in_bytes(rt: &(impl Abort + AllocGlobal)) -> Result<(), Fail> {
     for (name, realm, expected) in HASHES {
-        is_kept(rt, &Userhash::new(Userhash::compute(name, realm)), expected)?;
+        let user = Userhash::new(Userhash::compute(name, realm));
+        is_read_back(rt, &user, expected)?;
     }
     let fingerprint = Fingerprint::new(Fingerprint::compute(&[99; 4]));
-    is_kept(rt, &fingerprint, "802800048b79af40")?;
+    is_read_back(rt, &fingerprint, "802800048b79af40")?;
     let hmac = <[u8; 32]>::from_hex(HMAC)?;
     for (len, expected) in FRONTS {
-        is_made(rt, MessageIntegritySha256::new(&hmac[..len]), expected)?;
+        is_read_back(rt, &MessageIntegritySha256::new(&hmac[..len])?, expected)?;
     }
     let ones = MessageIntegrity::new([0x11; 20]);
-    is_kept(
+    is_read_back(
         rt,
         &ones,
         "000800141111111111111111111111111111111111111111",
@@ -269,22 +238,16 @@ const RAW: [&str; 14] = [
     "000900140000000000000000000000000000000000000000",
 ];
 
-/// A raw attribute, given in hex, is of the type of this place, or of none.
-fn is_of_one_type(rt: &(impl Abort + AllocGlobal), place: usize, bytes: &[u8]) -> Result<(), Fail> {
-    let raw = RawAttribute::from_bytes(bytes)?;
-    let mut expected = [WRONG; 13];
-    if let Some(of_this_type) = expected.get_mut(place) {
-        *of_this_type = None;
-    }
-    assert_eq!(rt; refusals(rt.alloc(), &raw), expected, "{bytes:?}");
-    Ok(())
-}
-
 #[test]
 fn raw_attributes_are_of_one_type(rt: HostRuntime) -> Result<(), Fail> {
     for (place, row) in RAW.iter().enumerate() {
         let bytes = hex::decode(rt.alloc(), *row)?;
-        is_of_one_type(&rt, place, bytes.as_slice())?;
+        let raw = RawAttribute::from_bytes(bytes.as_slice())?;
+        let mut expected = [WRONG; 13];
+        if let Some(of_this_type) = expected.get_mut(place) {
+            *of_this_type = None;
+        }
+        assert_eq!(rt; refusals(rt.alloc(), &raw), expected, "{row}");
     }
     Ok(())
 }
@@ -293,49 +256,40 @@ const fn over(expected: usize, actual: usize) -> Option<StunWriteError> {
     Some(StunWriteError::TooLarge { expected, actual })
 }
 
+#[test]
+fn types_are_added_once(rt: HostRuntime) -> Result<(), Fail> {
+    let mut types = UnknownAttributes::new(rt.alloc(), &[])?;
+    for value in (0..100).chain(0..100) {
+        types.add_attribute(AttributeType(value))?;
+    }
+    assert_eq!(rt;
+        (types.length(), has(&types, [99, 100])),
+        (200, [true, false])
+    );
+    Ok(())
+}
+
 const TOO_SMALL: StunWriteError = StunWriteError::TooSmall {
     expected: 16,
     actual: 15,
 };
 
-/// The longest list of unknown types takes the type that is there, and no other.
-fn most_are_full(rt: &impl Abort, most: &mut UnknownAttributes) -> Result<(), Fail> {
-    most.add_attribute(AttributeType(1))?;
-    let added = most.add_attribute(AttributeType(2)).err();
-    let told = (added, has(most, [1, 2]));
-    assert_eq!(rt; told, (over(65_535, 65_536), [true, false]));
-    Ok(())
-}
-
-/// So many unknown types are listed, or that is refused for this cause.
-fn is_listed(
-    rt: &(impl Abort + AllocGlobal),
-    count: usize,
-    refused: Option<StunWriteError>,
-) -> Result<(), Fail> {
-    let mut types = Vec::new(rt.alloc());
-    types.resize(count, AttributeType(1))?;
-    match UnknownAttributes::new(rt.alloc(), types.as_slice()) {
-        Ok(mut most) => {
-            assert_eq!(rt; None, refused);
-            let done = most_are_full(rt, &mut most);
-            drop(most);
-            done
-        }
-        Err(error) => {
-            assert_eq!(rt; Some(error), refused);
-            Ok(())
-        }
-    }
-}
-
 #[test]
 fn values_over_their_limits(rt: HostRuntime) -> Result<(), Fail> {
-    is_listed(&rt, 32_767, None)?;
-    is_listed(&rt, 32_768, over(65_535, 65_536))?;
+    let mut types = Vec::new(rt.alloc());
+    types.resize(32_767, AttributeType(1))?;
+    let mut most = UnknownAttributes::new(rt.alloc(), types.as_slice())?;
+    most.add_attribute(AttributeType(1))?;
+    let added = most.add_attribute(AttributeType(2)).err();
+    assert_eq!(rt;
+        (added, has(&most, [1, 2])),
+        (over(65_535, 65_536), [true, false])
+    );
+    types.push(AttributeType(1))?;
     let letters = [b'a'; 764];
     let text = str::from_utf8(&letters)?;
     let refused = [
+        UnknownAttributes::new(rt.alloc(), types.as_slice()).err(),
         Software::new(rt.alloc(), text).err(),
         AlternateDomain::new(rt.alloc(), &text[..256]).err(),
         PasswordAlgorithms::new(rt.alloc(), &[MD5; 9]).err(),
@@ -344,6 +298,7 @@ fn values_over_their_limits(rt: HostRuntime) -> Result<(), Fail> {
         MessageIntegritySha256::new(&letters[..15]).err(),
     ];
     let expected = [
+        over(65_535, 65_536),
         over(763, 764),
         over(255, 256),
         over(32, 36),
@@ -352,5 +307,17 @@ fn values_over_their_limits(rt: HostRuntime) -> Result<(), Fail> {
         Some(TOO_SMALL),
     ];
     assert_eq!(rt; refused, expected);
+    Ok(())
+}
+
+/// A list of no algorithms is made and written, and is not read.
+#[test]
+fn no_algorithms_are_not_read(rt: HostRuntime) -> Result<(), Fail> {
+    let none = PasswordAlgorithms::new(rt.alloc(), &[])?;
+    let truncated = StunParseError::Truncated {
+        expected: 4,
+        actual: 0,
+    };
+    assert_eq!(rt; written_and_read(rt.alloc(), &none).err(), Some(truncated));
     Ok(())
 }

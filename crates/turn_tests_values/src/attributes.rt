@@ -2,7 +2,6 @@
 
 ghost use Rattle.std.specs.Prelude.{◌<◌, ◌^◌, length};
 
-use crate::kept::{is_kept, is_made, is_raw, is_read_as};
 use std::alloc::Global;
 use std::boxed::BoxedSlice;
 use std::convert::TryFrom;
@@ -14,45 +13,36 @@ use stun_types::attribute::{
     AttributeHeader, AttributeType, ErrorCode, MappedSocketAddr, Nonce, RawAttribute, Realm,
     Username, XorMappedAddress, XorSocketAddr, pad_attribute_len,
 };
+use stun_types::laws::written_and_read;
 use stun_types::message::{StunParseError, StunWriteError, TransactionId};
 use stun_types::prelude::{AttributeFromRaw, AttributeWrite};
 
-/// A raw attribute of this type and value is these bytes: read, as one that owns its value, and made.
-fn is_type_and_value(
+/// A raw attribute of this type and value is these bytes, given in hex.
+fn is_raw(
     rt: &(impl Abort + AllocGlobal),
     atype: AttributeType,
     value: &[u8],
-    bytes: &[u8],
+    text: &str,
 ) -> Result<(), Fail>
     requires { length value.now < 2 ^ 16 }
 {
-    let raw = RawAttribute::from_bytes(bytes)?;
-    let told = [
-        raw.get_type() == atype,
-        raw.value() == value,
-        is_raw(rt.alloc(), &raw, bytes),
-    ];
-    assert_eq!(rt; told, [true; 3], "{bytes:?}");
+    let bytes = hex::decode(rt.alloc(), text)?;
+    let raw = RawAttribute::from_bytes(bytes.as_slice())?;
+    assert!(rt; raw.get_type() == atype && raw.value() == value, "{text}");
+    assert!(rt; raw.to_bytes(rt.alloc())? == bytes, "{text}");
+    let owned = raw.into_owned(rt.alloc())?;
+    assert!(rt; owned.to_bytes(rt.alloc())? == bytes, "{text}");
     let made = RawAttribute::new_owned(atype, BoxedSlice::from_slice(rt.alloc(), value)?);
-    let is_made = is_raw(rt.alloc(), &made, bytes);
-    drop(made);
-    match raw.into_owned(rt.alloc()) {
-        Ok(owned) => {
-            let told = [is_raw(rt.alloc(), &owned, bytes), is_made];
-            drop(owned);
-            assert_eq!(rt; told, [true; 2], "{bytes:?}");
-            Ok(())
-        }
-        Err(error) => Err(Fail::from(error)),
-    }
+    assert!(rt; made.to_bytes(rt.alloc())? == bytes, "{text}");
+    Ok(())
 }
 
 #[test]
 fn raw_attributes(rt: HostRuntime) -> Result<(), Fail> {
     let (right, other) = (AttributeType(0x001D), AttributeType(0x0006));
+    is_raw(&rt, right, &[0, 2, 0, 0], "001d000400020000")?;
+    is_raw(&rt, other, &[1], "0006000101000000")?;
     let bytes = [0, 0x1D, 0, 4, 0, 2, 0, 0];
-    is_type_and_value(&rt, right, &[0, 2, 0, 0], &bytes)?;
-    is_type_and_value(&rt, other, &[1], &[0, 6, 0, 1, 1, 0, 0, 0])?;
     let header = AttributeHeader::try_from(&bytes[..])?;
     assert_eq!(rt; (header.get_type(), header.length()), (right, 4));
     assert_eq!(rt; <[u8; 4]>::from(header), [0, 0x1D, 0, 4]);
@@ -102,55 +92,69 @@ fn truncated(expected: usize, actual: usize) -> StunParseError {
     StunParseError::Truncated { expected, actual }
 }
 
-/// Errors have these codes and reasons, and are this in bytes. Bits that are reserved are not looked at, and
-/// are written as zeros.
-fn errors_in_bytes(rt: &(impl Abort + AllocGlobal)) -> Result<(), Fail> {
-    let forbidden = ErrorCode::builder(ErrorCode::FORBIDDEN).build(rt.alloc());
-    is_code(
-        rt,
-        forbidden,
-        (403, "Forbidden"),
-        "0009000d00000403466f7262696464656e000000",
-    )?;
-    let odd = ErrorCode::builder(699).reason("odd").build(rt.alloc());
-    is_code(rt, odd, (699, "odd"), "00090007000006636f646400")?;
-    assert_eq!(rt; ErrorCode::default_reason_for_code(699), "Unknown");
-    let reserved = b"\0\x09\0\x04\xff\xff\x06\x63";
-    is_read_as::<ErrorCode, _>(rt, reserved, "0009000400000663")
-}
-
-/// An error that is made has this code and this reason, and is this in bytes.
-fn is_code(
+/// An attribute is written as these bytes, given in hex, into no fewer of them, and is read back as
+/// one that is written the same.
+fn is_kept<'a, A: AttributeWrite + AttributeFromRaw<'a> + Drop>(
     rt: &(impl Abort + AllocGlobal),
-    made: Result<ErrorCode, StunWriteError>,
-    expected: (u16, &str),
+    attribute: &A,
     text: &str,
 ) -> Result<(), Fail> {
-    match made {
-        Ok(error) => {
-            assert_eq!(rt; (error.code(), error.reason()), expected);
-            let done = is_kept(rt, &error, text);
-            drop(error);
-            done
-        }
-        Err(error) => Err(Fail::from(error)),
-    }
+    let bytes = hex::decode(rt.alloc(), text)?;
+    let expected = bytes.len();
+    let read = written_and_read(rt.alloc(), attribute)?;
+    let written = attribute.to_raw(rt.alloc())?.to_bytes(rt.alloc())?;
+    let again = read.to_raw(rt.alloc())?.to_bytes(rt.alloc())?;
+    assert!(rt;
+        written == bytes && again == bytes,
+        "{text} {written:?} {again:?}"
+    );
+    let mut room = Vec::new(rt.alloc());
+    room.resize(expected.saturating_sub(1), 9)?;
+    let (before, actual) = (room.as_slice().to_vec(rt.alloc())?, room.len());
+    let refused = Err(StunWriteError::TooSmall { expected, actual });
+    assert_eq!(rt; attribute.write_into(room.as_mut_slice()), refused);
+    assert!(rt; room == before);
+    room.resize(expected.saturating_add(1), 9)?;
+    assert_eq!(rt;
+        attribute.write_into(room.as_mut_slice()),
+        Ok(attribute.padded_len())
+    );
+    assert!(rt; room.as_slice().starts_with(bytes.as_slice()) && room.as_slice().ends_with(&[9]));
+    let (mut header, expected, actual) = ([9; 4], 4, 3);
+    let refused = Err(StunWriteError::TooSmall { expected, actual });
+    assert_eq!(rt; attribute.write_header(&mut header[..3]), refused);
+    assert_eq!(rt; attribute.write_header(&mut header), Ok(4));
+    assert!(rt; bytes.as_slice().starts_with(&header));
+    Ok(())
 }
 
 #[test]
 fn typed_attributes(rt: HostRuntime) -> Result<(), Fail> {
-    is_made(&rt, Username::new(rt.alloc(), "user"), "0006000475736572")?;
-    is_made(
+    let alloc = rt.alloc();
+    is_kept(&rt, &Username::new(alloc, "user")?, "0006000475736572")?;
+    is_kept(
         &rt,
-        Realm::new(rt.alloc(), "realm"),
+        &Realm::new(alloc, "realm")?,
         "001400057265616c6d000000",
     )?;
-    is_made(
+    is_kept(
         &rt,
-        Nonce::new(rt.alloc(), "nonce"),
+        &Nonce::new(alloc, "nonce")?,
         "001500056e6f6e6365000000",
     )?;
-    errors_in_bytes(&rt)
+    let error = ErrorCode::builder(ErrorCode::FORBIDDEN).build(alloc)?;
+    is_kept(&rt, &error, "0009000d00000403466f7262696464656e000000")?;
+    assert_eq!(rt; (error.code(), error.reason()), (403, "Forbidden"));
+    let error = ErrorCode::builder(699).reason("odd").build(alloc)?;
+    is_kept(&rt, &error, "00090007000006636f646400")?;
+    assert_eq!(rt; ErrorCode::default_reason_for_code(699), "Unknown");
+    // bits that are reserved are not looked at, and are written as zeros
+    let reserved = RawAttribute::new(AttributeType(0x0009), &[0xFF, 0xFF, 6, 99]);
+    is_kept(
+        &rt,
+        &ErrorCode::from_raw(alloc, reserved)?,
+        "0009000400000663",
+    )
 }
 
 /// An address is written so, xored, under a number, and is read back.

@@ -7,8 +7,6 @@ mod attribute_values;
 #[cfg(test)]
 mod attributes;
 #[cfg(test)]
-mod kept;
-#[cfg(test)]
 mod small_types;
 #[cfg(test)]
 mod texts;

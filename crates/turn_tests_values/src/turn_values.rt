@@ -1,6 +1,6 @@
 //! Attributes of TURN as they are written, read back and refused. Samples are worked by hand.
 
-use crate::kept::{is_kept, is_made, is_read_as};
+use crate::attribute_values::{is_read_as, is_read_back};
 use std::convert::TryFrom;
 use std::process::Abort;
 use std::test::Fail;
@@ -18,19 +18,19 @@ const NUMBER: u128 = 0xade0_b876_903d_f1a0_e56a_5d40;
 #[test]
 fn turn_attributes_in_bytes_and_back(rt: HostRuntime) -> Result<(), Fail> {
     let peer = XorPeerAddress::new("10.0.0.1:0".parse()?, TransactionId::from(NUMBER));
-    is_kept(&rt, &peer, "00120008000121122b12a443")?;
-    is_kept(&rt, &ChannelNumber::new(0x4000), "000c000440000000")?;
-    is_made(&rt, Data::new(rt.alloc(), b"hi"), "0013000268690000")?;
-    is_made(&rt, Data::new(rt.alloc(), b""), "00130000")?;
-    is_kept(&rt, &DontFragment::new(), "001a0000")?;
-    is_kept(&rt, &ConnectionId::new(7), "002a000400000007")?;
-    is_kept(&rt, &Icmp::new(3, 1, 5), "800400080000030100000005")?;
+    is_read_back(&rt, &peer, "00120008000121122b12a443")?;
+    is_read_back(&rt, &ChannelNumber::new(0x4000), "000c000440000000")?;
+    is_read_back(&rt, &Data::new(rt.alloc(), b"hi")?, "0013000268690000")?;
+    is_read_back(&rt, &Data::new(rt.alloc(), b"")?, "00130000")?;
+    is_read_back(&rt, &DontFragment::new(), "001a0000")?;
+    is_read_back(&rt, &ConnectionId::new(7), "002a000400000007")?;
+    is_read_back(&rt, &Icmp::new(3, 1, 5), "800400080000030100000005")?;
     for (family, of_requested, of_additional) in [
         (AddressFamily::IPV4, "0017000401000000", "8000000401000000"),
         (AddressFamily::IPV6, "0017000402000000", "8000000402000000"),
     ] {
-        is_kept(&rt, &RequestedAddressFamily::new(family), of_requested)?;
-        is_kept(&rt, &AdditionalAddressFamily::new(family), of_additional)?;
+        is_read_back(&rt, &RequestedAddressFamily::new(family), of_requested)?;
+        is_read_back(&rt, &AdditionalAddressFamily::new(family), of_additional)?;
     }
     Ok(())
 }
