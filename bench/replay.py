@@ -27,16 +27,30 @@ LINES = 1_000_000
 ANSWERS = 100_000
 
 
-def held(trace, status=0):
-    """How many bytes the program held at most on this trace, which ends with this status."""
-    with tempfile.TemporaryFile() as given:
+# Runs a program on a file, and prints its exit status and the most memory that it held, in kilobytes. That
+# of a process counts from the one that started it, so it is started by a small one.
+RUNNER = """
+import os, sys
+given = os.open(sys.argv[2], os.O_RDONLY)
+nowhere = os.open(os.devnull, os.O_WRONLY)
+moved = [(os.POSIX_SPAWN_DUP2, given, 0), (os.POSIX_SPAWN_DUP2, nowhere, 1)]
+child = os.posix_spawn(sys.argv[1], sys.argv[1:2], {}, file_actions=moved)
+_, ended, usage = os.wait4(child, 0)
+print(os.waitstatus_to_exitcode(ended), usage.ru_maxrss)
+"""
+
+
+def held(trace):
+    """How many bytes the program held at most on this trace, whose every line is done."""
+    with tempfile.NamedTemporaryFile() as given:
         given.write(trace.encode())
-        given.seek(0)
-        child = subprocess.Popen([PROGRAM], stdin=given, stdout=subprocess.DEVNULL)
-        _, ended, usage = os.wait4(child.pid, 0)
-    if os.waitstatus_to_exitcode(ended) != status:
-        sys.exit(f"the program ended with {os.waitstatus_to_exitcode(ended)} where {status} was due")
-    return usage.ru_maxrss * 1024
+        given.flush()
+        small = [sys.executable, "-I", "-S", "-c", RUNNER, PROGRAM, given.name]
+        told = subprocess.run(small, check=True, stdout=subprocess.PIPE, text=True).stdout
+    status, kilobytes = map(int, told.split())
+    if status != 0:
+        sys.exit(f"the program ended with {status} where 0 was due")
+    return kilobytes * 1024
 
 
 def beside_a_remark(trace):
