@@ -8,6 +8,7 @@ use Rattle.stun_types.specs.declared.transmit.Transmit.{Transmit}
 use Rattle.turn_client_proto_poll.specs.Api.declared.answer.TurnRecvRet.{TurnRecvRet}
 use Rattle.turn_client_proto_poll.specs.Api.declared.answer.TurnRecvRet.TheVariants.{NoMemory}
 use Rattle.turn_client_proto_poll.specs.Core.Ending.{HasFailed}
+use Rattle.turn_client_proto_poll.specs.Core.Receiving.{MayGrow}
 use Rattle.turn_client_proto_poll.specs.Core.declared.protocol.Protocol.{Protocol}
 use Rattle.turn_client_proto.specs.Receipts.{IsHandledAs, Lost, IsOfServer, IsRead, IsReceived, Heard, Own}
 use Rattle.turn_client_proto.specs.HandingIn.{IsHandedIn}
@@ -19,9 +20,9 @@ read_by (Some error) old bytes came now handled answer new unread told =
     (subst (λ (h : Bool). IsHandledAs came h answer) unread.0 told, unread.1)
 
 lost_by : {T : Type 0} (refused : Option StunParseError) (old : Protocol) (bytes : List ℕ) (came : Transmit T) (now : ℕ) (answer : TurnRecvRet T) (new : Protocol)
-    → refused ≡ None → HasFailed old new → answer ≡ NoMemory came → IsRead refused old bytes came now answer new
-lost_by None old bytes came now answer new is failed told = Lost told failed
-lost_by (Some error) old bytes came now answer new is failed told = absurd (Prim.cc is)
+    → refused ≡ None → MayGrow old bytes → HasFailed old new → answer ≡ NoMemory came → IsRead refused old bytes came now answer new
+lost_by None old bytes came now answer new is grows failed told = Lost told grows failed
+lost_by (Some error) old bytes came now answer new is grows failed told = absurd (Prim.cc is)
 
 own_by : (is : Bool) (P N : Type 0) → is ≡ true → MatchBool is P N → P
 own_by true P N same holds = holds
@@ -33,9 +34,9 @@ received items old came now own handled answer new N is server heard told =
     Own (own_by own (IsOfServer old came) N is server) (read_by (refusal (items came.bytes)) old (items came.bytes) came now handled answer new heard told)
 
 pub lost : {T : Type 0} (items : T → List ℕ) (old : Protocol) (came : Transmit T) (now : ℕ) (own : Bool) (answer : TurnRecvRet T) (new : Protocol) (N : Type 0)
-    → own ≡ true → MatchBool own (IsOfServer old came) N → (refusal (items came.bytes) ≡ None) × HasFailed old new → answer ≡ NoMemory came → IsReceived items old came now answer new
+    → own ≡ true → MatchBool own (IsOfServer old came) N → (refusal (items came.bytes) ≡ None) × MayGrow old (items came.bytes) × HasFailed old new → answer ≡ NoMemory came → IsReceived items old came now answer new
 lost items old came now own answer new N is server failed told =
-    Own (own_by own (IsOfServer old came) N is server) (lost_by (refusal (items came.bytes)) old (items came.bytes) came now answer new failed.0 failed.1 told)
+    Own (own_by own (IsOfServer old came) N is server) (lost_by (refusal (items came.bytes)) old (items came.bytes) came now answer new failed.0 failed.1 failed.2 told)
 
 -- by what the call on the bytes answered
 pub received_ok : {T E : Type 0} (items : T → List ℕ) (old inner : Protocol) (came : Transmit T) (slice : List ℕ) (now : ℕ) (own : Bool) (r : Result Bool E) (b : Bool) (answer : TurnRecvRet T) (new : Protocol) (N : Type 0)
@@ -48,8 +49,8 @@ received_ok {T} {E} items old inner came slice now own r b answer new N view byt
 
 pub received_err : {T E : Type 0} (items : T → List ℕ) (old inner : Protocol) (came : Transmit T) (slice : List ℕ) (now : ℕ) (own : Bool) (r : Result Bool E) (e : E) (answer : TurnRecvRet T) (new : Protocol) (N : Type 0)
     → inner ≡ old → slice ≡ items came.bytes → own ≡ true → MatchBool own (IsOfServer old came) N
-    → OnErr r ((refusal slice ≡ None) × HasFailed inner new) → r ≡ Err e → answer ≡ NoMemory came → IsReceived items old came now answer new
+    → OnErr r ((refusal slice ≡ None) × MayGrow inner slice × HasFailed inner new) → r ≡ Err e → answer ≡ NoMemory came → IsReceived items old came now answer new
 received_err {T} {E} items old inner came slice now own r e answer new N view bytes is server failed result told =
-    let one : (refusal slice ≡ None) × HasFailed inner new = subst (λ (x : Result Bool E). OnErr x ((refusal slice ≡ None) × HasFailed inner new)) result failed in
-    let two : (refusal slice ≡ None) × HasFailed old new = subst (λ (p : Protocol). (refusal slice ≡ None) × HasFailed p new) view one in
-    lost items old came now own answer new N is server (subst (λ (l : List ℕ). (refusal l ≡ None) × HasFailed old new) bytes two) told
+    let one : (refusal slice ≡ None) × MayGrow inner slice × HasFailed inner new = subst (λ (x : Result Bool E). OnErr x ((refusal slice ≡ None) × MayGrow inner slice × HasFailed inner new)) result failed in
+    let two : (refusal slice ≡ None) × MayGrow old slice × HasFailed old new = subst (λ (p : Protocol). (refusal slice ≡ None) × MayGrow p slice × HasFailed p new) view one in
+    lost items old came now own answer new N is server (subst (λ (l : List ℕ). (refusal l ≡ None) × MayGrow old l × HasFailed old new) bytes two) told

@@ -1,14 +1,12 @@
 -- What a client makes of a datagram (RFC 8489, section 6.2.1; RFC 8656, section 12.6).
-use Rattle.std.specs.Prelude.{◌≡◌, ℕ, Bool, true, false, ◌&&◌, List, Option, Some, None}
-use Rattle.std.specs.Bool.{MatchBool}
-use Rattle.std.specs.declared.net.socket_addr.SocketAddr.{SocketAddr}
+use Rattle.std.specs.Prelude.{◌≡◌, ℕ, Bool, true, false, List, Option, Some, None}
 use Rattle.stun_types.specs.Grammar.{refusal}
 use Rattle.stun_types.specs.ParseErrors.{StunParseError}
 use Rattle.stun_types.specs.declared.transmit.Transmit.{Transmit}
 use Rattle.turn_client_proto_poll.specs.Api.declared.answer.TurnRecvRet.{TurnRecvRet}
-use Rattle.turn_client_proto_poll.specs.Api.declared.answer.TurnRecvRet.TheVariants.{Handled, Ignored, PeerData, PeerIcmp, NoMemory}
+use Rattle.turn_client_proto_poll.specs.Api.declared.answer.TurnRecvRet.TheVariants.{Handled, Ignored, NoMemory}
 use Rattle.turn_client_proto_poll.specs.Core.Ending.{HasFailed}
-use Rattle.turn_client_proto_poll.specs.Core.Receiving.{IsHeard}
+use Rattle.turn_client_proto_poll.specs.Core.Receiving.{IsHeard, MayGrow}
 use Rattle.turn_client_proto_poll.specs.Core.declared.protocol.Protocol.{Protocol}
 
 -- a datagram that came from the server to the client's own address, by the client's transport
@@ -22,10 +20,11 @@ abbrev pub IsHandledAs : {T : Type 0} → Transmit T → Bool → TurnRecvRet T 
 IsHandledAs came true answer = answer ≡ Handled
 IsHandledAs came false answer = answer ≡ Ignored came
 
--- a message came, and the client is this afterwards; or memory was refused, and it has failed
+-- a message came, and the client is this afterwards; or the client had to grow by it and was refused memory, and has
+-- failed
 pub data IsMessageTaken {T : Type 0} (old : Protocol) (bytes : List ℕ) (came : Transmit T) (now : ℕ) (answer : TurnRecvRet T) (new : Protocol) : Type 0 where
   Heard : (handled : Bool) → IsHeard old bytes now handled new → IsHandledAs came handled answer → IsMessageTaken old bytes came now answer new
-  Lost : answer ≡ NoMemory came → HasFailed old new → IsMessageTaken old bytes came now answer new
+  Lost : answer ≡ NoMemory came → MayGrow old bytes → HasFailed old new → IsMessageTaken old bytes came now answer new
 
 -- nothing is made of it
 abbrev pub IsGivenBack : {T : Type 0} → Protocol → Transmit T → TurnRecvRet T → Protocol → Type 0

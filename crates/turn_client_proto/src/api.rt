@@ -1,9 +1,9 @@
 //! The settings of a client, the trait of its calls, and what they answer.
 
-ghost use Rattle.std.specs.Prelude.{◌≡◌, ◌++◌, ℕ, [], Err, Ok, None, IfNone, IfOk, OnErr, OnOk, option_to_list};
+ghost use Rattle.std.specs.Prelude.{◌≡◌, ◌≢◌, ◌++◌, ℕ, [], Err, Ok, None, IfNone, IfOk, OnErr, OnOk, option_to_list};
 ghost use Rattle.std.specs.Option.{option_map};
 ghost use Rattle.turn_client_proto_poll.specs.Core.Deleting.{IsDeleteAnswered};
-ghost use Rattle.turn_client_proto_poll.specs.Drawing.{IsDrawn, sent_of};
+ghost use Rattle.turn_client_proto_poll.specs.Drawing.{HasToSend, IsDrawn, sent_of};
 ghost use Rattle.turn_client_proto_poll.specs.Core.Ending.{HasFailed, ended};
 ghost use Rattle.turn_client_proto_poll.specs.Core.Permitting.{IsPermissionAnswered};
 ghost use Rattle.turn_client_proto_poll.specs.Polling.{IsPolled};
@@ -156,7 +156,10 @@ pub trait TurnClientApi: Debug + Send {
     /// Hands in a datagram that came at a moment. What didn't come from the server to the client's own
     /// address, by the client's transport, is given back as `Ignored`, and so is what is no message, or
     /// no message for the client. Where memory is refused, `NoMemory`, with the datagram: the client
-    /// has failed.
+    /// has failed. It is asked for where there is something to keep or to tell of a message:
+    /// `handle_message` of `turn_client_proto_core` has it. So a datagram of another host, bytes that are
+    /// no message, an indication, and any message that comes to a client that has sent nothing or has
+    /// ended are never answered so.
     fn recv<T: AsSlice<u8> + Debug + Drop>(
         &mut self,
         transmit: Transmit<T>,
@@ -164,15 +167,20 @@ pub trait TurnClientApi: Debug + Send {
     ) -> TurnRecvRet<T>
         ensures { IsReceived T.items (protocol self.old) transmit now result (protocol self.new) };
 
-    /// What is to be done at a moment: `poll` of `turn_client_proto_poll` has it.
+    /// What is to be done at a moment: `poll` of `turn_client_proto_poll` has it. Where memory is
+    /// refused, `NoMemory`, and the client has failed: it is asked for where no event waits and one is
+    /// to be told.
     fn poll(&mut self, now: Instant) -> TurnPollRet
         ensures { IsPolled (protocol self.old) now result (protocol self.new) };
 
-    /// What is to be sent at a moment: `poll_transmit` of `turn_client_proto_poll` has it.
+    /// What is to be sent at a moment: `poll_transmit` of `turn_client_proto_poll` has it. Where memory
+    /// is refused, `NoMemory`, and the client has failed: it is asked for where a request is sent again,
+    /// or is made.
     fn poll_transmit(&mut self, now: Instant) -> Result<Option<Transmit<Data<'static>>>, NoMemory>
         ensures ok { IfOk result (λ answer. IsDrawn (protocol self.old) now
             (option_map sent_of answer) (protocol self.new)) }
-        ensures err { OnErr result (HasFailed (protocol self.old) (protocol self.new)) };
+        ensures err { OnErr result (HasFailed (protocol self.old) (protocol self.new)) }
+        ensures memory { OnErr result (HasToSend (protocol self.old) now) };
 
     /// The event that has waited longest. It takes no memory.
     fn poll_event(&mut self) -> Option<TurnEvent>
@@ -184,8 +192,9 @@ pub trait TurnClientApi: Debug + Send {
 
     /// A layer above has met an error, and the client is no longer of use: it ends, and of each family
     /// it is told that no address is allocated. Where memory is refused, `NoMemory`, and nothing
-    /// changes.
+    /// changes: it is asked for where there is a family to tell of, as there is in every client.
     fn protocol_error(&mut self) -> Result<(), NoMemory>
         ensures ok { OnOk result (protocol self.new ≡ ended (protocol self.old)) }
-        ensures err { OnErr result (protocol self.new ≡ protocol self.old) };
+        ensures err { OnErr result (protocol self.new ≡ protocol self.old) }
+        ensures memory { OnErr result ((protocol self.old).families ≢ []) };
 }

@@ -7,6 +7,7 @@ ghost use Rattle.stun_types.specs.Registry.{longest_username};
 ghost use Rattle.stun_types.specs.declared.transport.TransportType.TheVariants.{Udp};
 ghost use Rattle.turn_client_proto_poll.specs.Core.Beginning.{IsNew};
 ghost use Rattle.turn_client_proto_poll.specs.Core.Ending.{HasFailed};
+ghost use Rattle.turn_client_proto_poll.specs.Core.Receiving.{MayGrow};
 ghost use Rattle.turn_client_proto.specs.HandingIn.{IsHandedIn};
 ghost use Rattle.turn_client_proto.specs.Receipts.{IsOfServer, IsReceived};
 
@@ -86,7 +87,7 @@ fn hand_in(protocol: &mut Protocol, bytes: &[u8], now: Instant) -> Result<bool, 
     ensures ok { IfOk result (λ handled. IsHandedIn (refusal bytes.now) protocol.old bytes.now now
         handled protocol.new) }
     ensures err { OnErr result ((refusal bytes.now ≡ None)
-        × HasFailed protocol.old protocol.new) }
+        × MayGrow protocol.old bytes.now × HasFailed protocol.old protocol.new) }
 {
     match Message::from_bytes(bytes) {
         Ok(message) => protocol.handle_message(&message, now),

@@ -1,7 +1,7 @@
 -- A permission that is asked for.
-use Rattle.std.proofs.Common.{◌≡◌, ℕ, ◌<◌, Bool, true, false, List, [], ◌∷◌, length, Option, Some, None, Result, Ok, Err, get_or, position, slice_get, slice_set, refl, sym, ap, ◌∙◌, subst, arith, inl, inr}
+use Rattle.std.proofs.Common.{◌≡◌, ℕ, ◌<◌, true, false, List, [], ◌∷◌, length, Option, Some, None, Result, Err, get_or, position, slice_get, slice_set, refl, sym, ap, ◌∙◌, subst, arith, inl, inr}
 use Rattle.std.proofs.lemmas.Option.{slice_get_cases}
-use Rattle.std.specs.Prelude.{IfNone, IfSome, MatchResult, find}
+use Rattle.std.specs.Prelude.{IfNone, IfSome, MatchResult}
 use Rattle.std.specs.declared.net.ip_addr.IpAddr.{IpAddr}
 use Rattle.stun_types.specs.declared.family.AddressFamily.{AddressFamily}
 use Rattle.stun_types.specs.declared.transport.TransportType.{TransportType}

@@ -1,7 +1,9 @@
 -- The numbers of messages.
-use Rattle.std.proofs.Common.{◌≡◌, ℕ, refl, sym, ap, ◌∙◌}
+use Rattle.std.proofs.Common.{◌≡◌, ℕ, ◌+◌, ◌-◌, ◌%◌, ◌^◌, ◌<◌, ◌≤◌, true, ltb, arith, refl, sym, ap, ◌∙◌, subst, inl, inr}
+use Rattle.std.proofs.lemmas.Bool.{cases_Bool, ltb-false, ltb-true}
+use Rattle.std.proofs.Math.Nat.{add-mod_left, mod-add-mod, mod-eq_of_lt, mod-lt}
 use Rattle.rand_chacha.specs.ChaCha.{ChaCha}
-use Rattle.turn_client_proto_core.specs.Numbering.{IsFirstFree, behind, is_taken}
+use Rattle.turn_client_proto_core.specs.Numbering.{AreAllTaken, IsFirstFree, behind, is_taken}
 use Rattle.turn_client_proto_core.specs.declared.protocol.Protocol.{Protocol}
 
 -- which numbers are taken has nothing to do with the generator
@@ -16,3 +18,26 @@ still_first p rng from first number same is = record {
   passed = λ k less. ap (λ (n : ℕ). is_taken p (behind n k)) (sym same) ∙ sym (same_taken p rng (behind from k)) ∙ is.passed k less;
   free = sym (same_taken p rng number) ∙ is.free;
 }
+
+-- from a number below a bound each other one is some steps behind
+steps_to : (from number bound : ℕ) → from < bound → number < bound → (k : ℕ) × (k < bound) × ((from + k) % bound ≡ number)
+steps_to from number bound here there =
+    elim (cases_Bool (ltb number from)) [
+      | inl before ↦
+          let less : number < from = ltb-true number from before in
+          let around : from + (bound - from + number) ≡ bound + number = omega (arith, here) in
+          (bound - from + number, omega (arith, here, less), rw around (add-mod_left bound number ∙ mod-eq_of_lt there))
+      | inr beyond ↦
+          let most : from ≤ number = ltb-false number from beyond in
+          let up : from + (number - from) ≡ number = omega (arith, most) in
+          (number - from, omega (arith, there, most), rw up (mod-eq_of_lt there))
+    ]
+
+-- whoever has passed as many numbers as there are has passed each
+pub all_taken : (p : Protocol) (from : ℕ) → ((k : ℕ) → k < 2 ^ 96 → is_taken p (behind from k) ≡ true) → AreAllTaken p
+all_taken p from passed = λ number there.
+    let steps = steps_to (from % 2 ^ 96) number (2 ^ 96) (mod-lt from (omega arith)) there in
+    subst (λ (n : ℕ). is_taken p n ≡ true) (sym (mod-add-mod from (2 ^ 96) steps.0) ∙ steps.2) (passed steps.0 steps.1)
+
+pub still_all : (p : Protocol) (rng : ChaCha) → AreAllTaken (record p { rng = rng }) → AreAllTaken p
+still_all p rng all = λ number there. sym (same_taken p rng number) ∙ all number there

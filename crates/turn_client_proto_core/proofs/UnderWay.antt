@@ -1,9 +1,11 @@
 -- A client while a call is under way.
-use Rattle.std.proofs.Common.{◌≡◌, ℕ, Result, Ok, Err, refl, ap, ◌∙◌, inl, inr}
+use Rattle.std.proofs.Common.{◌≡◌, ℕ, Result, Ok, Err, refl, sym, ap, ◌∙◌, subst, inl, inr}
 use Rattle.std.specs.Prelude.{OnErr, take, length}
+use Rattle.rand_chacha.specs.ChaCha.{ChaCha}
 use Rattle.turn_client_proto_api.specs.State.{Agent}
 use Rattle.turn_client_proto_api.specs.Sending.{IsAfterTransmit}
 use Rattle.turn_client_proto_core.specs.Ending.{HasFailed, IsUnderWay, failed}
+use Rattle.turn_client_proto_core.specs.Numbering.{HasDrawn}
 use Rattle.turn_client_proto_core.specs.declared.protocol.Protocol.{Protocol}
 use Rattle.turn_client_proto_allocation.proofs.Prefixes.{whole_kept}
 
@@ -22,6 +24,7 @@ after_transmit p agent now is = record {
   transport = same_transport p.agent agent now is;
   here = same_here p.agent agent now is;
   events = whole_kept p.events;
+  drew = inl refl;
 }
 
 -- what holds is so where a call failed, too
@@ -42,4 +45,5 @@ failed_from old mid new events count is after = record {
   none_queued = ap (λ (p : Protocol). p.queue) after;
   none_closing = ap (λ (p : Protocol). p.closing) after;
   events = ap (λ (p : Protocol). p.events) after ∙ ap (λ (n : ℕ). take n mid.events) count ∙ is.events;
+  drew = subst (λ (r : ChaCha). HasDrawn old.rng r) (sym (ap (λ (p : Protocol). p.rng) after)) is.drew;
 }

@@ -3,6 +3,7 @@ use Rattle.std.specs.Prelude.{◌≡◌, ℕ, [], ◌++◌, map, take, length, N
 use Rattle.std.specs.FinMap as finite
 use Rattle.turn_client_proto_api.specs.State.{default_waits}
 use Rattle.turn_client_proto_api.specs.declared.event.TurnEvent.TheVariants.{AllocationCreateFailed}
+use Rattle.turn_client_proto_core.specs.Numbering.{HasDrawn}
 use Rattle.turn_client_proto_core.specs.declared.protocol.Phase.TheVariants.{Ended}
 use Rattle.turn_client_proto_core.specs.declared.protocol.Protocol.{Protocol}
 
@@ -29,15 +30,17 @@ failed events p = record p {
   closing = [];
 }
 
--- a client while a call is under way: the events that waited before it are still the first
+-- a client while a call is under way: the events that waited before it are still the first, and one number was drawn
+-- at most
 pub record IsUnderWay (old new : Protocol) : Type 0 where
   pub server : new.server ≡ old.server
   pub transport : new.agent.transport ≡ old.agent.transport
   pub here : new.agent.here ≡ old.agent.here
   pub events : take (length old.events) new.events ≡ old.events
+  pub drew : HasDrawn old.rng new.rng
 
 -- a client that was refused memory in a call: it holds nothing, awaits nothing, and sends nothing more; the events
--- that waited before the call still do
+-- that waited before the call still do, and one number was drawn at most
 pub record HasFailed (old new : Protocol) : Type 0 where
   pub server : new.server ≡ old.server
   pub transport : new.agent.transport ≡ old.agent.transport
@@ -48,3 +51,4 @@ pub record HasFailed (old new : Protocol) : Type 0 where
   pub none_queued : new.queue ≡ []
   pub none_closing : new.closing ≡ []
   pub events : new.events ≡ old.events
+  pub drew : HasDrawn old.rng new.rng

@@ -1,5 +1,5 @@
 -- The numbers of a client's messages (RFC 8489, section 5).
-use Rattle.std.specs.Prelude.{◌≡◌, ℕ, ◌+◌, ◌*◌, ◌%◌, ◌^◌, ◌<◌, Bool, ◌||◌, true, false, is_some}
+use Rattle.std.specs.Prelude.{◌≡◌, ◌⊎◌, ℕ, ◌+◌, ◌*◌, ◌%◌, ◌^◌, ◌<◌, Bool, ◌||◌, true, false, is_some}
 use Rattle.std.specs.FinMap as map
 use Rattle.rand_chacha.specs.ChaCha.{ChaCha, next_word}
 use Rattle.turn_client_proto_allocation.specs.Awaited.{has_number}
@@ -44,9 +44,17 @@ pub record IsFirstFree (p : Protocol) (from number : ℕ) : Type 0 where
   pub passed : (k : ℕ) → k < steps → is_taken p (behind from k) ≡ true
   pub free : is_taken p number ≡ false
 
+-- every number there is is taken
+abbrev pub AreAllTaken : Protocol → Type 0
+AreAllTaken p = (number : ℕ) → number < 2 ^ 96 → is_taken p number ≡ true
+
 -- the number of the next message
 abbrev pub IsNextNumber : Protocol → ℕ → Type 0
 IsNextNumber p number = IsFirstFree p (drawn p.rng) number
+
+-- a generator from which one number was drawn at most
+abbrev pub HasDrawn : ChaCha → ChaCha → Type 0
+HasDrawn before after = (after ≡ before) ⊎ (after ≡ after_draw before)
 
 -- a client that drew a number
 abbrev pub after_number : Protocol → Protocol

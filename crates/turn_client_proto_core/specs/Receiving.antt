@@ -1,10 +1,10 @@
 -- What a client makes of a message that came from the server (RFC 8489, section 6.3; RFC 8656).
-use Rattle.std.specs.Prelude.{ℕ, Bool, true, false, ◌&&◌, List, Result}
+use Rattle.std.specs.Prelude.{◌≡◌, ◌≢◌, ℕ, Bool, true, false, ◌&&◌, List, [], Result, Ok, Err}
 use Rattle.std.specs.Bool.{MatchBool}
 use Rattle.turn_client_proto_api.specs.Client as auth
-use Rattle.turn_client_proto_api.specs.ClientAuthErrors.{LongTermClientAuthError}
-use Rattle.turn_client_proto_api.specs.ClientValidations.{LongTermClientValidation}
-use Rattle.turn_client_proto_api.specs.Handling.{is_response}
+use Rattle.turn_client_proto_api.specs.ClientAuthErrors.{LongTermClientAuthError, IntegrityFailed, NoMemory}
+use Rattle.turn_client_proto_api.specs.ClientValidations.{LongTermClientValidation, ResendRequest, Validated}
+use Rattle.turn_client_proto_api.specs.Handling.{is_awaited, is_response}
 use Rattle.stun_types.specs.Attributes.{kind_at}
 use Rattle.stun_types.specs.Grammar.{number_at}
 use Rattle.stun_types.specs.MessageClasses.{MessageClass, Indication}
@@ -56,3 +56,55 @@ IsHeardIn Ended old bytes now handled new = IsIgnored old handled new
 -- a message came at a moment: whether it was for the client, and what the client is then
 abbrev pub IsHeard : Protocol → List ℕ → ℕ → Bool → Protocol → Type 0
 IsHeard old bytes now handled new = IsHeardIn old.phase old bytes now handled new
+
+-- ---- when memory may be refused
+
+-- that a client keeps or tells something of a message, by the verdict on it
+abbrev pub Growing : Type 1
+Growing = Result LongTermClientValidation LongTermClientAuthError → Protocol → List ℕ → Type 0
+
+-- a message was judged, and by the verdict the client keeps or tells something. A challenge that can be answered is
+-- kept, whatever request it answers
+pub record GrowsBy (grows : Growing) (old : Protocol) (bytes : List ℕ) : Type 0 where
+  pub verdict : Result LongTermClientValidation LongTermClientAuthError
+  pub auth : auth.Client
+  pub is_judged : IsJudged old.auth bytes verdict auth
+  pub has_to : grows verdict old bytes
+
+-- where no ALLOCATE was signed: a response that validates ends the client, which tells of each family; and another one
+-- ends it where its request is outstanding
+abbrev pub GrowsFirst : Growing
+GrowsFirst (Ok (ResendRequest choice)) p bytes = Unit {0}
+GrowsFirst (Ok (Validated algorithm)) p bytes = p.families ≢ []
+GrowsFirst (Err NoMemory) p bytes = Unit {0}
+GrowsFirst (Err error) p bytes = is_awaited p.agent bytes ≡ true
+
+-- where an ALLOCATE was signed: a response that validates counts where its request is outstanding, and one that is
+-- forged ends the client
+abbrev pub GrowsSigned : Growing
+GrowsSigned (Ok (ResendRequest choice)) p bytes = Unit {0}
+GrowsSigned (Ok (Validated algorithm)) p bytes = is_awaited p.agent bytes ≡ true
+GrowsSigned (Err (IntegrityFailed algorithm)) p bytes = p.families ≢ []
+GrowsSigned (Err NoMemory) p bytes = Unit {0}
+GrowsSigned (Err error) p bytes = ⊥
+
+-- where the server has allocated: a response that validates counts where its request is outstanding
+abbrev pub GrowsStanding : Growing
+GrowsStanding (Ok (ResendRequest choice)) p bytes = Unit {0}
+GrowsStanding (Ok (Validated algorithm)) p bytes = (is_response bytes && is_awaited p.agent bytes) ≡ true
+GrowsStanding (Err NoMemory) p bytes = Unit {0}
+GrowsStanding (Err error) p bytes = ⊥
+
+-- by how far the client is: only of a message that is judged; never before the first ALLOCATE, and never after the end
+abbrev pub MayGrowIn : Phase → Protocol → List ℕ → Type 0
+MayGrowIn Initial old bytes = ⊥
+MayGrowIn (InitialSent numbers) old bytes = MatchBool (is_response bytes) (GrowsBy GrowsFirst old bytes) ⊥
+MayGrowIn (Authenticating numbers) old bytes =
+    MatchBool (is_response bytes && has_number (number_at bytes) numbers) (GrowsBy GrowsSigned old bytes) ⊥
+MayGrowIn Authenticated old bytes =
+    MatchBool (is_indication (class_of (kind_at bytes))) ⊥ (GrowsBy GrowsStanding old bytes)
+MayGrowIn Ended old bytes = ⊥
+
+-- a message by which a client may grow: of any other one memory is never refused
+abbrev pub MayGrow : Protocol → List ℕ → Type 0
+MayGrow old bytes = MayGrowIn old.phase old bytes

@@ -1,5 +1,5 @@
 -- What a client that has allocated makes of a message (RFC 8656, sections 8.3 and 7.4).
-use Rattle.std.specs.Prelude.{ℕ, ◌==◌, Bool, true, false, ◌&&◌, List, [], map, Option, Some, None, Result, Ok, Err, if◌then◌else◌}
+use Rattle.std.specs.Prelude.{ℕ, ◌==◌, Bool, true, ◌&&◌, List, [], map, Option, Some, None, Result, Ok, Err, if◌then◌else◌}
 use Rattle.std.specs.Bool.{MatchBool}
 use Rattle.std.specs.List.{list_any}
 use Rattle.turn_client_proto_api.specs.ClientAuthErrors.{LongTermClientAuthError, NoMemory}

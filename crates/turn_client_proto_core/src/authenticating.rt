@@ -1,6 +1,6 @@
 //! What a client that has not allocated makes of a message (RFC 8656, sections 7.3 and 7.4).
 
-ghost use Rattle.std.specs.Prelude.{◌≡◌, ◌++◌, ◌∷◌, [], ℕ, IfOk, OnOk, OnErr, Some, None, false};
+ghost use Rattle.std.specs.Prelude.{◌≡◌, ◌++◌, ◌∷◌, [], ℕ, IfOk, OnOk, OnErr, Some, None, true, false};
 ghost use Rattle.turn_client_proto_api.specs.Handling.{is_awaited, is_response};
 ghost use Rattle.stun_types.specs.Attributes.{kind_at};
 ghost use Rattle.stun_types.specs.Grammar.{number_at};
@@ -10,7 +10,7 @@ ghost use Rattle.turn_client_proto_core.specs.Asking.{asked};
 ghost use Rattle.turn_client_proto_core.specs.Authenticating.{IsAccepted, IsAllocateAnswered, IsChallenged, IsErrorAnswered, IsFirstJudged, IsSignedJudged, IsTurnedAway, allocates_again, allocates_other, family_left, numbers_sent, other_family};
 ghost use Rattle.turn_client_proto_core.specs.Ending.{IsUnderWay};
 ghost use Rattle.turn_client_proto_core.specs.Numbering.{IsNextNumber, after_number};
-ghost use Rattle.turn_client_proto_core.specs.Receiving.{IsFollowed};
+ghost use Rattle.turn_client_proto_core.specs.Receiving.{GrowsBy, GrowsFirst, GrowsSigned, IsFollowed};
 ghost use Rattle.turn_client_proto_core.specs.Responding.{accepted, answered, challenged, is_tired};
 
 use crate::protocol::{Phase, Protocol};
@@ -146,6 +146,7 @@ impl Protocol {
     fn turn_away(&mut self, message: &Message<'_>) -> Result<bool, NoMemory>
         ensures ok { IfOk result (λ handled. IsTurnedAway self.old message.now handled self.new) }
         ensures err { OnErr result (IsUnderWay self.old self.new) }
+        ensures memory { OnErr result (is_awaited self.old.agent message.now ≡ true) }
     {
         if !self.is_awaited(message) {
             return Ok(false);
@@ -165,6 +166,7 @@ impl Protocol {
         ensures ok { IfOk result (λ handled.
             IsFollowed IsFirstJudged self.old message.now now handled self.new) }
         ensures err { OnErr result (IsUnderWay self.old self.new) }
+        ensures memory { OnErr result (GrowsBy GrowsFirst self.old message.now) }
     {
         match self.auth.validate_incoming_message(message) {
             Ok(LongTermClientValidation::ResendRequest(_)) => self.answer_challenge(message, now),
@@ -187,6 +189,7 @@ impl Protocol {
         ensures ok { IfOk result (λ handled.
             IsFollowed IsSignedJudged self.old message.now now handled self.new) }
         ensures err { OnErr result (IsUnderWay self.old self.new) }
+        ensures memory { OnErr result (GrowsBy GrowsSigned self.old message.now) }
     {
         match self.auth.validate_incoming_message(message) {
             Ok(LongTermClientValidation::ResendRequest(_)) => self.answer_challenge(message, now),
@@ -206,6 +209,7 @@ impl Protocol {
         ensures ok { IfOk result (λ handled.
             IsAccepted self.old message.now now handled self.new) }
         ensures err { OnErr result (IsUnderWay self.old self.new) }
+        ensures memory { OnErr result (is_awaited self.old.agent message.now ≡ true) }
     {
         let is_fresh = self.is_awaited(message);
         if !is_fresh {

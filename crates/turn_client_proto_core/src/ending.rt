@@ -1,6 +1,6 @@
 //! How a client ends.
 
-ghost use Rattle.std.specs.Prelude.{◌≡◌, OnOk, OnErr};
+ghost use Rattle.std.specs.Prelude.{◌≡◌, ◌≢◌, [], OnOk, OnErr};
 ghost use Rattle.turn_client_proto_core.specs.Ending.{ended, failed};
 
 use crate::protocol::{Phase, Protocol};
@@ -10,11 +10,13 @@ use turn_client_proto_response::telling::tell_failures;
 
 impl Protocol {
     /// Ends the client: that no address is allocated is told for each family, in order. What is
-    /// outstanding and what waits stays. Where memory is refused, nothing changes.
+    /// outstanding and what waits stays. Memory is asked for where there is a family to tell of, as
+    /// there is in every client; where it is refused, nothing changes.
     #[tactic(auto, unfolding(crate::specs::Ending::ended))]
     pub fn end(&mut self) -> Result<(), NoMemory>
         ensures ok { OnOk result (self.new ≡ ended self.old) }
         ensures err { OnErr result (self.new ≡ self.old) }
+        ensures memory { OnErr result (self.old.families ≢ []) }
     {
         tell_failures(&mut self.events, self.families.as_slice())?;
         self.phase = Phase::Ended;

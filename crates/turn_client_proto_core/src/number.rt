@@ -1,15 +1,18 @@
 //! The numbers of a client's messages.
 
-ghost use Rattle.std.specs.Prelude.{◌≡◌, ◌+◌, ◌%◌, ◌^◌, IfOk};
+ghost use Rattle.std.specs.Prelude.{◌≡◌, ◌+◌, ◌%◌, ◌^◌, IfOk, OnErr};
 ghost use Rattle.std.specs.FinMap as finite;
 ghost use Rattle.turn_client_proto_allocation.specs.Awaited.{has_number};
-ghost use Rattle.turn_client_proto_core.specs.Numbering.{IsFirstFree, IsNextNumber, after_draw, after_number, behind, drawn, is_taken};
+ghost use Rattle.turn_client_proto_core.specs.Numbering.{AreAllTaken, IsFirstFree, IsNextNumber, after_draw, after_number, behind, drawn, is_taken};
 
 use crate::protocol::Protocol;
 use rand_chacha::ChaCha20Rng;
 use rand_core::utils::NextWord;
 use stun_types::NoMemory;
 use stun_types::message::TransactionId;
+
+/// How many numbers there are.
+const NUMBERS: u128 = 1 << 96;
 
 /// The number that the next three words make, the first of them highest.
 #[tactic(auto, unfolding(crate::specs::Numbering::drawn, crate::specs::Numbering::after_draw))]
@@ -33,10 +36,11 @@ fn next(number: TransactionId) -> TransactionId
 
 impl Protocol {
     /// Draws the number of the next message: the next three words of the generator, the first of them
-    /// highest; a number that is taken is passed by. Where 2^64 - 1 numbers in a row are taken, for
-    /// which no client has the memory, `NoMemory`.
+    /// highest; a number that is taken is passed by. Where every number there is is taken, `NoMemory`:
+    /// that is 2^96 of them, and no client has the memory for so many.
     pub fn draw_number(&mut self) -> Result<TransactionId, NoMemory>
         ensures number { IfOk result (λ number. IsNextNumber self.old number) }
+        ensures full { OnErr result (AreAllTaken self.old) }
         ensures after { self.new ≡ after_number self.old }
     {
         let drawn = drawn(&mut self.rng);
@@ -52,13 +56,14 @@ impl Protocol {
             || (self.phase.awaits(number) || self.allocations.is_any_awaited(number))
     }
 
-    /// The first number from this one on that isn't taken. The search ends at last behind 2^64 - 1
-    /// numbers, with `NoMemory`.
+    /// The first number from this one on that isn't taken. The search ends at last where it began, with
+    /// `NoMemory`.
     fn first_free(&self, from: TransactionId) -> Result<TransactionId, NoMemory>
-        ensures { IfOk result (λ number. IsFirstFree self.now from number) }
+        ensures free { IfOk result (λ number. IsFirstFree self.now from number) }
+        ensures full { OnErr result (AreAllTaken self.now) }
     {
         let mut number = from;
-        for _ in 0..u64::MAX {
+        for _ in 0..NUMBERS {
             if !self.is_taken(number) {
                 return Ok(number);
             }

@@ -1,10 +1,11 @@
 //! What a client that has allocated makes of a message (RFC 8656, section 8.3).
 
-ghost use Rattle.std.specs.Prelude.{◌≡◌, ℕ, IfOk, OnOk, OnErr};
+ghost use Rattle.std.specs.Prelude.{◌≡◌, ◌&&◌, ℕ, IfOk, OnOk, OnErr, true};
 ghost use Rattle.stun_types.specs.Grammar.{number_at};
+ghost use Rattle.turn_client_proto_api.specs.Handling.{is_awaited, is_response};
 ghost use Rattle.turn_client_proto_core.specs.Ending.{IsUnderWay};
 ghost use Rattle.turn_client_proto_core.specs.Numbering.{IsNextNumber};
-ghost use Rattle.turn_client_proto_core.specs.Receiving.{IsFollowed};
+ghost use Rattle.turn_client_proto_core.specs.Receiving.{GrowsBy, GrowsStanding, IsFollowed};
 ghost use Rattle.turn_client_proto_core.specs.Standing.{IsJudgedStanding, IsRechallenged, IsTakenUp, after_refresh, deallocated, is_refreshed, refreshed, refreshes_again};
 
 use crate::protocol::{Phase, Protocol};
@@ -40,6 +41,7 @@ impl Protocol {
         ensures ok { IfOk result (λ handled.
             IsFollowed IsJudgedStanding self.old message.now now handled self.new) }
         ensures err { OnErr result (IsUnderWay self.old self.new) }
+        ensures memory { OnErr result (GrowsBy GrowsStanding self.old message.now) }
     {
         match self.auth.validate_incoming_message(message) {
             Ok(LongTermClientValidation::ResendRequest(_)) => self.ask_again(message, now),
@@ -98,6 +100,8 @@ impl Protocol {
         ensures ok { IfOk result (λ handled.
             IsTakenUp self.old message.now now handled self.new) }
         ensures err { OnErr result (IsUnderWay self.old self.new) }
+        ensures memory { OnErr result
+            ((is_response message.now && is_awaited self.old.agent message.now) ≡ true) }
     {
         if !(message.is_response() && self.is_awaited(message)) {
             return Ok(false);

@@ -1,4 +1,5 @@
 pub mod Draws
+pub mod Losses
 pub mod Polls
 pub mod Prefixes
 pub mod Quiet

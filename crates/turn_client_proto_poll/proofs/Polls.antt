@@ -5,7 +5,7 @@ use Rattle.turn_client_proto_core.specs.State as agents
 use Rattle.turn_client_proto_core.specs.Api.declared.answer.TurnPollRet.{TurnPollRet}
 use Rattle.turn_client_proto_core.specs.Api.declared.answer.TurnPollRet.TheVariants as answer
 use Rattle.turn_client_proto_core.specs.Api.declared.event.TurnEvent.{TurnEvent}
-use Rattle.turn_client_proto_poll.specs.Polling.{IsPolled, IsPolledBy, IsPolledIn, IsTicked, ended_of, longest_pause, wait_of, wait_to_send}
+use Rattle.turn_client_proto_poll.specs.Polling.{HasToTell, HasToTellIn, IsPolled, IsPolledBy, IsPolledIn, IsTicked, ended_of, longest_pause, wait_of, wait_to_send}
 use Rattle.turn_client_proto_core.specs.Moments.{moment_after}
 use Rattle.turn_client_proto_core.specs.declared.protocol.Protocol.{Protocol}
 
@@ -21,6 +21,21 @@ named old now answer.NoMemory new other is = absurd (other refl)
 pub no_events : (events : List TurnEvent) (count : ℕ) (old : Protocol) (now : ℕ) (ret : TurnPollRet) (new : Protocol) → count ≡ length events → count ≤ 0 → IsTicked old now ret new → IsPolledBy events old now ret new
 no_events [] count old now ret new is none ticked = ticked
 no_events (e ∷ events) count old now ret new is none ticked = absurd (omega (arith, is, none))
+
+-- the same of the list alone
+pub none_waits : (events : List TurnEvent) (count : ℕ) → count ≡ length events → count ≤ 0 → events ≡ []
+none_waits [] count is none = refl
+none_waits (e ∷ events) count is none = absurd (omega (arith, is, none))
+
+-- what follows from what the agent told is to be told
+pub told_by : (old : Protocol) (now : ℕ) (ticked : StunAgentPollRet) (agent : agents.Agent) (over : Option ℕ) → agents.IsPolled old.agent now ticked agent → over ≡ ended_of ticked
+    → HasToTellIn old.phase over (record old { agent = agent }) now → HasToTell old now
+told_by old now ticked agent over polled over_is tells = record {
+  ticked = ticked;
+  agent = agent;
+  is_ticked = polled;
+  tells = subst (λ (o : Option ℕ). HasToTellIn old.phase o (record old { agent = agent }) now) over_is tells;
+}
 
 pub ticked_by : (old : Protocol) (now : ℕ) (ticked : StunAgentPollRet) (agent : agents.Agent) (over : Option ℕ) (wait : ℕ) (ret : TurnPollRet) (new : Protocol)
     → agents.IsPolled old.agent now ticked agent

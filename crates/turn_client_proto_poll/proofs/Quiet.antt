@@ -3,8 +3,8 @@ use Rattle.std.proofs.Common.{◌≡◌, ℕ, suc, ◌<◌, ◌≤◌, arith, Bo
 use Rattle.std.specs.Prelude.{find, is_some, nat_le, nat_lt, not, ◌&&◌, max, min, if◌then◌else◌}
 use Rattle.std.specs.Option.{option_and_then, option_map}
 use Rattle.std.specs.Bool.{MatchBool}
-use Rattle.std.specs.List.{All, cons_option, filter_map, list_any}
-use Rattle.std.proofs.lemmas.Bool.{and_right, lt-leb, ltb-false, or_from}
+use Rattle.std.specs.List.{All, cons_option, filter_map}
+use Rattle.std.proofs.lemmas.Bool.{and_right, lt-leb, ltb-false}
 use Rattle.std.specs.FinMap as finite
 use Rattle.turn_client_proto_core.specs.Agents.{Transaction, is_ended}
 use Rattle.turn_client_proto_core.specs.AgentPolls.{StunAgentPollRet, TransactionCancelled, TransactionTimedOut, WaitUntil}

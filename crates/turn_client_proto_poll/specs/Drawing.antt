@@ -1,5 +1,5 @@
 -- What a client sends (RFC 8489, section 6.2.1; RFC 8656, sections 7.1 and 8.1).
-use Rattle.std.specs.Prelude.{◌≡◌, ℕ, nat_lt, Bool, false, List, [], ◌∷◌, Option, Some, None, MatchOption}
+use Rattle.std.specs.Prelude.{◌≡◌, ◌≢◌, ◌⊎◌, ℕ, nat_lt, Bool, false, List, [], ◌∷◌, Option, Some, None, MatchOption}
 use Rattle.std.specs.Bool.{MatchBool}
 use Rattle.std.specs.declared.net.ip_addr.IpAddr.{IpAddr}
 use Rattle.std.specs.declared.net.socket_addr.SocketAddr.{SocketAddr}
@@ -12,6 +12,7 @@ use Rattle.stun_types.specs.Data.{data_bytes}
 use Rattle.stun_types.specs.declared.data.Data.{Data}
 use Rattle.stun_types.specs.declared.transmit.Transmit.{Transmit}
 use Rattle.stun_types.specs.declared.transport.TransportType.{TransportType}
+use Rattle.turn_client_proto_core.specs.Allocation.declared.allocation.Allocation.{Allocation}
 use Rattle.turn_client_proto_core.specs.Permission.Wanting.{refreshed_first, renewal_first, wanted}
 use Rattle.turn_client_proto_core.specs.Permission.declared.wanting.Want.{Want}
 use Rattle.turn_client_proto_core.specs.Permission.declared.wanting.Want.TheVariants.{Refresh, Permission}
@@ -148,3 +149,28 @@ IsFreshSent old now answer new = MatchBool (is_resting old.last_send now)
 pub data IsDrawn (old : Protocol) (now : ℕ) (answer : Option Sent) (new : Protocol) : Type 0 where
   Again : (sent : Sent) → answer ≡ Some sent → IsRepeated old now sent new → IsDrawn old now answer new
   Fresh : NoneDue old.agent now → IsFreshSent old now answer new → IsDrawn old now answer new
+
+-- ---- when memory may be refused
+
+-- a request is due again, and its bytes are handed out
+pub record HasToRepeat (old : Protocol) (now : ℕ) : Type 0 where
+  pub number : ℕ
+  pub transaction : Transaction
+  pub least : IsLeast (is_due_of old.agent now) old.agent.outstanding number transaction
+
+-- a request is to be made, by how far the client is: the first ALLOCATE, or what renews something
+abbrev pub HasToBegin : Phase → List Allocation → ℕ → Type 0
+HasToBegin Initial allocations now = Unit {0}
+HasToBegin Authenticated allocations now = wanted now allocations ≢ None
+HasToBegin _ allocations now = ⊥
+
+-- none is due again, the time since the last message is over, none waits, and one is to be made
+pub record HasToMake (old : Protocol) (now : ℕ) : Type 0 where
+  pub none_due : NoneDue old.agent now
+  pub free : is_resting old.last_send now ≡ false
+  pub none_waits : old.queue ≡ []
+  pub begins : HasToBegin old.phase old.allocations now
+
+-- a client has something to send that doesn't wait yet. A message that waits takes no memory
+abbrev pub HasToSend : Protocol → ℕ → Type 0
+HasToSend old now = HasToRepeat old now ⊎ HasToMake old now

@@ -1,11 +1,11 @@
 //! What a client sends.
 
-ghost use Rattle.std.specs.Prelude.{◌≡◌, ℕ, IfOk, MatchOption, OnErr, OnOk, Some, None};
+ghost use Rattle.std.specs.Prelude.{◌≡◌, ◌≢◌, [], ℕ, IfOk, MatchOption, OnErr, OnOk, Some, None};
 ghost use Rattle.std.specs.Option.{option_map};
 ghost use Rattle.turn_client_proto_core.specs.Sending.{NoneDue};
 ghost use Rattle.turn_client_proto_core.specs.Permission.Wanting.{wanted};
 ghost use Rattle.turn_client_proto_core.specs.Request.Requests.{request_text};
-ghost use Rattle.turn_client_proto_poll.specs.Drawing.{IsBegun, IsDrawn, IsFirstSent, IsFreshSent, IsNextSent, IsRefreshSent, IsRenewalSent, IsRenewed, IsRepeated, after_sending, first_allocated, first_permitted, first_refreshed, is_resting, sent_at_once, sent_of};
+ghost use Rattle.turn_client_proto_poll.specs.Drawing.{HasToBegin, HasToRepeat, HasToSend, IsBegun, IsDrawn, IsFirstSent, IsFreshSent, IsNextSent, IsRefreshSent, IsRenewalSent, IsRenewed, IsRepeated, after_sending, first_allocated, first_permitted, first_refreshed, is_resting, sent_at_once, sent_of};
 ghost use Rattle.turn_client_proto_core.specs.Ending.{HasFailed, IsUnderWay};
 ghost use Rattle.turn_client_proto_core.specs.Numbering.{IsNextNumber};
 
@@ -24,8 +24,11 @@ use turn_client_proto_core::request::request::{ALLOCATION_LIFETIME, TurnRequest}
 /// What is to be sent at a moment, where there is something. A request that is due again comes
 /// first; then, 50 ms after the last message at the earliest, what waits longest; then the first
 /// ALLOCATE, or what renews something whose time has come: a REFRESH for an allocation, or a
-/// CREATE_PERMISSION for a permission. Call it again until it answers `None`. Where memory is
-/// refused, `NoMemory`, and the client has failed.
+/// CREATE_PERMISSION for a permission. Call it again until it answers `None`.
+///
+/// Memory is asked for where a request is due again, and where one is made. A message that waits takes
+/// none, and neither does a call that answers `None`. Where it is refused, `NoMemory`, and the client
+/// has failed.
 pub fn poll_transmit(
     protocol: &mut Protocol,
     now: Instant,
@@ -33,6 +36,7 @@ pub fn poll_transmit(
     ensures ok { IfOk result (λ answer.
         IsDrawn protocol.old now (option_map sent_of answer) protocol.new) }
     ensures err { OnErr result (HasFailed protocol.old protocol.new) }
+    ensures memory { OnErr result (HasToSend protocol.old now) }
 {
     let events = protocol.events.len();
     match draw(protocol, now) {
@@ -50,6 +54,7 @@ fn draw(protocol: &mut Protocol, now: Instant) -> Result<Option<Transmit<Data<'s
     ensures ok { IfOk result (λ answer.
         IsDrawn protocol.old now (option_map sent_of answer) protocol.new) }
     ensures err { OnErr result (IsUnderWay protocol.old protocol.new) }
+    ensures memory { OnErr result (HasToSend protocol.old now) }
 {
     if let Some(again) = draw_again(protocol, now)? {
         return Ok(Some(again));
@@ -70,6 +75,7 @@ fn draw_again(
         (NoneDue protocol.old.agent now × (protocol.new ≡ protocol.old))
         (λ sent. IsRepeated protocol.old now (sent_of sent) protocol.new)) }
     ensures err { OnErr result (IsUnderWay protocol.old protocol.new) }
+    ensures memory { OnErr result (HasToRepeat protocol.old now) }
 {
     let Some(due) = protocol.agent.poll_transmit(now) else {
         return Ok(None);
@@ -99,6 +105,8 @@ fn draw_next(
     ensures ok { IfOk result (λ answer.
         IsNextSent protocol.old.queue protocol.old now (option_map sent_of answer) protocol.new) }
     ensures err { OnErr result (IsUnderWay protocol.old protocol.new) }
+    ensures memory { OnErr result ((protocol.old.queue ≡ [])
+        × HasToBegin protocol.old.phase protocol.old.allocations now) }
 {
     match protocol.queue.pop_front() {
         Some(queued) => {
@@ -118,6 +126,8 @@ fn begin(protocol: &mut Protocol, now: Instant) -> Result<Option<Transmit<Data<'
     ensures ok { IfOk result (λ answer.
         IsBegun protocol.old.phase protocol.old now (option_map sent_of answer) protocol.new) }
     ensures err { OnErr result (IsUnderWay protocol.old protocol.new) }
+    ensures memory { OnErr result
+        (HasToBegin protocol.old.phase protocol.old.allocations now) }
 {
     match &protocol.phase {
         Phase::Initial => Ok(Some(send_first(protocol, now)?)),
@@ -132,6 +142,7 @@ fn renew(protocol: &mut Protocol, now: Instant) -> Result<Option<Transmit<Data<'
     ensures ok { IfOk result (λ answer. IsRenewed (wanted now protocol.old.allocations) protocol.old now
         (option_map sent_of answer) protocol.new) }
     ensures err { OnErr result (IsUnderWay protocol.old protocol.new) }
+    ensures memory { OnErr result (wanted now protocol.old.allocations ≢ None) }
 {
     match wanted(protocol.allocations.as_slice(), now) {
         None => Ok(None),

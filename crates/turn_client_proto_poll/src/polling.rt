@@ -1,9 +1,12 @@
 //! What a client does as time goes on.
 
-ghost use Rattle.std.specs.Prelude.{◌≡◌, ◌≢◌, IfOk, OnErr, max, min};
+ghost use Rattle.std.specs.Prelude.{◌≡◌, ◌≢◌, ◌++◌, IfOk, OnErr, OnOk, max, min, true};
+ghost use Rattle.std.specs.List.{list_any};
+ghost use Rattle.turn_client_proto_core.specs.Allocation.Permissions.{has_lapsed, is_over};
 ghost use Rattle.turn_client_proto_core.specs.Moments.{moment_after};
-ghost use Rattle.turn_client_proto_core.specs.Ending.{HasFailed, IsUnderWay};
-ghost use Rattle.turn_client_proto_poll.specs.Polling.{IsPolled, IsPolledBy, IsPolledIn, IsPolledSent, IsPolledStanding, IsTicked, answer_of, cadence, ended_of, longest_pause, ready_after, wait_of, wait_to_send, waits_until};
+ghost use Rattle.turn_client_proto_core.specs.Permission.Telling.{all_failures};
+ghost use Rattle.turn_client_proto_core.specs.Ending.{IsUnderWay};
+ghost use Rattle.turn_client_proto_poll.specs.Polling.{HasToTell, HasToTellIn, IsPolled, IsPolledBy, IsPolledIn, IsPolledSent, IsPolledStanding, IsTicked, answer_of, cadence, ended_of, left, longest_pause, loses_any, ready_after, wait_of, wait_to_send, waits_until};
 
 use std::time::Duration;
 use stun_types::NoMemory;
@@ -12,6 +15,7 @@ use turn_client_proto_core::Instant;
 use turn_client_proto_core::agent::StunAgentPollRet;
 use turn_client_proto_core::allocation::allocation::Allocation;
 use turn_client_proto_core::allocation::numbers::is_among;
+use turn_client_proto_core::allocation::permission::{PendingPermission, Permission};
 use turn_client_proto_core::api::answer::TurnPollRet;
 use turn_client_proto_core::permission::telling;
 use turn_client_proto_core::protocol::{Phase, Protocol};
@@ -89,8 +93,11 @@ fn answer_of(
 /// moment: `poll_event` gives it. Else a request that has ended without a response is given up, and
 /// allocations and permissions whose time is over go. The answer is `Closed` where the client has
 /// ended or has no allocation left, and else the moment until which nothing is to be done, at most
-/// 9999 seconds from now; it is now where a request has ended. Where memory is refused, `NoMemory`,
-/// and the client has failed.
+/// 9999 seconds from now; it is now where a request has ended.
+///
+/// Memory is asked for where no event waits and something is to be told: that an ALLOCATE ended without
+/// a response, or that a permission did, or has lapsed. Where it is refused, `NoMemory`, and the client
+/// has failed.
 pub fn poll(protocol: &mut Protocol, now: Instant) -> TurnPollRet
     ensures { IsPolled protocol.old now result protocol.new }
 {
@@ -134,6 +141,7 @@ fn tick(protocol: &mut Protocol, now: Instant) -> Result<TurnPollRet, NoMemory>
     ensures ok { IfOk result (λ answer. IsTicked protocol.old now answer protocol.new) }
     ensures named { IfOk result (λ answer. answer ≢ TurnPollRet.NoMemory) }
     ensures err { OnErr result (IsUnderWay protocol.old protocol.new) }
+    ensures memory { OnErr result (HasToTell protocol.old now) }
 {
     let wait = wait_to_send(protocol, now, longest_wait(now));
     let ticked = protocol.agent.poll(now);
@@ -153,6 +161,8 @@ fn follow(
         IsPolledIn protocol.old.phase ended.now wait protocol.old now answer protocol.new) }
     ensures named { IfOk result (λ answer. answer ≢ TurnPollRet.NoMemory) }
     ensures err { OnErr result (IsUnderWay protocol.old protocol.new) }
+    ensures memory { OnErr result
+        (HasToTellIn protocol.old.phase ended.now protocol.old now) }
 {
     match &protocol.phase {
         Phase::Initial => Ok(TurnPollRet::WaitUntil(now)),
@@ -168,6 +178,57 @@ fn follow(
     }
 }
 
+/// Whether a permission that was asked for goes: its request ended without a response.
+fn is_any_over(pending: &[PendingPermission], ended: &Option<TransactionId>) -> bool
+    ensures { result ≡ list_any (is_over ended.now) pending.now }
+{
+    pending.iter().any(|p| p.is_over(ended))
+}
+
+/// Whether a permission that stands goes: it has lapsed.
+fn has_any_lapsed(permissions: &[Permission], now: Instant) -> bool
+    ensures { result ≡ list_any (has_lapsed now) permissions.now }
+{
+    permissions.iter().any(|p| p.has_lapsed(now))
+}
+
+/// Whether a permission of an allocation goes.
+#[tactic(auto, unfolding(crate::specs::Polling::loses_any))]
+fn loses_any(a: &Allocation, ended: &Option<TransactionId>, now: Instant) -> bool
+    ensures { result ≡ loses_any ended.now now a.now }
+{
+    is_any_over(a.pending_permissions.as_slice(), ended)
+        || has_any_lapsed(a.permissions.as_slice(), now)
+}
+
+/// Whether a permission of one of the allocations goes.
+fn is_any_lost(allocations: &[Allocation], ended: &Option<TransactionId>, now: Instant) -> bool
+    ensures { result ≡ list_any (loses_any ended.now now) allocations.now }
+{
+    allocations.iter().any(|a| loses_any(a, ended, now))
+}
+
+/// Tells the permissions that go. Where none does, no memory is asked for.
+#[tactic(auto, using(crate::proofs::Prefixes::front_kept, crate::proofs::Prefixes::whole_kept, crate::proofs::Losses::nothing_told))]
+fn tell_lost(
+    protocol: &mut Protocol,
+    ended: &Option<TransactionId>,
+    now: Instant,
+) -> Result<(), NoMemory>
+    ensures ok { OnOk result (protocol.new ≡ record protocol.old {
+      events = protocol.old.events ++ all_failures ended.now now protocol.old.allocations;
+    }) }
+    ensures err { OnErr result (IsUnderWay protocol.old protocol.new) }
+    ensures memory { OnErr result
+        (list_any (loses_any ended.now now) protocol.old.allocations ≡ true) }
+{
+    let allocations = protocol.allocations.as_slice();
+    if !is_any_lost(allocations, ended, now) {
+        return Ok(());
+    }
+    telling::tell_failures(&mut protocol.events, allocations, ended, now)
+}
+
 /// Lets time come to a moment for the allocations and their permissions.
 #[tactic(auto, using(crate::proofs::Prefixes::front_kept, crate::proofs::Prefixes::whole_kept), unfolding(crate::specs::Polling::after_time))]
 fn poll_allocations(
@@ -180,13 +241,15 @@ fn poll_allocations(
         IsPolledStanding ended.now wait protocol.old now answer protocol.new) }
     ensures named { IfOk result (λ answer. answer ≢ TurnPollRet.NoMemory) }
     ensures err { OnErr result (IsUnderWay protocol.old protocol.new) }
+    ensures memory { OnErr result
+        (list_any (loses_any ended.now now) (left ended.now now protocol.old) ≡ true) }
 {
     let ready = ready_after(protocol, now);
     let next = protocol.allocations.poll(ended, ready, now, wait);
     let allocations = protocol.allocations.as_slice();
     let earliest = telling::earliest(allocations, ended, ready, now, next);
     let answer = answer_of(allocations, ended, now, earliest);
-    telling::tell_failures(&mut protocol.events, allocations, ended, now)?;
+    tell_lost(protocol, ended, now)?;
     telling::poll(protocol.allocations.as_mut_slice(), ended, now);
     Ok(answer)
 }

@@ -45,7 +45,7 @@ use Rattle.turn_client_proto_steps.proofs.Asking.{IsUnderWay}
 use Rattle.turn_client_proto_steps.proofs.Lists.{in_filter, in_map, inside}
 use Rattle.turn_client_proto_steps.proofs.Gaining.{anything, fresh, in_firsts, kept_gained, none_asked, none_attempted, none_pending, none_sent, none_short, none_twice, none_waits, relayed_shown, told_created, told_of}
 use Rattle.turn_client_proto_steps.proofs.Orderly.{until_all}
-use Rattle.turn_client_proto_steps.proofs.Plain.{failures_tell_nothing, held_is_kept, joined, none_told, notices}
+use Rattle.turn_client_proto_steps.proofs.Plain.{counts_none, failures_tell_nothing, held_is_kept, joined, none_told, notices}
 
 -- ---- the key
 
@@ -153,6 +153,8 @@ module _ (c : Client) (signer : signers.Client) (bytes : List ℕ) (lifetime now
   step = record {
     account = refl;
     seed = refl;
+    counted = (counts_none c core refl).counted;
+    few = (counts_none c core refl).few;
     begun = [];
     requests = λ m h. absurd h;
     numbered = omega arith;
@@ -171,6 +173,7 @@ module _ (c : Client) (signer : signers.Client) (bytes : List ℕ) (lifetime now
     is_of = by_address (λ (t : Told). run.IsOf t.notice t.held) (λ x listed. refl);
     tells = told;
     shows = λ h k. held_is_kept core.allocations h k;
+    shown = λ h i. absurd i;
     waits = λ n peer w. none_waits transport number lifetime now all n peer w;
     attempted = λ n h. inl (none_attempted transport number lifetime now all c.core.allocations c.core.queue n h);
     names = λ p h. absurd h;

@@ -34,7 +34,7 @@ use Rattle.turn_client_proto_steps.specs.Sound.{BeforeAllocated, CanAsk, IsOrder
 use Rattle.turn_client_proto_steps.proofs.Adding.{Adds, adds_both, adds_none, agent_less, agent_more, queue_more, widened}
 use Rattle.turn_client_proto_steps.proofs.Numbers.{IsAtPlace, number_at_place, number_small, words_after}
 use Rattle.turn_client_proto_steps.proofs.Orderly.{IsAllocate, IsFree, agent_orderly, queue_orderly, request_orderly, until_all}
-use Rattle.turn_client_proto_steps.proofs.Plain.{notices, run_step}
+use Rattle.turn_client_proto_steps.proofs.Plain.{counts_one, notices, run_step}
 use Rattle.turn_client_proto_steps.proofs.Taken.{free_by}
 
 -- ---- a call under way
@@ -45,6 +45,7 @@ pub record IsUnderWay (c : Client) (mid : Protocol) : Type 0 where
   pub orderly : IsOrderly (parts_of mid)
   pub can_ask : CanAsk (moved c c.drawn mid)
   pub told : notices mid.events ≡ notices c.core.events
+  pub rng : mid.rng ≡ c.core.rng
 
 pub at_first : (c : Client) → IsOrderly (parts_of c.core) → CanAsk c → IsUnderWay c c.core
 at_first c orderly can = record {
@@ -52,6 +53,7 @@ at_first c orderly can = record {
   orderly = orderly;
   can_ask = record { account = can.account; texts = can.texts; families = can.families; words = can.words };
   told = refl;
+  rng = refl;
 }
 
 pub once_judged : (c : Client) (bytes : List ℕ) (verdict : Result LongTermClientValidation LongTermClientAuthError) (signer : signers.Client) → IsOrderly (parts_of c.core) → CanAsk c → IsJudged c.core.auth bytes verdict signer
@@ -66,6 +68,7 @@ once_judged c bytes verdict signer orderly can is = record {
     words = can.words;
   };
   told = refl;
+  rng = refl;
 }
 
 pub once_answered : (c : Client) (mid : Protocol) (bytes : List ℕ) → IsUnderWay c mid → IsUnderWay c (answered bytes mid)
@@ -75,6 +78,7 @@ once_answered c mid bytes is = record {
   orderly = agent_orderly (parts_of mid) (after_message mid.agent bytes mid.server) (handled_new mid.agent bytes mid.server) is.orderly;
   can_ask = record { account = is.can_ask.account; texts = is.can_ask.texts; families = is.can_ask.families; words = is.can_ask.words };
   told = is.told;
+  rng = is.rng;
 }
 
 pub once_accepted : (c : Client) (mid : Protocol) (bytes : List ℕ) → IsUnderWay c mid → IsUnderWay c (accepted bytes mid)
@@ -84,6 +88,7 @@ once_accepted c mid bytes is = record {
   orderly = agent_orderly (parts_of mid) (after_message mid.agent bytes mid.server) (handled_new mid.agent bytes mid.server) is.orderly;
   can_ask = record { account = is.can_ask.account; texts = is.can_ask.texts; families = is.can_ask.families; words = is.can_ask.words };
   told = is.told;
+  rng = is.rng;
 }
 
 -- ---- what a request tells
@@ -150,6 +155,7 @@ module _ (c : Client) (mid : Protocol) (request : TurnRequest) (number : ℕ) (u
   asks came drawn core adds orderly same_auth families rng told draws =
       run_step (told_by text ∷ []) came drawn [] c (c.drawn + 1) core (record {
         requests = requests;
+        counts = counts_one c core (rng ∙ ap after_draw under_way.rng);
         numbered = numbered;
         adds = adds_both (told_by text ∷ []) (parts_of c.core) (parts_of mid) (parts_of core) (widened (told_by text ∷ []) (parts_of c.core) (parts_of mid) under_way.adds) adds;
         draws = draws;

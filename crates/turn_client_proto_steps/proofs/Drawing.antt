@@ -37,7 +37,7 @@ use Rattle.turn_client_proto_steps.proofs.Orderly.{IsAllocate, agent_orderly, al
 use Rattle.turn_client_proto_steps.proofs.Permissions.{first_permitting, renewing_permitting}
 use Rattle.turn_client_proto_steps.proofs.Permits.{made_number, owns}
 use Rattle.turn_client_proto_steps.proofs.Permitting.{ArePermitting, allocations_permitting, one_asks, permitting_orderly}
-use Rattle.turn_client_proto_steps.proofs.Plain.{quiet, run_step}
+use Rattle.turn_client_proto_steps.proofs.Plain.{counts_none, quiet, run_step}
 use Rattle.turn_client_proto_steps.proofs.Polling.{by_test}
 use Rattle.turn_client_proto_steps.proofs.Refreshing.{allocated, refresh_made, refresh_of, refresh_short}
 
@@ -58,7 +58,7 @@ repeats c now sent new sound is =
     let own : sent.bytes ≡ is.transaction.bytes = ap (λ (s : Sent). s.bytes) is.is_sent in
     subst (λ (p : Protocol). IsRunStep c [] (Some sent.bytes) [] p) (sym is.after)
     (run_step [] [] (Some sent.bytes) [] c c.drawn core
-    (quiet (Some sent.bytes) [] c c.drawn core (omega arith) (agent_less [] (parts_of c.core) agent none)
+    (quiet (Some sent.bytes) [] c c.drawn core (counts_none c core refl) (agent_less [] (parts_of c.core) agent none)
     (λ bytes m same shows. inl (inr (inl (record {
       number = is.number;
       transaction = is.transaction;
@@ -77,7 +77,7 @@ queued_drawn c now q rest sent new sound waits is =
     let listed : IsIn q c.core.queue = subst (λ (l : List Queued). IsIn q l) (sym waits) (inl refl) in
     subst (λ (p : Protocol). IsRunStep c [] (Some sent.bytes) [] p) (sym is.after)
     (run_step [] [] (Some sent.bytes) [] c c.drawn core
-    (quiet (Some sent.bytes) [] c c.drawn core (omega arith) (queue_less (parts_of c.core) q rest waits)
+    (quiet (Some sent.bytes) [] c c.drawn core (counts_none c core refl) (queue_less (parts_of c.core) q rest waits)
     (λ bytes m same shows. inl (inl (record {
       queued = q;
       listed = listed;

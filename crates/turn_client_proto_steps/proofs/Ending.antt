@@ -1,5 +1,5 @@
 -- Calls by which a client ends, and those that tell what happened.
-use Rattle.std.proofs.Common.{◌≡◌, ℕ, ◌≤◌, List, [], ◌++◌, length, map, Option, Some, None, refl, sym, ap, ◌∙◌, subst, arith, inl}
+use Rattle.std.proofs.Common.{◌≡◌, ℕ, ◌+◌, ◌≤◌, List, [], ◌++◌, length, map, Option, Some, None, refl, sym, ap, ◌∙◌, subst, inl, inr}
 use Rattle.std.specs.FinMap as finite
 use Rattle.std.specs.Ordering.{nat_cmp}
 use Rattle.std.specs.Prelude.{option_to_list}
@@ -24,7 +24,7 @@ use Rattle.turn_client_proto_steps.specs.RunSteps.{IsRunStep}
 use Rattle.turn_client_proto_steps.specs.Sound.{AreAllocates, BeforeAllocated, CanAsk, IsOrderly, IsSound, UntilEnded, stream_from}
 use Rattle.turn_client_proto_steps.proofs.Adding.{Adds, adds_both, adds_none, phase_moved}
 use Rattle.turn_client_proto_steps.proofs.Orderly.{phase_orderly, until_map}
-use Rattle.turn_client_proto_steps.proofs.Plain.{failures_tell_nothing, joined, none_told, nothing_drawn, notices, quiet, run_step}
+use Rattle.turn_client_proto_steps.proofs.Plain.{IsCounted, counts_none, counts_one, failures_tell_nothing, joined, none_told, nothing_drawn, notices, quiet, run_step}
 
 -- ---- nothing changes that a run tells of
 
@@ -41,22 +41,23 @@ pub still : (c : Client) (came : List (List ℕ)) (new : Protocol) → IsSound c
 still c came new sound is =
     subst (λ (p : Protocol). IsRunStep c came None [] p) (sym is)
     (run_step [] came None [] c c.drawn c.core
-    (quiet None [] c c.drawn c.core (omega arith) (adds_none [] (parts_of c.core)) (nothing_drawn [] c) refl)
+    (quiet None [] c c.drawn c.core (counts_none c c.core refl) (adds_none [] (parts_of c.core)) (nothing_drawn [] c) refl)
     sound.orderly (until_map c.core.phase (still_can c c.core refl refl refl) sound.can_ask))
 
 -- ---- an end
 
-pub ends : (c : Client) (came : List (List ℕ)) (mid : Protocol) → Adds [] (parts_of c.core) (parts_of mid) → IsOrderly (parts_of mid) → notices mid.events ≡ notices c.core.events → IsRunStep c came None [] (ended mid)
+pub ends : (c : Client) (came : List (List ℕ)) (mid : Protocol) → Adds [] (parts_of c.core) (parts_of mid) → IsOrderly (parts_of mid) → notices mid.events ≡ notices c.core.events → mid.rng ≡ c.core.rng
+    → IsRunStep c came None [] (ended mid)
 unfolding ended
-ends c came mid adds orderly told =
+ends c came mid adds orderly told same =
     let over = phase_moved [] (parts_of mid) Ended (λ n h. absurd h) in
     run_step [] came None [] c c.drawn _
-    (quiet None [] c c.drawn _ (omega arith) (adds_both [] (parts_of c.core) (parts_of mid) _ adds over) (nothing_drawn [] c)
+    (quiet None [] c c.drawn _ (counts_none c (ended mid) same) (adds_both [] (parts_of c.core) (parts_of mid) _ adds over) (nothing_drawn [] c)
     (none_told mid.events (map AllocationCreateFailed mid.families) (failures_tell_nothing mid.families) ∙ told))
     (phase_orderly (parts_of mid) Ended tt orderly) tt
 
 pub ended_step : (c : Client) → IsSound c → IsRunStep c [] None [] (ended c.core)
-ended_step c sound = ends c [] c.core (adds_none [] (parts_of c.core)) sound.orderly refl
+ended_step c sound = ends c [] c.core (adds_none [] (parts_of c.core)) sound.orderly refl refl
 
 -- ---- memory was refused
 
@@ -102,11 +103,17 @@ module _ (c : Client) (new : Protocol) (is : HasFailed c.core new) where
     permissions = λ a h. none_listed a h;
   }
 
+  failed_at : (came : List (List ℕ)) (count : ℕ) → IsCounted c count new → IsRunStep c came None [] new
+  failed_at came count counts =
+      run_step [] came None [] c count new
+      (quiet None [] c count new counts failed_adds (nothing_drawn [] c) (ap notices is.events))
+      failed_orderly (subst (λ (f : Phase). UntilEnded f (CanAsk (moved c count new))) (sym is.phase) tt)
+
   pub failed_step : (came : List (List ℕ)) → IsRunStep c came None [] new
-  failed_step came =
-      run_step [] came None [] c c.drawn new
-      (quiet None [] c c.drawn new (omega arith) failed_adds (nothing_drawn [] c) (ap notices is.events))
-      failed_orderly (subst (λ (f : Phase). UntilEnded f (CanAsk (moved c c.drawn new))) (sym is.phase) tt)
+  failed_step came = elim is.drew [
+    | inl none ↦ failed_at came c.drawn (counts_none c new none)
+    | inr one ↦ failed_at came (c.drawn + 1) (counts_one c new one)
+  ]
 
 -- ---- an event is told
 
@@ -119,6 +126,6 @@ event_step c event new sound told others = by new.events told others
         let left : Protocol = record c.core { events = events } in
         subst (λ (p : Protocol). IsRunStep c [] None (notices (option_to_list event)) p) (sym is)
         (run_step [] [] None (notices (option_to_list event)) c c.drawn left
-        (quiet None (notices (option_to_list event)) c c.drawn left (omega arith) (adds_none [] (parts_of c.core)) (nothing_drawn [] c)
+        (quiet None (notices (option_to_list event)) c c.drawn left (counts_none c left refl) (adds_none [] (parts_of c.core)) (nothing_drawn [] c)
         (sym (joined (option_to_list event) events) ∙ ap notices (sym before)))
         sound.orderly (until_map c.core.phase (still_can c left refl refl refl) sound.can_ask))

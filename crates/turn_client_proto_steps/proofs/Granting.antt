@@ -40,7 +40,7 @@ use Rattle.turn_client_proto_steps.proofs.Asking.{IsUnderWay}
 use Rattle.turn_client_proto_steps.proofs.Lists.{found_in, found_passes, in_either, in_filter, in_first, inside}
 use Rattle.turn_client_proto_steps.proofs.Orderly.{until_all}
 use Rattle.turn_client_proto_steps.proofs.Permissions.{peer_of}
-use Rattle.turn_client_proto_steps.proofs.Plain.{held_is_kept, joined}
+use Rattle.turn_client_proto_steps.proofs.Plain.{counts_none, held_is_kept, joined}
 use Rattle.turn_client_proto_steps.proofs.Taken.{among}
 
 -- ---- one allocation
@@ -223,6 +223,8 @@ module _ (c : Client) (signer : signers.Client) (bytes : List ℕ) (now : ℕ) (
   step = record {
     account = refl;
     seed = refl;
+    counted = (counts_none c core refl).counted;
+    few = (counts_none c core refl).few;
     begun = [];
     requests = λ m h. absurd h;
     numbered = omega arith;
@@ -241,6 +243,7 @@ module _ (c : Client) (signer : signers.Client) (bytes : List ℕ) (now : ℕ) (
     is_of = only (λ (x : Told). run.IsOf x.notice x.held) refl;
     tells = joined c.core.events (PermissionCreated peer.0 peer.1 ∷ []);
     shows = λ h k. held_is_kept left h k;
+    shown = λ h i. absurd i;
     waits = λ n p w. inl (waits n p w);
     attempted = λ n h. inl (attempted n h);
     names = λ p h. absurd h;

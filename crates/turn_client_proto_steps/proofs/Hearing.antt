@@ -45,7 +45,7 @@ use Rattle.turn_client_proto_steps.proofs.Drawing.{one_number}
 use Rattle.turn_client_proto_steps.proofs.Ending.{ends}
 use Rattle.turn_client_proto_steps.proofs.Lists.{in_either}
 use Rattle.turn_client_proto_steps.proofs.Orderly.{IsAllocate, agent_orderly, before_all, phase_orderly, until_all}
-use Rattle.turn_client_proto_steps.proofs.Plain.{none_told, nothing_drawn, quiet, run_step}
+use Rattle.turn_client_proto_steps.proofs.Plain.{counts_none, none_told, nothing_drawn, quiet, run_step}
 use Rattle.turn_client_proto_steps.proofs.Polling.{by_test}
 
 -- ---- nothing is asked for
@@ -55,13 +55,13 @@ pub done : (c : Client) (came : List (List ℕ)) (mid new : Protocol) → IsUnde
 done c came mid new is same =
     subst (λ (p : Protocol). IsRunStep c came None [] p) (sym same)
     (run_step [] came None [] c c.drawn mid
-    (quiet None [] c c.drawn mid (omega arith) is.adds (nothing_drawn [] c) is.told)
+    (quiet None [] c c.drawn mid (counts_none c mid is.rng) is.adds (nothing_drawn [] c) is.told)
     is.orderly (until_all mid.phase is.can_ask))
 
 -- a client that has ended
 pub over : (c : Client) (came : List (List ℕ)) (mid new : Protocol) → IsUnderWay c mid → new ≡ ended mid → IsRunStep c came None [] new
 over c came mid new is same =
-    subst (λ (p : Protocol). IsRunStep c came None [] p) (sym same) (ends c came mid is.adds is.orderly is.told)
+    subst (λ (p : Protocol). IsRunStep c came None [] p) (sym same) (ends c came mid is.adds is.orderly is.told is.rng)
 
 -- ---- ALLOCATE once more
 

@@ -11,6 +11,7 @@ pub mod Hearing
 pub mod Lessening
 pub mod Lists
 pub mod Numbers
+pub mod Once
 pub mod Orderly
 pub mod Permissions
 pub mod Permits
@@ -20,6 +21,7 @@ pub mod Polling
 pub mod Receiving
 pub mod Refreshing
 pub mod Requesting
+pub mod Showing
 pub mod Shown
 pub mod Standing
 pub mod Taken

@@ -1,6 +1,7 @@
 -- A call in which nothing is gained is a step of a run.
-use Rattle.std.proofs.Common.{◌≡◌, ◌≢◌, ℕ, ◌≤◌, List, [], ◌∷◌, ◌++◌, map, Option, Some, None, refl, sym, ap, ◌∙◌, inl, inr}
+use Rattle.std.proofs.Common.{◌≡◌, ◌≢◌, ℕ, ◌+◌, ◌≤◌, List, [], ◌∷◌, ◌++◌, map, Option, Some, None, refl, sym, ap, ◌∙◌, arith, inl, inr}
 use Rattle.std.specs.List.{filter_map}
+use Rattle.rand_chacha.specs.ChaCha.{ChaCha}
 use Rattle.stun_types.specs.MessageClasses.{Request}
 use Rattle.stun_types.specs.declared.family.AddressFamily.{AddressFamily}
 use Rattle.turn_types.specs.TurnRegistry.{connection_attempt_method}
@@ -10,10 +11,11 @@ use Rattle.turn_client_proto_poll.specs.Steps.{AreNumbered, ClientStep, MayDraw}
 use Rattle.turn_client_proto_poll.specs.StunWire.{stun_wire}
 use Rattle.turn_client_proto_poll.specs.Api.declared.event.TurnEvent.{TurnEvent}
 use Rattle.turn_client_proto_poll.specs.Api.declared.event.TurnEvent.TheVariants.{AllocationCreateFailed}
+use Rattle.turn_client_proto_poll.specs.Core.Numbering.{after_draw}
 use Rattle.turn_client_proto_poll.specs.Core.declared.protocol.Protocol.{Protocol}
 use Rattle.turn_client_proto_steps.specs.ClientWords.{IsHeld, IsKept, client_words, notice_of}
 use Rattle.turn_client_proto_steps.specs.Held.{Allocation}
-use Rattle.turn_client_proto_steps.specs.RunClient.{Client, moved, parts_of}
+use Rattle.turn_client_proto_steps.specs.RunClient.{Client, moved, numbers_between, parts_of}
 use Rattle.turn_client_proto_steps.specs.RunSteps.{IsRunStep, call_of}
 use Rattle.turn_client_proto_steps.specs.Sound.{CanAsk, IsOrderly, UntilEnded}
 use Rattle.turn_client_proto_steps.proofs.Adding.{Adds}
@@ -46,9 +48,33 @@ failures_tell_nothing (f ∷ families) = failures_tell_nothing families
 pub held_is_kept : (allocations : List Allocation) (h : run.Held) → IsHeld allocations h → IsKept allocations h
 held_is_kept allocations h is = record { allocation = is.allocation; listed = is.listed; has = is.has }
 
+-- so many numbers are drawn then as the generator gave: two at most
+pub record IsCounted (c : Client) (count : ℕ) (core : Protocol) : Type 0 where
+  pub counted : count ≡ c.drawn + numbers_between c.core.rng core.rng
+  pub few : numbers_between c.core.rng core.rng ≤ 2
+
+none_between : (rng : ChaCha) → numbers_between rng rng ≡ 0
+none_between rng = omega arith
+
+one_between : (rng : ChaCha) → numbers_between rng (after_draw rng) ≡ 1
+unfolding after_draw
+one_between rng = omega arith
+
+counts : (c : Client) (count n : ℕ) (core : Protocol) → n ≤ 2 → count ≡ c.drawn + n → numbers_between c.core.rng core.rng ≡ n → IsCounted c count core
+counts c count n core few more is = record { counted = omega (arith, more, is); few = omega (arith, few, is) }
+
+-- none was given
+pub counts_none : (c : Client) (core : Protocol) → core.rng ≡ c.core.rng → IsCounted c c.drawn core
+counts_none c core same = counts c c.drawn 0 core (omega arith) (omega arith) (ap (λ (r : ChaCha). numbers_between c.core.rng r) same ∙ none_between c.core.rng)
+
+-- one was given
+pub counts_one : (c : Client) (core : Protocol) → core.rng ≡ after_draw c.core.rng → IsCounted c (c.drawn + 1) core
+counts_one c core same = counts c (c.drawn + 1) 1 core (omega arith) (omega arith) (ap (λ (r : ChaCha). numbers_between c.core.rng r) same ∙ one_between c.core.rng)
+
 -- these requests were made, so many numbers are drawn then, and nothing is gained
 pub record IsPlain (begun : List run.Message) (drawn : Option (List ℕ)) (answered : List run.Notice) (c : Client) (count : ℕ) (core : Protocol) : Type 0 where
   pub requests : (m : run.Message) → IsIn m begun → (m.class ≡ Request) × (m.method ≢ connection_attempt_method)
+  pub counts : IsCounted c count core
   pub numbered : AreNumbered client_words c [] c.drawn count begun
   pub adds : Adds begun (parts_of c.core) (parts_of core)
   pub draws : (bytes : List ℕ) (m : run.Message) → drawn ≡ Some bytes → stun_wire.shown bytes ≡ Some m → MayDraw client_words c begun m
@@ -59,6 +85,8 @@ plain_step : (begun : List run.Message) (came : List (List ℕ)) (drawn : Option
 plain_step begun came drawn answered c count core is = record {
   account = refl;
   seed = refl;
+  counted = is.counts.counted;
+  few = is.counts.few;
   begun = begun;
   requests = is.requests;
   numbered = is.numbered;
@@ -77,6 +105,7 @@ plain_step begun came drawn answered c count core is = record {
   is_of = λ t h. absurd h;
   tells = is.told ∙ nothing_behind (notices c.core.events);
   shows = λ h k. held_is_kept core.allocations h k;
+  shown = λ h i. absurd i;
   waits = λ n peer h. inl (is.adds.waits n peer h);
   attempted = λ n h. inl (is.adds.attempted n h);
   names = λ p h. absurd h;
@@ -96,12 +125,16 @@ run_step begun came drawn answered c count core plain orderly can_ask = record {
 pub nothing_drawn : (begun : List run.Message) (c : Client) (bytes : List ℕ) (m : run.Message) → None ≡ Some bytes → stun_wire.shown bytes ≡ Some m → MayDraw client_words c begun m
 nothing_drawn begun c bytes m h shows = absurd (Prim.cc h)
 
-pub quiet : (drawn : Option (List ℕ)) (answered : List run.Notice) (c : Client) (count : ℕ) (core : Protocol) → c.drawn ≤ count → Adds [] (parts_of c.core) (parts_of core)
+growing : (c : Client) (count : ℕ) (core : Protocol) → IsCounted c count core → c.drawn ≤ count
+growing c count core is = omega (arith, is.counted)
+
+pub quiet : (drawn : Option (List ℕ)) (answered : List run.Notice) (c : Client) (count : ℕ) (core : Protocol) → IsCounted c count core → Adds [] (parts_of c.core) (parts_of core)
     → ((bytes : List ℕ) (m : run.Message) → drawn ≡ Some bytes → stun_wire.shown bytes ≡ Some m → MayDraw client_words c [] m)
     → answered ++ notices core.events ≡ notices c.core.events → IsPlain [] drawn answered c count core
 quiet drawn answered c count core more adds draws told = record {
   requests = λ m h. absurd h;
-  numbered = more;
+  counts = more;
+  numbered = growing c count core more;
   adds = adds;
   draws = draws;
   told = told;

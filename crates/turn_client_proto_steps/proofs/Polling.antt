@@ -1,5 +1,5 @@
 -- A poll is a step of a run.
-use Rattle.std.proofs.Common.{◌≡◌, ℕ, Bool, true, false, List, [], ◌∷◌, map, Option, None, refl, sym, ◌∙◌, subst, arith}
+use Rattle.std.proofs.Common.{◌≡◌, ℕ, Bool, true, false, List, [], ◌∷◌, map, Option, None, refl, sym, ◌∙◌, subst}
 use Rattle.std.specs.Bool.{MatchBool}
 use Rattle.stun_proto.specs.AgentPolls.{StunAgentPollRet}
 use Rattle.stun_proto.specs.State as agents
@@ -27,7 +27,7 @@ use Rattle.turn_client_proto_steps.proofs.Lessening.{all_polled}
 use Rattle.turn_client_proto_steps.proofs.Orderly.{agent_orderly, allocations_orderly, until_map}
 use Rattle.turn_client_proto_steps.proofs.Permissions.{polled_permitting}
 use Rattle.turn_client_proto_steps.proofs.Permitting.{allocations_permitting, each_permitting, none_asks, permitting_orderly}
-use Rattle.turn_client_proto_steps.proofs.Plain.{none_told, nothing_drawn, notices, quiet, run_step}
+use Rattle.turn_client_proto_steps.proofs.Plain.{counts_none, none_told, nothing_drawn, notices, quiet, run_step}
 
 -- ---- by a test
 
@@ -68,13 +68,13 @@ module _ (c : Client) (sound : IsSound c) (now : ℕ) (ticked : StunAgentPollRet
   ticks new same =
       subst (λ (p : Protocol). IsRunStep c [] None [] p) (sym same)
       (run_step [] [] None [] c c.drawn mid
-      (quiet None [] c c.drawn mid (omega arith) mid_adds (nothing_drawn [] c) refl)
+      (quiet None [] c c.drawn mid (counts_none c mid refl) mid_adds (nothing_drawn [] c) refl)
       mid_orderly (until_map c.core.phase (still_can c mid refl refl refl) sound.can_ask))
 
   sent_ticks : (numbers : List ℕ) (over : Option ℕ) (wait : ℕ) (ret : TurnPollRet) (new : Protocol) → IsPolledSent numbers over wait mid now ret new → IsRunStep c [] None [] new
   sent_ticks numbers over wait ret new h =
       by_test (is_among over numbers)
-      (λ (_ : is_among over numbers ≡ true) (o : (ret ≡ answer.Closed) × (new ≡ ended mid)). subst (λ (p : Protocol). IsRunStep c [] None [] p) (sym o.1) (ends c [] mid mid_adds mid_orderly refl))
+      (λ (_ : is_among over numbers ≡ true) (o : (ret ≡ answer.Closed) × (new ≡ ended mid)). subst (λ (p : Protocol). IsRunStep c [] None [] p) (sym o.1) (ends c [] mid mid_adds mid_orderly refl refl))
       (λ (_ : is_among over numbers ≡ false) (o : (ret ≡ waits_until over now wait) × (new ≡ mid)). ticks new o.1) h
 
   stands : (over : Option ℕ) (new : Protocol) → new ≡ after_time over now mid → IsRunStep c [] None [] new
@@ -91,7 +91,7 @@ module _ (c : Client) (sound : IsSound c) (now : ℕ) (ticked : StunAgentPollRet
       (allocations_permitting [] none_asks between last are (λ ip n h. absurd h))) in
       subst (λ (p : Protocol). IsRunStep c [] None [] p) (sym same)
       (run_step [] [] None [] c c.drawn core
-      (quiet None [] c c.drawn core (omega arith) adds (nothing_drawn [] c) (none_told c.core.events (permissions.all_failures over now renewed) (ends_tell_nothing over now renewed)))
+      (quiet None [] c c.drawn core (counts_none c core refl) adds (nothing_drawn [] c) (none_told c.core.events (permissions.all_failures over now renewed) (ends_tell_nothing over now renewed)))
       (permitting_orderly none_asks between last are (λ a ip n h. absurd h) (allocations_orderly [] (parts_of mid) renewed less (λ r h. absurd h) mid_orderly))
       (until_map c.core.phase (still_can c core refl refl refl) sound.can_ask))
 
@@ -111,4 +111,4 @@ poll_step c now (answer.WaitUntil moment) new sound h = polled_by c c.core.event
 poll_step c now (answer.AllocateTcpSocket id socket peer) new sound h = polled_by c c.core.events now _ new sound h
 poll_step c now (answer.TcpClose local remote) new sound h = polled_by c c.core.events now _ new sound h
 poll_step c now answer.Closed new sound h = polled_by c c.core.events now _ new sound h
-poll_step c now answer.NoMemory new sound h = failed_step c new h []
+poll_step c now answer.NoMemory new sound h = failed_step c new h.failed []

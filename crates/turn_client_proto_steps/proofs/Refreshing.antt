@@ -1,5 +1,5 @@
 -- REFRESH requests that a client makes.
-use Rattle.std.proofs.Common.{◌≡◌, ℕ, ◌+◌, ◌<◌, ◌≤◌, ◌^◌, Bool, false, if◌then◌else◌, [], ◌∷◌, map, Option, Some, None, Result, Ok, Err, refl, sym, ap, ◌∙◌, subst, arith, inl, inr}
+use Rattle.std.proofs.Common.{◌≡◌, ℕ, ◌+◌, ◌<◌, ◌^◌, Bool, false, if◌then◌else◌, [], ◌∷◌, map, Option, Some, None, Result, Ok, Err, refl, sym, ap, ◌∙◌, subst, arith, inl, inr}
 use Rattle.std.specs.Prelude.{IfNone, IfSome, MatchResult}
 use Rattle.turn_client_proto_poll.specs.Members.{IsIn}
 use Rattle.turn_client_proto_poll.specs.StunWire.{told_by}
@@ -24,7 +24,7 @@ use Rattle.turn_client_proto_steps.proofs.Ending.{still}
 use Rattle.turn_client_proto_steps.proofs.Lessening.{each_less, end_asked}
 use Rattle.turn_client_proto_steps.proofs.Numbers.{words_after}
 use Rattle.turn_client_proto_steps.proofs.Orderly.{allocations_orderly, until_all}
-use Rattle.turn_client_proto_steps.proofs.Plain.{nothing_drawn, quiet, run_step}
+use Rattle.turn_client_proto_steps.proofs.Plain.{counts_one, nothing_drawn, quiet, run_step}
 
 -- ---- one REFRESH
 
@@ -73,9 +73,8 @@ module _ (c : Client) (number now : ℕ) (sound : IsOrderly (parts_of c.core)) (
 -- a number is drawn, and nothing else is done
 pub number_drawn : (c : Client) → IsSound c → CanAsk c → IsRunStep c [] None [] (after_number c.core)
 number_drawn c sound can =
-    let later : c.drawn ≤ c.drawn + 1 = omega arith in
     run_step [] [] None [] c (c.drawn + 1) (after_number c.core)
-    (quiet None [] c (c.drawn + 1) (after_number c.core) later (adds_none [] (parts_of c.core)) (nothing_drawn [] c) refl)
+    (quiet None [] c (c.drawn + 1) (after_number c.core) (counts_one c (after_number c.core) refl) (adds_none [] (parts_of c.core)) (nothing_drawn [] c) refl)
     sound.orderly (until_all c.core.phase (record {
       account = can.account;
       texts = can.texts;

@@ -1,5 +1,5 @@
 -- A permission that a caller asks for is a step of a run.
-use Rattle.std.proofs.Common.{◌≡◌, ℕ, Bool, true, false, if◌then◌else◌, List, [], ◌∷◌, Option, Some, None, Result, Ok, Err, refl, sym, subst, arith}
+use Rattle.std.proofs.Common.{◌≡◌, ℕ, Bool, true, false, if◌then◌else◌, List, [], ◌∷◌, Option, Some, None, Result, Ok, Err, refl, sym, subst}
 use Rattle.std.specs.Prelude.{IfNone, IfSome, MatchResult}
 use Rattle.std.specs.declared.net.ip_addr.IpAddr.{IpAddr}
 use Rattle.stun_types.specs.declared.transport.TransportType.{TransportType}
@@ -28,7 +28,7 @@ use Rattle.turn_client_proto_steps.proofs.Orderly.{allocations_orderly, until_ma
 use Rattle.turn_client_proto_steps.proofs.Permissions.{asking_permitting, first_permitting}
 use Rattle.turn_client_proto_steps.proofs.Permits.{made_number, owns}
 use Rattle.turn_client_proto_steps.proofs.Permitting.{ArePermitting, allocations_permitting, one_asks, permitting_orderly}
-use Rattle.turn_client_proto_steps.proofs.Plain.{nothing_drawn, quiet, run_step}
+use Rattle.turn_client_proto_steps.proofs.Plain.{counts_none, nothing_drawn, quiet, run_step}
 use Rattle.turn_client_proto_steps.proofs.Refreshing.{allocated, number_drawn}
 
 module _ (c : Client) (transport : TransportType) (ip : IpAddr) (now : ℕ) where
@@ -54,7 +54,7 @@ module _ (c : Client) (transport : TransportType) (ip : IpAddr) (now : ℕ) wher
       let less : AreLess [] c.core.allocations left = first_less [] marked marked_less (is_of transport (family_of_ip ip)) c.core.allocations in
       let core : Protocol = record c.core { allocations = left } in
       run_step [] [] None [] c c.drawn core
-      (quiet None [] c c.drawn core (omega arith) (allocations_less [] [] (parts_of c.core) left less (λ r h. absurd h)) (nothing_drawn [] c) refl)
+      (quiet None [] c c.drawn core (counts_none c core refl) (allocations_less [] [] (parts_of c.core) left less (λ r h. absurd h)) (nothing_drawn [] c) refl)
       (allocations_orderly [] (parts_of c.core) left less (λ r h. absurd h) sound.orderly) (until_map c.core.phase (still_can c core refl refl refl) sound.can_ask)
 
   refused : (found : Option Allocation) (new : Protocol) → IsSound c → new ≡ refused_in found transport ip now c.core → IsRunStep c [] None [] new

@@ -1,5 +1,5 @@
 -- What a client that has allocated makes of a message is a step of a run.
-use Rattle.std.proofs.Common.{◌≡◌, ℕ, ◌<◌, ◌^◌, ◌==◌, Bool, true, false, ◌&&◌, List, [], ◌∷◌, map, Option, Some, None, Result, Ok, Err, if◌then◌else◌, refl, sym, ◌∙◌, subst, arith}
+use Rattle.std.proofs.Common.{◌≡◌, ℕ, ◌<◌, ◌^◌, ◌==◌, Bool, true, false, ◌&&◌, List, [], ◌∷◌, map, Option, Some, None, Result, Ok, Err, if◌then◌else◌, refl, sym, ◌∙◌, subst}
 use Rattle.std.specs.List.{find, list_any}
 use Rattle.std.specs.Option.{option_and_then, option_map}
 use Rattle.stun_types.specs.Attributes.{kind_at}
@@ -59,7 +59,7 @@ use Rattle.turn_client_proto_steps.proofs.Permissions.{asking_again_permitting, 
 use Rattle.turn_client_proto_steps.proofs.Permits.{made_number, owns}
 use Rattle.turn_client_proto_steps.proofs.Permitting.{ArePermitting, allocations_permitting, each_permitting, none_asks, one_asks, permitting_orderly}
 use Rattle.turn_client_proto_steps.proofs.Orderly.{agent_orderly, allocations_orderly, phase_orderly, until_all}
-use Rattle.turn_client_proto_steps.proofs.Plain.{none_told, nothing_drawn, notices, quiet, run_step}
+use Rattle.turn_client_proto_steps.proofs.Plain.{counts_none, none_told, nothing_drawn, notices, quiet, run_step}
 use Rattle.turn_client_proto_steps.proofs.Polling.{by_test}
 use Rattle.turn_client_proto_steps.proofs.Refreshing.{allocated, refresh_made, refresh_of, refresh_short}
 
@@ -167,7 +167,7 @@ module _ (c : Client) (mid : Protocol) (bytes : List ℕ) (now : ℕ) (under_way
       let adds = adds_both [] (parts_of c.core) (parts_of mid) (parts_of core) under_way.adds
       (adds_both [] (parts_of mid) gone (parts_of core) (allocations_less [] [] (parts_of mid) [] (none_less mid.allocations) (λ r h. absurd h)) (phase_moved [] gone Ended (λ n h. absurd h))) in
       run_step [] (bytes ∷ []) None [] c c.drawn core
-      (quiet None [] c c.drawn core (omega arith) adds (nothing_drawn [] c) under_way.told)
+      (quiet None [] c c.drawn core (counts_none c core under_way.rng) adds (nothing_drawn [] c) under_way.told)
       (phase_orderly gone Ended tt (allocations_orderly [] (parts_of mid) [] (none_less mid.allocations) (λ r h. absurd h) under_way.orderly)) tt
 
   all_renew : IsRunStep c (bytes ∷ []) None [] (record mid { allocations = map (renewed (number_at bytes) now (lifetime_told bytes)) mid.allocations })
@@ -177,7 +177,7 @@ module _ (c : Client) (mid : Protocol) (bytes : List ℕ) (now : ℕ) (under_way
       let less : AreLess [] mid.allocations left = all_renewed (number_at bytes) now (lifetime_told bytes) mid.allocations in
       let adds = adds_both [] (parts_of c.core) (parts_of mid) (parts_of core) under_way.adds (allocations_less [] [] (parts_of mid) left less (λ r h. absurd h)) in
       run_step [] (bytes ∷ []) None [] c c.drawn core
-      (quiet None [] c c.drawn core (omega arith) adds (nothing_drawn [] c) under_way.told)
+      (quiet None [] c c.drawn core (counts_none c core under_way.rng) adds (nothing_drawn [] c) under_way.told)
       (allocations_orderly [] (parts_of mid) left less (λ r h. absurd h) under_way.orderly) (until_all mid.phase (record {
         account = under_way.can_ask.account;
         texts = under_way.can_ask.texts;
@@ -207,7 +207,8 @@ module _ (c : Client) (mid : Protocol) (bytes : List ℕ) (now : ℕ) (under_way
   permissions_left core left are is told =
       subst (λ (p : Protocol). IsRunStep c (bytes ∷ []) None [] p) (sym is)
       (run_step [] (bytes ∷ []) None [] c c.drawn (record mid { allocations = left; events = core.events })
-      (quiet None [] c c.drawn (record mid { allocations = left; events = core.events }) (omega arith)
+      (quiet None [] c c.drawn (record mid { allocations = left; events = core.events })
+      (counts_none c (record mid { allocations = left; events = core.events }) under_way.rng)
       (adds_both [] (parts_of c.core) (parts_of mid) (record (parts_of mid) { allocations = left }) under_way.adds (allocations_permitting [] none_asks (parts_of mid) left are (λ ip n h. absurd h)))
       (nothing_drawn [] c) (told ∙ under_way.told))
       (permitting_orderly none_asks (parts_of mid) left are (λ a ip n h. absurd h) under_way.orderly) (until_all mid.phase (record {

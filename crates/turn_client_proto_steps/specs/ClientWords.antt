@@ -19,7 +19,7 @@ use Rattle.turn_client_proto_poll.specs.Api.declared.event.TurnEvent.{TurnEvent}
 use Rattle.turn_client_proto_poll.specs.Api.declared.event.TurnEvent.TheVariants.{AllocationCreated, AllocationCreateFailed, PermissionCreated, PermissionCreateFailed, ChannelCreated, ChannelCreateFailed, TcpConnected, TcpConnectFailed}
 use Rattle.turn_client_proto_poll.specs.Core.Authenticating.{numbers_sent}
 use Rattle.turn_client_proto_poll.specs.Core.Waiting.{Queued}
-use Rattle.turn_client_proto_steps.specs.RunClient.{Client, Incoming, Control, Unbound, Bound, Parts, parts_of}
+use Rattle.turn_client_proto_steps.specs.RunClient.{Client, Incoming, Control, Unbound, Bound, Parts, numbers_between, parts_of}
 
 -- ---- requests
 
@@ -132,6 +132,7 @@ client_words = record {
   account = λ c. c.credentials;
   seed = λ c. c.seed;
   count = λ c. c.drawn;
+  given = λ before after. numbers_between before.core.rng after.core.rng;
   IsOutstanding = λ c. IsOutstanding c.core.agent;
   IsQueued = λ c. IsQueued c.core.queue;
   IsTaken = λ c. IsTaken (parts_of c.core);

@@ -1,9 +1,11 @@
 -- What a run sees of a client, over either transport.
-use Rattle.std.specs.Prelude.{ℕ, List}
+use Rattle.std.specs.Prelude.{ℕ, ◌+◌, ◌-◌, ◌/◌, ◌%◌, ◌^◌, List}
 use Rattle.std.specs.FinMap as map
 use Rattle.std.specs.declared.net.socket_addr.SocketAddr.{SocketAddr}
+use Rattle.rand_chacha.specs.ChaCha.{ChaCha}
 use Rattle.rand_core.specs.Stream.{Stream}
 use Rattle.stun_types.specs.Credentials.{NameAndPassword}
+use Rattle.stun_types.specs.Generated.{number_words}
 use Rattle.stun_types.specs.SocketAddrs.{socket_addr_cmp}
 use Rattle.stun_types.specs.declared.transport.TransportType.{TransportType}
 use Rattle.stun_proto.specs.State.{Agent}
@@ -32,6 +34,15 @@ pub record Client : Type 0 where
 -- the client after a call, when so many numbers were drawn
 abbrev pub moved : Client → ℕ → Protocol → Client
 moved c drawn core = record c { drawn = drawn; core = core }
+
+-- how many words a generator gave on its way from one place to another; behind the last place, 2 ^ 68 - 1, comes
+-- the first
+abbrev pub words_between : (before after : ChaCha) → ℕ
+words_between before after = (after.word_pos + (2 ^ 68 - before.word_pos % 2 ^ 68)) % 2 ^ 68
+
+-- how many numbers that are
+abbrev pub numbers_between : (before after : ChaCha) → ℕ
+numbers_between before after = words_between before after / number_words
 
 -- the parts of a core that a run tells of
 pub record Parts : Type 0 where

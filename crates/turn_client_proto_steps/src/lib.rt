@@ -4,10 +4,13 @@
 //! numbers are taken, what is held. `specs/Sound.antt` has what is always true of a client. The
 //! functions here do nothing; each contract is a law: a call that meets its contract is a step of a
 //! run, and leaves a sound client sound. A getter is no step, for nothing changes; nor are bytes that
-//! are no message, or that did not come from the server.
+//! are no message, or that did not come from the server. [`definite`] has that what a client does is
+//! determined.
 #![tactic(auto)]
 
-ghost use Rattle.std.specs.Prelude.{◌≤◌, ℕ, List, length, ◌≡◌, ◌++◌, Bool, [], Option, None, Result, option_to_list};
+pub mod definite;
+
+ghost use Rattle.std.specs.Prelude.{◌≤◌, ℕ, List, length, ◌≡◌, ◌++◌, Bool, true, [], Option, None, Result, option_to_list};
 ghost use Rattle.std.specs.declared.net.ip_addr.IpAddr.{IpAddr};
 ghost use Rattle.std.specs.declared.net.socket_addr.SocketAddr.{SocketAddr};
 ghost use Rattle.stun_types.specs.Registry.{longest_username};
@@ -18,6 +21,7 @@ ghost use Rattle.turn_client_proto_poll.specs.Runs.{IsNew as IsNewInRun};
 ghost use Rattle.turn_client_proto_poll.specs.Words.{DeskWords};
 ghost use Rattle.turn_client_proto_poll.specs.Allocation.Listed.{relayed_shown};
 ghost use Rattle.turn_client_proto_poll.specs.Api.Config.{Config};
+ghost use Rattle.turn_client_proto_poll.specs.Permission.Asking.{permits_over};
 ghost use Rattle.turn_client_proto_poll.specs.Permission.Shown.{addresses_of, permissions_at};
 ghost use Rattle.turn_client_proto_poll.specs.Core.Beginning.{IsNew};
 ghost use Rattle.turn_client_proto_poll.specs.Core.declared.protocol.Protocol.{Protocol};
@@ -25,7 +29,7 @@ ghost use Rattle.turn_client_proto_steps.specs.Beginning.{first_client};
 ghost use Rattle.turn_client_proto_steps.specs.ClientWords.{client_words, run_words, notice_of};
 ghost use Rattle.turn_client_proto_steps.specs.RunClient.{Client};
 ghost use Rattle.turn_client_proto_steps.specs.Sound.{IsSound};
-ghost use Rattle.std.specs.List.{filter_map};
+ghost use Rattle.std.specs.List.{filter_map, list_any};
 ghost use Rattle.std.specs.Option.{option_map};
 ghost use Rattle.stun_types.specs.Grammar.{refusal};
 ghost use Rattle.stun_types.specs.Headers.{AreBytes};
@@ -82,6 +86,17 @@ pub fn shown_permissions_are_held()
     ensures { (c : Client) (transport : TransportType) (relayed : SocketAddr) (ip : IpAddr)
         → IsIn ip (addresses_of (permissions_at transport relayed c.core.allocations))
         → client_words.IsHeld c (Permission transport ip) }
+{}
+
+/// A permission that a client says it has is held, in the words of a run, and one that is held it says it
+/// has (`have_permission`).
+pub fn permissions_had_are_held()
+    ensures held { (c : Client) (transport : TransportType) (ip : IpAddr)
+        → list_any (permits_over transport ip) c.core.allocations ≡ true
+        → client_words.IsHeld c (Permission transport ip) }
+    ensures had { (c : Client) (transport : TransportType) (ip : IpAddr)
+        → client_words.IsHeld c (Permission transport ip)
+        → list_any (permits_over transport ip) c.core.allocations ≡ true }
 {}
 
 /// `poll_event` is a step in which what an event tells as created is answered.

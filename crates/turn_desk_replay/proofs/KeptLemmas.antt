@@ -63,11 +63,11 @@ kept_reference flags answers (event ∷ from ∷ to ∷ []) is =
     ap (λ a. range_of a (number from) (number to)) (kept_answer flags answers (number event) is)
 kept_reference flags answers (event ∷ from ∷ to ∷ more ∷ rest) is = refl
 
-kept_part : (flags : List Bool) (answers : List (List ℕ)) (part : List ℕ) → IsPartCovered flags part
-    → part_bytes (kept_of flags answers) part ≡ part_bytes answers part
+kept_part : (flags : List Bool) (answers : List (List ℕ)) (piece : List ℕ) → IsPartCovered flags piece
+    → part_bytes (kept_of flags answers) piece ≡ part_bytes answers piece
 unfolding part_bytes named_place
-kept_part flags answers part is = elim (cases_Bool (slice_index part 0 == 64)) [
-  | inl at ↦ rw (at) (ap some_bytes (kept_reference flags answers (slice_split (λ b. b == 58) (drop 1 part)) (rw at at is)))
+kept_part flags answers piece is = elim (cases_Bool (slice_index piece 0 == 64)) [
+  | inl at ↦ rw (at) (ap some_bytes (kept_reference flags answers (slice_split (λ b. b == 58) (drop 1 piece)) (rw at at is)))
   | inr other ↦ rw (other) refl
 ]
 

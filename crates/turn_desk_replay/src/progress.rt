@@ -65,8 +65,8 @@ impl Progress {
         line: &[u8],
         wanted: &[bool],
     ) -> Result<Option<String>, LineError>
-        ensures done { IfOk result (λ text. IsLineDoneKept wanted.now (progress_of self.old) line.now
-            (line_text (option_map (λ t. string_bytes t) text)) (progress_of self.new)) }
+        ensures done { IfOk result (λ text. IsLineDoneKept wanted.now (progress_of self.old)
+            line.now (line_text (option_map (λ t. string_bytes t) text)) (progress_of self.new)) }
         ensures bad { result ≡ Err LineError.Bad → IsBadLine (progress_of self.old) line.now }
     {
         if is_skipped(line) {

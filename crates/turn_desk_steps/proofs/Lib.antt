@@ -1,5 +1,7 @@
+pub mod Answering
 pub mod Asking
 pub mod Granting
+pub mod Judging
 pub mod Replies
 pub mod Signing
 pub mod Stepping

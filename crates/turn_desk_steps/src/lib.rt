@@ -1,6 +1,8 @@
 //! What a desk does, in the words of a run of a client and a desk (RFC 8656).
 #![tactic(auto)]
 
+pub mod definite;
+
 ghost use Rattle.turn_runs_stun.specs.Steps.{DeskStep};
 ghost use Rattle.turn_runs_stun.specs.StunWire.{stun_wire};
 ghost use Rattle.turn_desk_steps.specs.DeskRun.{DeskCall, IsHandled, desk_words};

@@ -1,5 +1,5 @@
 -- What the client of a world answers is a step of a run.
-use Rattle.std.proofs.Common.{◌≡◌, ℕ, Bool, true, false, List, [], ◌∷◌, Option, Some, None, Ok, Err, refl, sym, ap, ◌∙◌, subst}
+use Rattle.std.proofs.Common.{◌≡◌, ℕ, Bool, true, false, List, [], ◌∷◌, Option, Some, None, Ok, Err, refl, sym, ap, ◌∙◌, subst, inl, inr}
 use Rattle.std.specs.Borrow.{Bor}
 use Rattle.std.specs.declared.net.ip_addr.IpAddr.{IpAddr}
 use Rattle.std.specs.declared.net.socket_addr.SocketAddr.{SocketAddr}
@@ -8,7 +8,8 @@ use Rattle.stun_types.specs.Headers.{AreBytes}
 use Rattle.stun_types.specs.ParseErrors.{StunParseError}
 use Rattle.stun_types.specs.declared.transmit.Transmit.{Transmit}
 use Rattle.stun_types.specs.declared.transport.TransportType.{TransportType}
-use Rattle.turn_client_proto.specs.Messages.{Notice}
+use Rattle.turn_client_proto.specs.Getters.{has_permission}
+use Rattle.turn_client_proto.specs.Messages.{Held, Notice}
 use Rattle.turn_client_proto.specs.Allocation.Listed.{relayed_shown}
 use Rattle.turn_client_proto.specs.Permission.Shown.{addresses_of, permissions_at}
 use Rattle.turn_client_proto.specs.Api.declared.answer.TurnPollRet.TheVariants as poll
@@ -17,6 +18,7 @@ use Rattle.turn_client_proto.specs.Api.declared.answer.TurnRecvRet.TheVariants a
 use Rattle.turn_client_proto.specs.Drawing.{sent_of}
 use Rattle.turn_client_proto.specs.Kept.{Protocol}
 use Rattle.turn_client_proto.specs.Receipts.{Foreign, Heard, IsGivenBack, IsHandledAs, IsMessageTaken, IsRead, IsReceived, Lost, Own}
+use Rattle.turn_client_proto_steps.specs.ClientWords.{IsHeld}
 use Rattle.turn_client_proto_steps.specs.RunClient.{Client}
 use Rattle.turn_client_proto_steps.specs.RunSteps.{IsRunStep}
 use Rattle.turn_client_proto_steps.specs.Sound.{IsSound}
@@ -35,53 +37,53 @@ use Rattle.turn_desk_event.specs.declared.event.Event.{Event}
 use Rattle.turn_desk_event.specs.declared.event.Event.TheVariants as event
 use Rattle.turn_desk_world.specs.Calls.{ArePermissionsTold, IsCalled, IsDeleteTold, IsDrawnAs, IsEndTold, IsEventTold, IsFed, IsHaveTold, IsPermissionTold, IsPolledAs, IsRelayedTold, IsTold}
 use Rattle.turn_desk_world.specs.Told.{bytes_sent, notices_in, payloads_in}
-use Rattle.turn_desk_world.proofs.Shown.{ShowsOf}
+use Rattle.turn_desk_world.proofs.Shown.{AreHeld, had_is_held, permissions_held, relayed_held}
 
 -- an event that is answered so
 pub record IsAnswered (happening : Event) (c : Client) (came : List (List ℕ)) (ret : Answer) (core : Protocol) : Type 0 where
   pub step : IsRunStep c came (bytes_sent ret) (notices_in ret) core
   pub no_payload : payloads_in ret ≡ []
-  pub shows : ShowsOf happening ret core
+  pub shows : AreHeld happening ret core
 
 module _ (happening : Event) (c : Client) (sound : IsSound c) (now : ℕ) (new : Protocol) where
   polled : (ret : Answer) → IsPolledAs ret c.core now new → IsAnswered happening c [] ret new
-  polled (answer.Wait moment) is = record { step = poll_step c now (poll.WaitUntil moment) new sound is; no_payload = refl; shows = tt }
-  polled (answer.Socket id socket peer) is = record { step = poll_step c now (poll.AllocateTcpSocket id socket peer) new sound is; no_payload = refl; shows = tt }
-  polled (answer.Close local remote) is = record { step = poll_step c now (poll.TcpClose local remote) new sound is; no_payload = refl; shows = tt }
-  polled answer.Closed is = record { step = poll_step c now poll.Closed new sound is; no_payload = refl; shows = tt }
+  polled (answer.Wait moment) is = record { step = poll_step c now (poll.WaitUntil moment) new sound is; no_payload = refl; shows = λ h i. absurd i }
+  polled (answer.Socket id socket peer) is = record { step = poll_step c now (poll.AllocateTcpSocket id socket peer) new sound is; no_payload = refl; shows = λ h i. absurd i }
+  polled (answer.Close local remote) is = record { step = poll_step c now (poll.TcpClose local remote) new sound is; no_payload = refl; shows = λ h i. absurd i }
+  polled answer.Closed is = record { step = poll_step c now poll.Closed new sound is; no_payload = refl; shows = λ h i. absurd i }
   polled _ is = absurd is
 
   event_told : (ret : Answer) → IsEventTold ret c.core new → IsAnswered happening c [] ret new
-  event_told (answer.Event event) is = record { step = event_step c (Some event) new sound is.0 is.1; no_payload = refl; shows = tt }
-  event_told answer.Nothing is = record { step = still c [] new sound is.1; no_payload = refl; shows = tt }
+  event_told (answer.Event event) is = record { step = event_step c (Some event) new sound is.0 is.1; no_payload = refl; shows = λ h i. absurd i }
+  event_told answer.Nothing is = record { step = still c [] new sound is.1; no_payload = refl; shows = λ h i. absurd i }
   event_told _ is = absurd is
 
   delete_told : (ret : Answer) → IsDeleteTold ret c.core now new → IsAnswered happening c [] ret new
-  delete_told answer.Done is = record { step = delete_step c now (Ok tt) new sound is; no_payload = refl; shows = tt }
-  delete_told (answer.Refused (DeleteRefused error)) is = record { step = delete_step c now (Err error) new sound is; no_payload = refl; shows = tt }
+  delete_told answer.Done is = record { step = delete_step c now (Ok tt) new sound is; no_payload = refl; shows = λ h i. absurd i }
+  delete_told (answer.Refused (DeleteRefused error)) is = record { step = delete_step c now (Err error) new sound is.0; no_payload = refl; shows = λ h i. absurd i }
   delete_told _ is = absurd is
 
   permission_told : (transport : TransportType) (ip : IpAddr) (ret : Answer) → IsPermissionTold ret transport ip c.core now new → IsAnswered happening c [] ret new
-  permission_told transport ip answer.Done is = record { step = permission_step c transport ip now (Ok tt) new sound is; no_payload = refl; shows = tt }
-  permission_told transport ip (answer.Refused (PermissionRefused error)) is = record { step = permission_step c transport ip now (Err error) new sound is; no_payload = refl; shows = tt }
+  permission_told transport ip answer.Done is = record { step = permission_step c transport ip now (Ok tt) new sound is; no_payload = refl; shows = λ h i. absurd i }
+  permission_told transport ip (answer.Refused (PermissionRefused error)) is = record { step = permission_step c transport ip now (Err error) new sound is.0; no_payload = refl; shows = λ h i. absurd i }
   permission_told transport ip _ is = absurd is
 
-  have_told : (transport : TransportType) (ip : IpAddr) (ret : Answer) → IsHaveTold ret transport ip c.core new → IsAnswered happening c [] ret new
-  have_told transport ip (answer.Have has) is = record { step = still c [] new sound is.1; no_payload = refl; shows = tt }
-  have_told transport ip _ is = absurd is
-
   end_told : (ret : Answer) → IsEndTold ret c.core new → IsAnswered happening c [] ret new
-  end_told answer.Done is = record { step = subst (λ (p : Protocol). IsRunStep c [] None [] p) (sym is) (ended_step c sound); no_payload = refl; shows = tt }
+  end_told answer.Done is = record { step = subst (λ (p : Protocol). IsRunStep c [] None [] p) (sym is) (ended_step c sound); no_payload = refl; shows = λ h i. absurd i }
   end_told _ is = absurd is
 
   relayed_told : (ret : Answer) → IsRelayedTold ret c.core new → IsAnswered happening c [] ret new
-  relayed_told (answer.Relayed list) is = record { step = still c [] new sound is.1; no_payload = refl; shows = is.0 ∙ ap (λ (p : Protocol). relayed_shown p.allocations) (sym is.1) }
+  relayed_told (answer.Relayed list) is = record {
+    step = still c [] new sound is.1;
+    no_payload = refl;
+    shows = relayed_held new list.items (is.0 ∙ ap (λ (p : Protocol). relayed_shown p.allocations) (sym is.1));
+  }
   relayed_told _ is = absurd is
 
   pub drawn : (ret : Answer) → IsDrawnAs ret c.core now new → IsAnswered happening c [] ret new
   unfolding IsDrawnAs
-  drawn (answer.Transmit transmit) is = record { step = draw_step c now (Some (sent_of transmit)) new sound is; no_payload = refl; shows = tt }
-  drawn answer.Nothing is = record { step = draw_step c now None new sound is; no_payload = refl; shows = tt }
+  drawn (answer.Transmit transmit) is = record { step = draw_step c now (Some (sent_of transmit)) new sound is; no_payload = refl; shows = λ h i. absurd i }
+  drawn answer.Nothing is = record { step = draw_step c now None new sound is; no_payload = refl; shows = λ h i. absurd i }
   drawn _ is = absurd is
 
 -- ---- a call
@@ -91,9 +93,24 @@ module _ (c : Client) (sound : IsSound c) (now : ℕ) (new : Protocol) where
   permissions_told transport relayed (answer.Permissions list) is = record {
     step = still c [] new sound is.1;
     no_payload = refl;
-    shows = is.0 ∙ ap (λ (p : Protocol). addresses_of (permissions_at transport relayed p.allocations)) (sym is.1);
+    shows = permissions_held new transport relayed list.items (is.0 ∙ ap (λ (p : Protocol). addresses_of (permissions_at transport relayed p.allocations)) (sym is.1));
   }
   permissions_told transport relayed _ is = absurd is
+
+  have_shown : (transport : TransportType) (ip : IpAddr) (has : Bool) → has ≡ has_permission transport ip new → AreHeld (event.Call (call.HavePermission transport ip) now) (answer.Have has) new
+  have_shown transport ip true is = λ h i. elim i [
+    | inl same ↦ subst (λ (x : Held). IsHeld new.allocations x) same (had_is_held new transport ip (sym is))
+    | inr none ↦ absurd none
+  ]
+  have_shown transport ip false is = λ h i. absurd i
+
+  have_told : (transport : TransportType) (ip : IpAddr) (ret : Answer) → IsHaveTold ret transport ip c.core new → IsAnswered (event.Call (call.HavePermission transport ip) now) c [] ret new
+  have_told transport ip (answer.Have has) is = record {
+    step = still c [] new sound is.1;
+    no_payload = refl;
+    shows = have_shown transport ip has (is.0 ∙ ap (λ (p : Protocol). has_permission transport ip p) (sym is.1));
+  }
+  have_told transport ip _ is = absurd is
 
   pub called : (what : ClientCall) (ret : Answer) → IsCalled what ret c.core now new → IsAnswered (event.Call what now) c [] ret new
   unfolding IsCalled
@@ -101,7 +118,7 @@ module _ (c : Client) (sound : IsSound c) (now : ℕ) (new : Protocol) where
   called call.PollEvent ret is = event_told (event.Call call.PollEvent now) c sound now new ret is
   called call.Delete ret is = delete_told (event.Call call.Delete now) c sound now new ret is
   called (call.CreatePermission transport ip) ret is = permission_told (event.Call (call.CreatePermission transport ip) now) c sound now new transport ip ret is
-  called (call.HavePermission transport ip) ret is = have_told (event.Call (call.HavePermission transport ip) now) c sound now new transport ip ret is
+  called (call.HavePermission transport ip) ret is = have_told transport ip ret is
   called (call.Permissions transport relayed) ret is = permissions_told transport relayed ret is
   called call.ProtocolError ret is = end_told (event.Call call.ProtocolError now) c sound now new ret is
   called call.RelayedAddresses ret is = relayed_told (event.Call call.RelayedAddresses now) c sound now new ret is
@@ -119,14 +136,14 @@ record IsQuiet (ret : Answer) : Type 0 where
   draws : bytes_sent ret ≡ None
   tells : notices_in ret ≡ []
   hands : payloads_in ret ≡ []
-  shows : (happening : Event) (core : Protocol) → ShowsOf happening ret core
+  shows : (happening : Event) (core : Protocol) → AreHeld happening ret core
 
 took_told : (ret : Answer) → IsTold recv.Handled ret → IsQuiet ret
-took_told answer.Handled is = record { draws = refl; tells = refl; hands = refl; shows = λ happening core. tt }
+took_told answer.Handled is = record { draws = refl; tells = refl; hands = refl; shows = λ happening core h i. absurd i }
 took_told _ is = absurd is
 
 gave_told : (came : Transmit (Bor (List ℕ))) (ret : Answer) → IsTold (recv.Ignored came) ret → IsQuiet ret
-gave_told came answer.Ignored is = record { draws = refl; tells = refl; hands = refl; shows = λ happening core. tt }
+gave_told came answer.Ignored is = record { draws = refl; tells = refl; hands = refl; shows = λ happening core h i. absurd i }
 gave_told came _ is = absurd is
 
 quiet : (came : Transmit (Bor (List ℕ))) (took : TurnRecvRet (Bor (List ℕ))) (ret : Answer) → IsPlain came took → IsTold took ret → IsQuiet ret
@@ -152,7 +169,7 @@ module _ {T : Type 0} (items : T → List ℕ) (c : Client) (sound : IsSound c) 
 
   message_taken : AreBytes bytes → refusal bytes ≡ None → IsMessageTaken c.core bytes came now took new → IsTakenUp c bytes came took new
   message_taken are_bytes message (Heard handled heard is) = record { step = receive_step c bytes now handled new sound are_bytes message heard; plain = handled_as came handled took is }
-  message_taken are_bytes message (Lost is failed) = record { step = failed_step c new failed (bytes ∷ []); plain = Failed is }
+  message_taken are_bytes message (Lost is grows failed) = record { step = failed_step c new failed (bytes ∷ []); plain = Failed is }
 
   read : (refused : Option StunParseError) → refusal bytes ≡ refused → AreBytes bytes → IsRead refused c.core bytes came now took new → IsTakenUp c bytes came took new
   read None message are_bytes is = message_taken are_bytes message is

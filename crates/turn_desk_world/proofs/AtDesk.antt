@@ -3,20 +3,17 @@ use Rattle.std.proofs.Common.{◌≡◌, ℕ, List}
 use Rattle.std.specs.Prelude.{MatchOption}
 use Rattle.std.specs.declared.net.socket_addr.SocketAddr.{SocketAddr}
 use Rattle.stun_types.specs.Grammar.{number_at}
-use Rattle.turn_client_proto.specs.Runs.{AtDesk}
 use Rattle.turn_client_proto.specs.Steps.{DeskStep}
 use Rattle.turn_desk_steps.specs.StunWire.{stun_wire}
 use Rattle.turn_desk_event.specs.declared.decision.Decision.{Decision}
 use Rattle.turn_desk_event.specs.declared.decision.Decision.TheVariants as by
 use Rattle.turn_desk_event.specs.declared.answer.Answer.{Answer}
 use Rattle.turn_desk_event.specs.declared.answer.Answer.TheVariants as answer
-use Rattle.turn_desk_event.specs.declared.event.Event.{Event}
 use Rattle.turn_desk_steps.specs.DeskRun.{CanBeTold, IsHandled, IsReplied, desk_words}
 use Rattle.turn_desk_steps.proofs.Stepping.{desk_run}
 use Rattle.turn_desk_world.specs.Desks.{HasFourBytes, IsDeskAnswered, IsReply}
 use Rattle.turn_desk_world.specs.Model.{World}
 use Rattle.turn_desk_world.specs.Told.{AreToldWhole, desk_call, reply_in}
-use Rattle.turn_desk_world.proofs.Shown.{ShowsAt}
 
 can_be_told : (number : ℕ) (decision : Decision) → HasFourBytes decision → AreToldWhole number decision → CanBeTold number decision
 can_be_told number (by.Refuse code) four whole = tt
@@ -40,13 +37,3 @@ module _ (old new : World) (bytes : List ℕ) (from : SocketAddr) (now : ℕ) (d
 
   pub desk_step : (ret : Answer) → AreToldWhole (number_at bytes) decision → IsDeskAnswered ret old.desk bytes from now decision seed new.desk → DeskStep stun_wire desk_words (desk_call old bytes from now decision seed ret new)
   desk_step ret whole is = desk_run (desk_call old bytes from now decision seed ret new) (handled ret whole is)
-
-  -- it shows no relayed address and no permission
-  pub shows_none : (happening : Event) (ret : Answer) → IsDeskAnswered ret old.desk bytes from now decision seed new.desk → ShowsAt (AtDesk (desk_call old bytes from now decision seed ret new)) happening ret
-  shows_none happening ret is = none ret is.reply
-    where
-      none : (ret : Answer) → IsReply ret old.desk bytes from now decision seed new.desk → ShowsAt (AtDesk (desk_call old bytes from now decision seed ret new)) happening ret
-      none (answer.Relayed list) is = absurd is
-      none (answer.Have has) is = absurd is
-      none (answer.Permissions list) is = absurd is
-      none _ is = tt

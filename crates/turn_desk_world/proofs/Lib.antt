@@ -1,8 +1,13 @@
+pub mod Addresses
 pub mod AtClient
 pub mod AtDesk
 pub mod Bytes
 pub mod Chain
+pub mod Counting
+pub mod Determined
 pub mod Joined
+pub mod Once
+pub mod Receiving
 pub mod Safe
 pub mod Shown
 pub mod Sides

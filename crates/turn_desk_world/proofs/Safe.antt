@@ -1,40 +1,45 @@
 -- Runs of a world whose client is new are safe.
 use Rattle.std.proofs.Common.{List}
-use Rattle.turn_client_proto.specs.Runs.{AreDistinct, IsUnforged, NoForgery}
-use Rattle.turn_client_proto.proofs.Safe.{safe}
+use Rattle.turn_client_proto.specs.Headline.{IsPromised}
+use Rattle.turn_client_proto.specs.Runs.{IsCounted, IsNew, Step}
+use Rattle.turn_client_proto.proofs.Safe.{counted, promised}
 use Rattle.turn_desk_steps.proofs.Lawful.{lawful}
 use Rattle.turn_client_proto_steps.specs.Beginning.{first_client}
 use Rattle.turn_client_proto_steps.specs.RunClient.{Client}
 use Rattle.turn_client_proto_steps.proofs.Beginning.{new_sound, new_unasked}
 use Rattle.turn_desk_event.specs.declared.answer.Answer.{Answer}
 use Rattle.turn_desk_event.specs.declared.event.Event.{Event}
-use Rattle.turn_desk_steps.specs.DeskRun.{desk_words}
+use Rattle.turn_desk_steps.specs.DeskRun.{DeskCall, desk_words}
 use Rattle.turn_desk_world.specs.Model.{World}
 use Rattle.turn_desk_world.specs.Runs.{IsRun}
-use Rattle.turn_desk_world.specs.Safety.{IsSafeRun, words}
-use Rattle.turn_desk_world.proofs.Shown.{all_granted}
+use Rattle.turn_desk_world.specs.Safety.{IsAccount, IsSafeRun, words}
 use Rattle.turn_desk_world.proofs.Telling.{all_told}
 
 pub run_is_safe : (pairs : List (Event × Answer)) (old new : World) → IsRun old pairs new → IsSafeRun old pairs new
 run_is_safe pairs old new is transport here server config seed core begins fair =
     let first : Client = first_client config.credentials seed core in
     let told = all_told pairs first old new (new_sound transport here server config seed core begins.new begins.short begins.few) begins.client fair is in
-    let unforged : NoForgery words first told.last.drawn told.run → AreDistinct words first.seed told.last.drawn → IsUnforged words first told.run told.last = λ authentic distinct. record {
-      new = new_unasked transport here server config seed core begins.new desk_words;
-      leads = told.leads;
-      lawful = told.lawful;
-      authentic = authentic;
-      distinct = distinct;
-    } in
+    let unasked : IsNew words first = new_unasked transport here server config seed core begins.new desk_words in
+    let promise : IsPromised words first told.run told.last = promised words lawful first told.run told.last unasked told.leads told.lawful in
     record {
-      run = told.run;
-      told = told.told;
-      last = told.last;
-      left = told.left;
-      leads = told.leads;
-      lawful = told.lawful;
-      sound = told.sound;
-      safe = λ authentic distinct. (safe words lawful first told.run told.last (unforged authentic distinct)).0;
-      shown = λ authentic distinct. all_granted first told.last told.run pairs (safe words lawful first told.run told.last (unforged authentic distinct)).0 told.shown;
-      once = λ authentic distinct. (safe words lawful first told.run told.last (unforged authentic distinct)).1;
+      one = record {
+        run = told.run;
+        told = told.told;
+        last = told.last;
+        left = told.left;
+        leads = told.leads;
+        lawful = told.lawful;
+        counted = counted words first told.run told.last told.leads told.lawful;
+        sound = told.sound;
+        safe = promise.safe;
+        once = promise.once;
+        shown = promise.shown;
+      };
+      each = λ run last account. record {
+        counted = counted words first run last account.leads account.lawful;
+        promised = promised words lawful first run last unasked account.leads account.lawful;
+      };
     }
+
+pub account_counts : (first : Client) (old : World) (pairs : List (Event × Answer)) (new : World) (run : List (Step Client DeskCall)) (last : Client) → IsAccount first old pairs new run last → IsCounted words first run last
+account_counts first old pairs new run last is = counted words first run last is.leads is.lawful

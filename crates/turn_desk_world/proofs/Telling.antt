@@ -1,26 +1,31 @@
 -- The answers to some events are steps of a run, each lawful.
 use Rattle.std.proofs.Common.{◌≡◌, ℕ, true, false, List, [], ◌∷◌, ◌++◌, Option, Some, None, refl, sym, ap, ◌∙◌, subst}
 use Rattle.std.specs.List.{AllByRecursion}
+use Rattle.turn_client_proto.specs.Members.{IsIn}
+use Rattle.turn_client_proto.specs.Messages.{Held}
 use Rattle.turn_client_proto.specs.Runs.{Step, AtClient, AtDesk, AtEach, IsLawful, Leads}
 use Rattle.turn_client_proto.specs.Kept.{Protocol}
+use Rattle.turn_client_proto.specs.Steps.{Call}
+use Rattle.turn_client_proto_steps.specs.ClientWords.{IsHeld, client_words}
 use Rattle.turn_client_proto_steps.specs.RunClient.{Client}
 use Rattle.turn_client_proto_steps.specs.RunSteps.{call_of}
 use Rattle.turn_client_proto_steps.specs.Sound.{IsSound}
 use Rattle.turn_client_proto_steps.proofs.Ending.{still}
 use Rattle.turn_client_proto_steps.proofs.Polling.{by_test}
+use Rattle.turn_client_proto_steps.proofs.Showing.{shows_step}
 use Rattle.turn_desk_event.specs.declared.answer.Answer.{Answer}
 use Rattle.turn_desk_event.specs.declared.answer.Answer.TheVariants.{OutOfRange}
 use Rattle.turn_desk_event.specs.declared.event.Event.{Event}
-use Rattle.turn_desk_event.specs.declared.event.Event.TheVariants.{Call, Draw, ToClient, ToDesk}
+use Rattle.turn_desk_event.specs.declared.event.Event.TheVariants as event
+use Rattle.turn_desk_event.specs.declared.event.Event.TheVariants.{Draw, ToClient, ToDesk}
 use Rattle.turn_desk_steps.specs.DeskRun.{DeskCall}
 use Rattle.turn_desk_world.specs.Model.{World}
 use Rattle.turn_desk_world.specs.Runs.{IsAtClient, IsInRange, IsRun, IsStep, is_in_range}
 use Rattle.turn_desk_world.specs.Safety.{words}
-use Rattle.turn_desk_world.specs.Told.{IsCallOf, IsFair, IsFairEvent, IsStepBy, IsToldBy, bytes_sent, desk_call, notices_in}
+use Rattle.turn_desk_world.specs.Told.{IsCallOf, IsFair, IsFairEvent, IsStepBy, IsToldBy, bytes_sent, desk_call, notices_in, shown_in}
 use Rattle.turn_desk_world.proofs.AtClient.{IsAnswered, called, drawn, fed}
-use Rattle.turn_desk_world.proofs.AtDesk.{desk_step, shows_none}
+use Rattle.turn_desk_world.proofs.AtDesk.{desk_step}
 use Rattle.turn_desk_world.proofs.Chain.{each_behind, leads_behind}
-use Rattle.turn_desk_world.proofs.Shown.{ShowsAt, ShowsIn, all_front, shows_held, shows_last}
 
 -- ---- one event
 
@@ -33,7 +38,6 @@ record IsOne (event : Event) (ret : Answer) (c : Client) (old new : World) : Typ
   sound : IsSound after
   leads : Leads c (one ∷ []) after
   lawful : IsLawful words one
-  shown : ShowsAt one event ret
 
 inside : {A : Type 0} {a b : A} → Some a ≡ Some b → a ≡ b
 inside p = Prim.cc p
@@ -41,7 +45,7 @@ inside p = Prim.cc p
 module _ (event : Event) (c : Client) (sound : IsSound c) (came : List (List ℕ)) (ret : Answer) where
   out_of_range : (new : Protocol) → (ret ≡ OutOfRange) × (new ≡ c.core) → IsAnswered event c came ret new
   out_of_range new is =
-      subst (λ (r : Answer). IsAnswered event c came r new) (sym is.0) (record { step = still c came new sound is.1; no_payload = refl; shows = tt })
+      subst (λ (r : Answer). IsAnswered event c came r new) (sym is.0) (record { step = still c came new sound is.1; no_payload = refl; shows = λ h i. absurd i })
 
   in_range : (now : ℕ) (Does : Protocol → Protocol → Type 0) (new : Protocol) → ((q : Protocol) → Does c.core q → IsAnswered event c came ret q) → IsInRange now Does c.core ret new → IsAnswered event c came ret new
   unfolding IsInRange
@@ -58,34 +62,36 @@ module _ (event : Event) (c : Client) (sound : IsSound c) (came : List (List ℕ
   at_client now Does (Some p) (Some q) is f h = (q, refl, in_range now Does q f (subst (λ (x : Protocol). IsInRange now Does x ret q) (inside is) h))
 
   -- so it is a step
-  client_step : (old new : World) → old.client ≡ Some c.core → ((one : _) → IsCallOf old new came ret one → IsStepBy event ret old (AtClient one) new)
+  client_step : (old new : World) → old.client ≡ Some c.core → ((one : _) → IsCallOf event old new came ret one → IsStepBy event ret old (AtClient one) new)
       → (core : Protocol) × (new.client ≡ Some core) × IsAnswered event c came ret core → IsOne event ret c old new
-  client_step old new held by h =
+  client_step old new before by h =
       let step = h.2.step in
+      let one_call : Call Client = record (call_of c came (bytes_sent ret) (notices_in ret) step.after) { shown = shown_in event ret } in
+      let held : (x : Held) → IsIn x (shown_in event ret) → client_words.IsHeld step.after x = λ x i. subst (λ (p : Protocol). IsHeld p.allocations x) (sym step.core_is) (h.2.shows x i) in
       let left : new.client ≡ Some step.after.core = h.1 ∙ ap (λ (p : Protocol). Some p) (sym step.core_is) in
       record {
-        one = AtClient (call_of c came (bytes_sent ret) (notices_in ret) step.after);
-        told = by (call_of c came (bytes_sent ret) (notices_in ret) step.after) (record {
-          before = held;
+        one = AtClient one_call;
+        told = by one_call (record {
+          before = before;
           after = left;
           came_is = refl;
           handled_is = refl;
           drawn_is = refl;
           answered_is = refl;
           payloads_are = sym h.2.no_payload;
+          shown_is = refl;
         });
         after = step.after;
         left = left;
         sound = step.sound;
         leads = (refl, refl);
-        lawful = step.step;
-        shown = shows_held event ret h.0 (call_of c came (bytes_sent ret) (notices_in ret) step.after) step.core_is h.2.shows;
+        lawful = shows_step client_words (call_of c came (bytes_sent ret) (notices_in ret) step.after) (shown_in event ret) held step.step;
       }
 
 by_event : (event : Event) (ret : Answer) (c : Client) (old new : World) → IsSound c → old.client ≡ Some c.core → IsFairEvent event → IsStep event old ret new → IsOne event ret c old new
-by_event (Call call now) ret c old new sound held fair is =
-    client_step (Call call now) c sound [] ret old new held (λ one h. h)
-    (at_client (Call call now) c sound [] ret now _ old.client new.client held (λ q h. called c sound now q call ret h) is.0)
+by_event (event.Call call now) ret c old new sound held fair is =
+    client_step (event.Call call now) c sound [] ret old new held (λ one h. h)
+    (at_client (event.Call call now) c sound [] ret now _ old.client new.client held (λ q h. called c sound now q call ret h) is.0)
 by_event (Draw now) ret c old new sound held fair is =
     client_step (Draw now) c sound [] ret old new held (λ one h. h)
     (at_client (Draw now) c sound [] ret now _ old.client new.client held (λ q h. drawn (Draw now) c sound now q ret h) is.0)
@@ -100,7 +106,6 @@ by_event (ToDesk bytes from now decision seed) ret c old new sound held fair is 
   sound = sound;
   leads = refl;
   lawful = desk_step old new bytes.items from now decision seed ret fair is.0;
-  shown = shows_none old new bytes.items from now decision seed (ToDesk bytes from now decision seed) ret is.0;
 }
 
 -- ---- all of them
@@ -113,7 +118,6 @@ pub record AreTold (c : Client) (old : World) (pairs : List (Event × Answer)) (
   pub leads : Leads c run last
   pub lawful : AtEach (λ s _. IsLawful words s) run
   pub sound : IsSound last
-  pub shown : AllByRecursion (λ (pair : Event × Answer). ShowsIn run pair.0 pair.1) pairs
 
 pub all_told : (pairs : List (Event × Answer)) (c : Client) (old new : World) → IsSound c → old.client ≡ Some c.core → AllByRecursion IsFair pairs → IsRun old pairs new → AreTold c old pairs new
 unfolding IsRun IsToldBy
@@ -125,18 +129,16 @@ all_told [] c old new sound held fair is = record {
   leads = refl;
   lawful = tt;
   sound = sound;
-  shown = tt;
 }
 all_told (pair ∷ pairs) c old new sound held fair is =
     let one = by_event pair.0 pair.1 c old is.0 sound held fair.0 is.1 in
     let rest = all_told pairs one.after is.0 new one.sound one.left fair.1 is.2 in
     record {
       run = rest.run ++ one.one ∷ [];
-      told = (is.0, one.one, rest.run, refl, one.told, rest.told);
+      told = (is.0, one.one, rest.run, refl, is.1, one.told, rest.told);
       last = rest.last;
       left = rest.left;
       leads = leads_behind c one.after rest.last one.one rest.run one.leads rest.leads;
       lawful = each_behind (λ s. IsLawful words s) one.one rest.run one.lawful rest.lawful;
       sound = rest.sound;
-      shown = (shows_last one.one rest.run pair.0 pair.1 one.shown, all_front one.one rest.run pairs rest.shown);
     }

@@ -1,5 +1,5 @@
 -- What a client answers in a world.
-use Rattle.std.specs.Prelude.{◌≡◌, ℕ, List, [], ◌∷◌, Some, None, Ok, Err}
+use Rattle.std.specs.Prelude.{◌≡◌, ◌≢◌, ℕ, List, [], ◌∷◌, Some, None, Ok, Err}
 use Rattle.std.specs.Borrow.{Bor}
 use Rattle.std.specs.declared.net.ip_addr.IpAddr.{IpAddr}
 use Rattle.std.specs.declared.net.socket_addr.SocketAddr.{SocketAddr}
@@ -9,6 +9,8 @@ use Rattle.stun_types.specs.declared.transport.TransportType.{TransportType}
 use Rattle.turn_client_proto.specs.Api.declared.answer.TurnPollRet.TheVariants as poll
 use Rattle.turn_client_proto.specs.Api.declared.answer.TurnRecvRet.{TurnRecvRet}
 use Rattle.turn_client_proto.specs.Api.declared.answer.TurnRecvRet.TheVariants as recv
+use Rattle.turn_client_proto.specs.Api.declared.error.CreatePermissionError.TheVariants as not_permitted
+use Rattle.turn_client_proto.specs.Api.declared.error.DeleteError.TheVariants as not_deleted
 use Rattle.turn_client_proto.specs.Getters.{has_permission, permissions_of, relayed_of}
 use Rattle.turn_client_proto.specs.Receipts.{IsReceived}
 use Rattle.turn_client_proto.specs.Deleting.{IsDeleteAnswered}
@@ -39,16 +41,18 @@ IsEventTold (answer.Event event) old new = (old.events ≡ event ∷ new.events)
 IsEventTold answer.Nothing old new = (old.events ≡ []) × (new ≡ old)
 IsEventTold _ old new = ⊥
 
--- `delete`
+-- `delete`; want of memory is no answer
 abbrev pub IsDeleteTold : Answer → Protocol → ℕ → Protocol → Type 0
 IsDeleteTold answer.Done old now new = IsDeleteAnswered old now (Ok tt) new
-IsDeleteTold (answer.Refused (DeleteRefused error)) old now new = IsDeleteAnswered old now (Err error) new
+IsDeleteTold (answer.Refused (DeleteRefused error)) old now new =
+    IsDeleteAnswered old now (Err error) new × (error ≢ not_deleted.NoMemory)
 IsDeleteTold _ old now new = ⊥
 
--- `create_permission`
+-- `create_permission`; want of memory is no answer
 abbrev pub IsPermissionTold : Answer → TransportType → IpAddr → Protocol → ℕ → Protocol → Type 0
 IsPermissionTold answer.Done transport ip old now new = IsPermissionAnswered old transport ip now (Ok tt) new
-IsPermissionTold (answer.Refused (PermissionRefused error)) transport ip old now new = IsPermissionAnswered old transport ip now (Err error) new
+IsPermissionTold (answer.Refused (PermissionRefused error)) transport ip old now new =
+    IsPermissionAnswered old transport ip now (Err error) new × (error ≢ not_permitted.NoMemory)
 IsPermissionTold _ transport ip old now new = ⊥
 
 -- `have_permission`

@@ -1,6 +1,8 @@
 -- The definitions that the contracts of a world cite, each file under its own name; and those of the client below it.
 pub mod Calls
+pub mod Copies
 pub mod Desks
+pub mod Determined
 pub mod Model
 pub mod Runs
 pub mod Safety

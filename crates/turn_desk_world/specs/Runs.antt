@@ -1,9 +1,11 @@
 -- Runs of a world.
 use Rattle.std.specs.Prelude.{◌≡◌, ℕ, ◌^◌, nat_le, Bool, true, false, not, List, [], ◌∷◌, filter, Option, Some, None}
 use Rattle.std.specs.Bool.{MatchBool}
+use Rattle.stun_proto.specs.Users.{HashesDiffer}
 use Rattle.turn_client_proto.specs.Kept.{Protocol}
 use Rattle.turn_desk_world.specs.Calls.{IsCalled, IsDrawnAs, IsFed}
 use Rattle.turn_desk_world.specs.Desks.{IsDeskAnswered}
+use Rattle.turn_desk_world.specs.Determined.{AreSame, HaveSameEvents}
 use Rattle.turn_desk_world.specs.Model.{World}
 use Rattle.turn_desk_event.specs.declared.answer.Answer.{Answer}
 use Rattle.turn_desk_event.specs.declared.answer.Answer.TheVariants.{OutOfRange}
@@ -65,7 +67,16 @@ IsDeskRun old pairs new = IsRun old (filter is_at_desk pairs) (record new { clie
 abbrev pub IsClientRun : World → List (Event × Answer) → World → Type 0
 IsClientRun old pairs new = IsRun old (filter (λ pair. not (is_at_desk pair)) pairs) (record new { desk = old.desk })
 
--- each side is answered so by its own events alone
+-- nothing else is answered to these events from this world, and none other is left
+abbrev pub IsOnlyRun : World → List (Event × Answer) → World → Type 0
+IsOnlyRun old pairs new = (others : List (Event × Answer)) (left : World) → HaveSameEvents pairs others → IsRun old others left
+    → AreSame pairs others × (new ≡ left)
+
+-- each side is answered so by its own events alone, and not otherwise; the desk where no two of its users have the same
+-- USERHASH, for such a one may name either (RFC 8489, section 14.4)
 pub record IsRunOfEach (old : World) (pairs : List (Event × Answer)) (new : World) : Type 0 where
   pub desk : IsDeskRun old pairs new
   pub client : IsClientRun old pairs new
+  pub only_desk : HashesDiffer old.desk.auth
+      → IsOnlyRun old (filter is_at_desk pairs) (record new { client = old.client })
+  pub only_client : IsOnlyRun old (filter (λ pair. not (is_at_desk pair)) pairs) (record new { desk = old.desk })

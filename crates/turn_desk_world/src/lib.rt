@@ -8,9 +8,7 @@ pub mod laws;
 mod typed;
 pub mod world;
 
-// What stands above this crate has the client through it.
-pub use turn_client_proto as client;
-
 // What stands above this crate has these through it.
+pub use turn_client_proto as client;
 pub use turn_desk_event::{answer, event};
 pub use turn_desk_steps::{decision, desk as core_desk, grant, laws as core_laws, proto};

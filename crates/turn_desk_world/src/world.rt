@@ -78,7 +78,8 @@ impl World {
         ensures each { IfOk result (λ answers. length answers.items ≡ length events.now) }
         ensures run { IfOk result (λ answers.
             IsRun self.old (zip events.now answers.items) self.new) }
-        // The desk's answers are those to its events alone, and the client's those to the others.
+        // The desk's answers are those to its events alone, and the client's those to the others; and
+        // to those events none is answered otherwise.
         ensures sides { IfOk result (λ answers.
             IsRunOfEach self.old (zip events.now answers.items) self.new) }
         // Where the client was new and nothing was forged, all that it holds was granted in answer to

@@ -1,9 +1,9 @@
 -- Whatever the network does, each step of a run is safe, and nothing is told twice.
-use Rattle.std.proofs.Common.{inl, inr, ◌≤◌, List, [], ◌∷◌, refl, sym, subst, arith}
+use Rattle.std.proofs.Common.{◌∙◌, ap, inl, inr, ◌≤◌, List, [], ◌∷◌, refl, sym, subst, arith}
 use Rattle.turn_runs.specs.Words.{Words, WireLaws}
 use Rattle.turn_runs.specs.Steps.{Call, ClientStep, DeskStep}
-use Rattle.turn_runs.specs.Runs.{Step, AtClient, AtDesk, AtEach, Leads, IsLawful, IsSignedByClient, IsSignedByDesk, IsSigned, AreDistinct, IsAuthentic, NoForgery, IsNew, IsUnforged}
-use Rattle.turn_runs.specs.Headline.{IsSafe, AnswersOnce}
+use Rattle.turn_runs.specs.Runs.{Step, AtClient, AtDesk, AtEach, Leads, IsLawful, IsSignedByClient, IsSignedByDesk, IsSigned, AreDistinct, IsAuthentic, IsCounted, NoForgery, IsNew, IsUnforged}
+use Rattle.turn_runs.specs.Headline.{IsSafe, AnswersOnce, IsPromised, ShowsTraced}
 use Rattle.turn_runs.proofs.Tools.{both_at, some_weaker, from_some}
 use Rattle.turn_runs.proofs.Numbers.{numbered_growing}
 use Rattle.turn_runs.proofs.Keeps.{Kept, DrewWell, not_own, by_desk, past_of, request_drawn, traced_later, with_later, handled_signed, keeps_call}
@@ -125,3 +125,32 @@ pub safe : {C D : Type 0} (W : Words C D) → WireLaws W.wire → (first : C) (r
 safe W laws first run last is =
     let h = safe_from W laws first last is.distinct is.new run last is.leads is.lawful is.authentic (omega arith) in
     (h.1, (h.0.told, h.0.told_is, h.0.told_once))
+
+-- what a getter answers as held was granted before it
+shown_traced : {C D : Type 0} (W : Words C D) (first last : C) (run : List (Step C D)) → AtEach (λ s _. IsLawful W s) run → AtEach (IsSafe W first last) run → AtEach (ShowsTraced W) run
+shown_traced W first last [] lawful safe = tt
+shown_traced W first last (AtClient call ∷ earlier) lawful safe = ((λ h i. safe.0.holds h (lawful.0.shown h i)), shown_traced W first last earlier lawful.1 safe.1)
+shown_traced W first last (AtDesk d ∷ earlier) lawful safe = (tt, shown_traced W first last earlier lawful.1 safe.1)
+
+pub shown : {C D : Type 0} (W : Words C D) → WireLaws W.wire → (first : C) (run : List (Step C D)) (last : C) → IsUnforged W first run last → AtEach (ShowsTraced W) run
+shown W laws first run last is = shown_traced W first last run is.lawful (safe W laws first run last is).0
+
+-- so many numbers count as drawn as the generator gave
+pub counted : {C D : Type 0} (W : Words C D) (first : C) (run : List (Step C D)) (last : C) → Leads first run last → AtEach (λ s _. IsLawful W s) run → IsCounted W first run last
+counted W first [] last leads lawful = ap W.client.count leads ∙ omega arith
+counted W first (AtClient call ∷ earlier) last leads lawful =
+    let before = counted W first earlier call.before leads.1 lawful.1 in
+    omega (arith, ap W.client.count leads.0, lawful.0.counted, before)
+counted W first (AtDesk d ∷ earlier) last leads lawful = counted W first earlier last leads lawful.1
+
+-- each lawful run of a new client keeps the promise
+module _ {C D : Type 0} (W : Words C D) (laws : WireLaws W.wire) (first : C) (run : List (Step C D)) (last : C) (new : IsNew W first) (leads : Leads first run last) (lawful : AtEach (λ s _. IsLawful W s) run) where
+  unforged : NoForgery W first (W.client.count last) run → AreDistinct W (W.client.seed first) (W.client.count last) → IsUnforged W first run last
+  unforged authentic distinct = record { new = new; leads = leads; lawful = lawful; authentic = authentic; distinct = distinct }
+
+  pub promised : IsPromised W first run last
+  promised = record {
+    safe = λ authentic distinct. (safe W laws first run last (unforged authentic distinct)).0;
+    once = λ authentic distinct. (safe W laws first run last (unforged authentic distinct)).1;
+    shown = λ authentic distinct. shown W laws first run last (unforged authentic distinct);
+  }

@@ -5,7 +5,7 @@ use Rattle.turn_runs.specs.Messages.{Message, Held, Connection, Gain, Holds, Kno
 use Rattle.turn_runs.specs.Names.{IntegrityAlgorithm, Request, Success}
 use Rattle.turn_runs.specs.Words.{Words}
 use Rattle.turn_runs.specs.Steps.{told_for, Told, Grants}
-use Rattle.turn_runs.specs.Runs.{IsKeyOf, Step, AtClient, AtDesk, AtSome, HasNumber, IsSignedByClient, IsSignedByDesk}
+use Rattle.turn_runs.specs.Runs.{IsKeyOf, Step, AtClient, AtDesk, AreDistinct, AtEach, AtSome, HasNumber, IsSignedByClient, IsSignedByDesk, NoForgery}
 
 module _ {C D : Type 0} (W : Words C D) where
   -- at this step the client drew bytes that show the same as these
@@ -112,3 +112,23 @@ module _ {C D : Type 0} (W : Words C D) where
   -- nothing is answered as created twice for one request
   abbrev pub AnswersOnce : List (Step C D) → Type 0
   AnswersOnce run = (told : List Told) × AnswersGranted run told × NoneTwice told_for told
+
+  -- what a getter answers as held at this step was granted before it
+  abbrev pub ShowsTraced : Step C D → List (Step C D) → Type 0
+  ShowsTraced (AtClient call) earlier =
+      (h : Held) → IsIn h call.shown → Traced (AtClient call ∷ earlier) h
+  ShowsTraced (AtDesk d) earlier = Unit {0}
+
+  -- ---- what is promised of a run
+
+  -- what holds where nothing that arrives was forged and no number is drawn twice
+  abbrev pub Unless : (first : C) → List (Step C D) → (last : C) → Type 0 → Type 0
+  Unless first run last Is = NoForgery W first (W.client.count last) run
+      → AreDistinct W (W.client.seed first) (W.client.count last) → Is
+
+  -- then each step is safe, nothing is answered as created twice for one request, and all that a
+  -- getter answers as held was granted before
+  pub record IsPromised (first : C) (run : List (Step C D)) (last : C) : Type 0 where
+    pub safe : Unless first run last (AtEach (IsSafe first last) run)
+    pub once : Unless first run last (AnswersOnce run)
+    pub shown : Unless first run last (AtEach ShowsTraced run)

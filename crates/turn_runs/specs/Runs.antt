@@ -1,5 +1,5 @@
 -- Runs of a client and a desk, the newest step first: behind each stand those that came before it.
-use Rattle.std.specs.Prelude.{◌≡◌, ◌≢◌, ◌⊎◌, ℕ, ◌<◌, List, [], ◌∷◌, Some}
+use Rattle.std.specs.Prelude.{◌≡◌, ◌≢◌, ◌⊎◌, ℕ, ◌+◌, ◌<◌, List, [], ◌∷◌, Some}
 use Rattle.turn_runs.specs.Members.{IsIn}
 use Rattle.turn_runs.specs.Messages.{Message, Held}
 use Rattle.turn_runs.specs.Names.{SocketAddr, IntegrityAlgorithm}
@@ -31,6 +31,16 @@ module _ {C D : Type 0} (W : Words C D) where
   abbrev pub IsLawful : Step C D → Type 0
   IsLawful (AtClient call) = ClientStep W.client call
   IsLawful (AtDesk d) = DeskStep W.wire W.desk d
+
+  -- how many numbers the client's generator gave in the run, step by step
+  abbrev pub given_in : List (Step C D) → ℕ
+  given_in [] = 0
+  given_in (AtClient call ∷ earlier) = given_in earlier + W.client.given call.before call.after
+  given_in (AtDesk d ∷ earlier) = given_in earlier
+
+  -- so many numbers count as drawn behind the run as the generator gave in it
+  abbrev pub IsCounted : (first : C) → List (Step C D) → (last : C) → Type 0
+  IsCounted first run last = W.client.count last ≡ W.client.count first + given_in run
 
   -- one of this client's keys
   abbrev pub IsKeyOf : C → List ℕ → Type 0

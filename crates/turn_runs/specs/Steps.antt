@@ -17,6 +17,8 @@ pub record Call (C : Type 0) : Type 0 where
   pub drawn : Option (List ℕ)
   -- what it answered as created
   pub answered : List Notice
+  -- what it answered as held, where it is a getter
+  pub shown : List Held
   pub payloads : List Payload
   pub after : C
 
@@ -95,6 +97,9 @@ module _ {V : Wire} {C : Type 0} (K : ClientWords V C) where
   pub record ClientStep (call : Call C) : Type 0 where
     pub account : K.account call.after ≡ K.account call.before
     pub seed : K.seed call.after ≡ K.seed call.before
+    -- all that the generator gave counts as drawn, none more and none less: two numbers at most
+    pub counted : K.count call.after ≡ K.count call.before + K.given call.before call.after
+    pub few : K.given call.before call.after ≤ 2
     -- the requests that the call makes
     pub begun : List Message
     pub requests : (m : Message) → IsIn m begun →
@@ -126,8 +131,9 @@ module _ {V : Wire} {C : Type 0} (K : ClientWords V C) where
     pub is_of : (t : Told) → IsIn t gained → IsOf t.notice t.held
     pub tells : call.answered ++ K.created call.after
         ≡ K.created call.before ++ map (λ t. t.notice) gained
-    -- what is shown as held is kept
+    -- what getters show is kept, and what the call answers as held is what they show
     pub shows : (h : Held) → K.IsHeld call.after h → K.IsKept call.after h
+    pub shown : (h : Held) → IsIn h call.shown → K.IsHeld call.after h
     -- connections that wait were told by an answer to a CONNECT, or by the server's own request
     pub waits : (number : ℕ) (peer : SocketAddr) → K.Waits call.after number peer →
         K.Waits call.before number peer

@@ -28,6 +28,8 @@ pub record ClientWords (V : Wire) (C : Type 0) : Type 1 where
   pub seed : C → V.Seed
   -- how many numbers it has drawn from its stream
   pub count : C → ℕ
+  -- how many its generator gave on the way from one state to another, by the places that it had
+  pub given : (before after : C) → ℕ
   -- a request that waits for its reply
   pub IsOutstanding : C → Message → Type 0
   -- a request that is made and waits to be drawn

@@ -9,8 +9,8 @@
 
 ghost use Rattle.std.specs.Prelude.{◌≡◌, ℕ, List};
 ghost use Rattle.turn_runs.specs.Words.{Words, WireLaws};
-ghost use Rattle.turn_runs.specs.Runs.{Step, AtEach, IsUnforged};
-ghost use Rattle.turn_runs.specs.Headline.{IsSafe, AnswersOnce};
+ghost use Rattle.turn_runs.specs.Runs.{Step, AtEach, IsCounted, IsLawful, IsNew, IsUnforged, Leads};
+ghost use Rattle.turn_runs.specs.Headline.{IsPromised, IsSafe, AnswersOnce, ShowsTraced};
 
 /// The layers that a run is told of: what is said of bytes, of a client and of a desk. It has no code.
 /// The law holds for every one.
@@ -30,7 +30,8 @@ pub trait Layers {
 /// A response that the client takes up was signed by the desk, and a request that the desk accepts under a
 /// client's number was signed by the client. No response that is taken up is the client's own text. All
 /// that the client holds was granted in answer to that very request, and each payload names a peer so
-/// granted. Nothing is told as created twice in answer to one request.
+/// granted. Nothing is told as created twice in answer to one request, and all that a getter answers as
+/// held was granted before.
 pub fn runs_are_safe<L: Layers>()
     ensures steps { (first : L.Client) (run : List (Step L.Client L.Desk)) (last : L.Client)
         → IsUnforged L.words first run last
@@ -38,4 +39,22 @@ pub fn runs_are_safe<L: Layers>()
     ensures once { (first : L.Client) (run : List (Step L.Client L.Desk)) (last : L.Client)
         → IsUnforged L.words first run last
         → AnswersOnce L.words run }
+    ensures shown { (first : L.Client) (run : List (Step L.Client L.Desk)) (last : L.Client)
+        → IsUnforged L.words first run last
+        → AtEach (ShowsTraced L.words) run }
+{}
+
+/// Of each account of a lawful run of a new client the promise stands, and as many numbers count as drawn
+/// as the client's generator gave: no account can have the premises of the promise fail by a count of its
+/// own.
+pub fn accounts_are_promised<L: Layers>()
+    ensures counted { (first : L.Client) (run : List (Step L.Client L.Desk)) (last : L.Client)
+        → Leads first run last
+        → AtEach (λ s _. IsLawful L.words s) run
+        → IsCounted L.words first run last }
+    ensures promised { (first : L.Client) (run : List (Step L.Client L.Desk)) (last : L.Client)
+        → IsNew L.words first
+        → Leads first run last
+        → AtEach (λ s _. IsLawful L.words s) run
+        → IsPromised L.words first run last }
 {}

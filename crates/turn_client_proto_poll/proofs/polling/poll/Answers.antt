@@ -1,4 +1,4 @@
-use Rattle.turn_client_proto_poll.proofs.Polls.{named, no_events}
+use Rattle.turn_client_proto_poll.proofs.Polls.{named, no_events, none_waits}
 use Rattle.turn_client_proto_core.proofs.UnderWay.{failed_from}
 use Rattle.turn_client_proto_poll.proofs.polling.poll.Goals as goal
 
@@ -8,4 +8,8 @@ returns-in-Ok c =
     named old c.args.now c.in-Ok.answer c.tick.new.protocol c.in-Ok.ensures.named (no_events old.events c.len-events.result old c.args.now c.in-Ok.answer c.tick.new.protocol c.len-events.ensures c.if-events-gt0.false c.in-Ok.ensures.ok)
 
 pub returns-in-Err : goal.returns-in-Err
-returns-in-Err c = failed_from c.args.protocol.now c.tick.new.protocol c.fail.new.self c.len-events.result c.len-events.ensures c.in-Err.ensures.err c.fail.ensures
+returns-in-Err c = record {
+  failed = failed_from c.args.protocol.now c.tick.new.protocol c.fail.new.self c.len-events.result c.len-events.ensures c.in-Err.ensures.err c.fail.ensures;
+  no_event = none_waits c.args.protocol.now.events c.len-events.result c.len-events.ensures c.if-events-gt0.false;
+  has_to_tell = c.in-Err.ensures.memory;
+}

@@ -1,8 +1,11 @@
-use Rattle.turn_client_proto_core.proofs.Numbers.{still_first}
-use Rattle.turn_client_proto_core.proofs.Results.{if_ok}
+use Rattle.turn_client_proto_core.proofs.Numbers.{still_all, still_first}
+use Rattle.turn_client_proto_core.proofs.Results.{if_err, if_ok}
 use Rattle.turn_client_proto_core.specs.Numbering.{drawn}
 use Rattle.turn_client_proto_core.proofs.protocol.Protocol.draw_number.Goals as goal
 
 pub returns-clause-number : goal.returns-clause-number
 returns-clause-number c =
-    if_ok c.first_free.result (λ number is. still_first c.args.self.now c.drawn-drawn.new.rng c.drawn-drawn.result (drawn c.args.self.now.rng) number c.drawn-drawn.ensures.number is) c.first_free.ensures
+    if_ok c.first_free.result (λ number is. still_first c.args.self.now c.drawn-drawn.new.rng c.drawn-drawn.result (drawn c.args.self.now.rng) number c.drawn-drawn.ensures.number is) c.first_free.ensures.free
+
+pub returns-clause-full : goal.returns-clause-full
+returns-clause-full c = if_err c.first_free.result (still_all c.args.self.now c.drawn-drawn.new.rng) c.first_free.ensures.full

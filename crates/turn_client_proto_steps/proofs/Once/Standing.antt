@@ -1,0 +1,50 @@
+-- What a client that has allocated makes of a message is one outcome.
+use Rattle.std.proofs.Common.{ℕ, ◌==◌, ◌&&◌, List, Option, Some, None, Ok, Err}
+use Rattle.stun_types.specs.Attributes.{kind_at}
+use Rattle.stun_types.specs.Grammar.{number_at}
+use Rattle.stun_types.specs.Types.{method_of}
+use Rattle.stun_proto.specs.ClientAuthErrors.{Unauthorized, IntegrityFailed, UnsupportedFeature, NoMemory}
+use Rattle.stun_proto.specs.ClientValidations.{ResendRequest, Validated}
+use Rattle.stun_proto.specs.Handling.{is_awaited, is_response}
+use Rattle.turn_types.specs.TurnRegistry.{create_permission_method, refresh_method}
+use Rattle.turn_client_proto_poll.specs.Allocation.Listed.{refresh_asked}
+use Rattle.turn_client_proto_poll.specs.Permission.Asking.{peer_asked}
+use Rattle.turn_client_proto_poll.specs.Core.Ending.{ended}
+use Rattle.turn_client_proto_poll.specs.Core.Responding.{accepted, challenged, is_tired}
+use Rattle.turn_client_proto_poll.specs.Core.Standing.{IsAskedAgain, IsJudgedStanding, IsRechallenged, IsRefreshingAgain, IsRequestAnswered, IsTakenUp, after_refresh, refreshes_again}
+use Rattle.turn_client_proto_poll.specs.Core.declared.protocol.Protocol.{Protocol}
+use Rattle.turn_client_proto_steps.proofs.Once.Outcomes.{IsDefinite, handled, ignored, never, tested}
+use Rattle.turn_client_proto_steps.proofs.Once.Judging.{Verdict}
+use Rattle.turn_client_proto_steps.proofs.Once.Numbering.{numbered}
+use Rattle.turn_client_proto_steps.proofs.Once.Permitting.{asking_definite, responded_definite}
+
+module _ (bytes : List ℕ) (now : ℕ) where
+  refreshing_definite : (p : Protocol) (lifetime : ℕ) → IsDefinite (IsRefreshingAgain p bytes lifetime now)
+  refreshing_definite p lifetime = record {
+    same = λ answer again one other a b.
+        numbered p (λ n. challenged bytes (refreshes_again (number_at bytes) n lifetime now p)) a.number b.number answer again one other a.is_next b.is_next a.outcome b.outcome;
+  }
+
+  asked_definite : (asked : Option ℕ) (p : Protocol) → IsDefinite (IsAskedAgain asked p bytes now)
+  asked_definite None p = asking_definite p bytes now (peer_asked (number_at bytes) p.allocations)
+  asked_definite (Some lifetime) p = refreshing_definite p lifetime
+
+  rechallenged_definite : (p : Protocol) → IsDefinite (IsRechallenged p bytes now)
+  rechallenged_definite p = tested (is_tired p) (handled (ended p))
+      (tested (is_awaited p.agent bytes) (asked_definite (refresh_asked (number_at bytes) p.allocations) p) (ignored p))
+
+  request_definite : (p : Protocol) → IsDefinite (IsRequestAnswered p bytes now)
+  request_definite p = tested (method_of (kind_at bytes) == refresh_method) (handled (after_refresh bytes now p))
+      (tested (method_of (kind_at bytes) == create_permission_method) (responded_definite p bytes now) (ignored p))
+
+  taken_definite : (p : Protocol) → IsDefinite (IsTakenUp p bytes now)
+  taken_definite p = tested (is_response bytes && is_awaited p.agent bytes) (request_definite (accepted bytes p)) (ignored p)
+
+  -- by the verdict
+  pub standing_definite : (verdict : Verdict) (p : Protocol) → IsDefinite (IsJudgedStanding verdict p bytes now)
+  standing_definite (Ok (ResendRequest choice)) p = rechallenged_definite p
+  standing_definite (Ok (Validated algorithm)) p = taken_definite p
+  standing_definite (Err NoMemory) p = never
+  standing_definite (Err Unauthorized) p = ignored p
+  standing_definite (Err (IntegrityFailed algorithm)) p = ignored p
+  standing_definite (Err UnsupportedFeature) p = ignored p

@@ -1,0 +1,68 @@
+-- A call that answers things as held is a step, too, where they are held.
+use Rattle.std.proofs.Common.{ℕ, List, inl, inr}
+use Rattle.turn_client_proto_poll.specs.Members.{IsIn}
+use Rattle.turn_client_proto_poll.specs.Messages.{Message, Held, Gain, Holds, Knows}
+use Rattle.turn_client_proto_poll.specs.Words.{Wire, ClientWords}
+use Rattle.turn_client_proto_poll.specs.Steps.{Arrives, Call, ClientStep, IsAnswered, IsTried}
+
+module _ {V : Wire} {C : Type 0} (K : ClientWords V C) (call : Call C) (held : List Held) where
+  abbrev showing : Call C
+  showing = record call { shown = held }
+
+  arrives : (bytes : List ℕ) (m : Message) → Arrives K call bytes m → Arrives K showing bytes m
+  arrives bytes m is = record { handled = is.handled; shows = is.shows; key = is.key; own = is.own; algorithm = is.algorithm; text = is.text; valid = is.valid }
+
+  tried : IsTried K call → IsTried K showing
+  tried is = record { bytes = is.bytes; attempt = is.attempt; arrives = arrives is.bytes is.attempt is.arrives; class_is = is.class_is; method_is = is.method_is }
+
+  answered : (begun : List Message) (gain : Gain) (number : ℕ) → IsAnswered K call begun gain number → IsAnswered K showing begun gain number
+  answered begun gain number is = record {
+    bytes = is.bytes;
+    response = is.response;
+    arrives = arrives is.bytes is.response is.arrives;
+    number_is = is.number_is;
+    request = is.request;
+    waited = is.waited;
+    request_is = is.request_is;
+    asks = is.asks;
+    brings = is.brings;
+  }
+
+  pub shows_step : ((h : Held) → IsIn h held → K.IsHeld call.after h) → ClientStep K call → ClientStep K (record call { shown = held })
+  shows_step are is = record {
+    account = is.account;
+    seed = is.seed;
+    counted = is.counted;
+    few = is.few;
+    begun = is.begun;
+    requests = is.requests;
+    numbered = is.numbered;
+    outstanding = is.outstanding;
+    queued = is.queued;
+    taken = λ n h. elim (is.taken n h) [
+      | inl was ↦ inl was
+      | inr now ↦ elim now [ inl made ↦ inr (inl made) | inr came ↦ inr (inr (tried came)) ]
+    ];
+    draws = is.draws;
+    handles = is.handles;
+    buffers = is.buffers;
+    gained = is.gained;
+    gains = is.gains;
+    answers = λ t h. answered is.begun (Holds t.held) t.number (is.answers t h);
+    once = is.once;
+    spent = is.spent;
+    known = is.known;
+    is_of = is.is_of;
+    tells = is.tells;
+    shows = is.shows;
+    shown = are;
+    waits = λ n peer h. elim (is.waits n peer h) [
+      | inl was ↦ inl was
+      | inr now ↦ elim now [
+        | inl known ↦ inr (inl (known.0, answered is.begun (Knows n peer) known.0 known.1))
+        | inr came ↦ inr (inr (tried came))
+      ]
+    ];
+    attempted = λ n h. elim (is.attempted n h) [ inl was ↦ inl was | inr came ↦ inr (tried came) ];
+    names = is.names;
+  }

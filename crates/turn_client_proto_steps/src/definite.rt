@@ -1,0 +1,73 @@
+//! What a TURN client does is determined (RFC 8489, RFC 8656): of one state, one call, one moment or
+//! one message makes one answer and one state, where memory is not refused.
+//!
+//! The functions here do nothing; each contract is a law of a relation that the contracts of a client
+//! cite: two outcomes of it on one state are equal. A law is named after its relation. The getters,
+//! `poll_event` and `protocol_error` need none, since their contracts are equations.
+
+ghost use Rattle.std.specs.Prelude.{◌≡◌, ◌≢◌, ℕ, List, Bool, Option, Result, Err};
+ghost use Rattle.std.specs.declared.net.ip_addr.IpAddr.{IpAddr};
+ghost use Rattle.stun_types.specs.declared.transport.TransportType.{TransportType};
+ghost use Rattle.turn_client_proto_poll.specs.Api.declared.answer.TurnPollRet.{TurnPollRet};
+ghost use Rattle.turn_client_proto_poll.specs.Api.declared.answer.TurnPollRet.TheVariants as poll;
+ghost use Rattle.turn_client_proto_poll.specs.Api.declared.error.CreatePermissionError.{CreatePermissionError};
+ghost use Rattle.turn_client_proto_poll.specs.Api.declared.error.CreatePermissionError.TheVariants as permission;
+ghost use Rattle.turn_client_proto_poll.specs.Api.declared.error.DeleteError.{DeleteError};
+ghost use Rattle.turn_client_proto_poll.specs.Api.declared.error.DeleteError.TheVariants as deletion;
+ghost use Rattle.turn_client_proto_poll.specs.Core.Deleting.{IsDeleteAnswered};
+ghost use Rattle.turn_client_proto_poll.specs.Core.Permitting.{IsPermissionAnswered};
+ghost use Rattle.turn_client_proto_poll.specs.Core.Receiving.{IsHeard};
+ghost use Rattle.turn_client_proto_poll.specs.Core.declared.protocol.Protocol.{Protocol};
+ghost use Rattle.turn_client_proto_poll.specs.Drawing.{IsDrawn, Sent};
+ghost use Rattle.turn_client_proto_poll.specs.Polling.{IsPolled};
+
+/// One message at one moment: whether it was for the client, and what the client is then, are one.
+/// No outcome of this relation is one of a client that was refused memory.
+pub fn hearing_is_definite()
+    ensures { (old one other : Protocol) (bytes : List ℕ) (now : ℕ) (handled again : Bool)
+        → IsHeard old bytes now handled one
+        → IsHeard old bytes now again other
+        → (handled ≡ again) × (one ≡ other) }
+{}
+
+/// One moment: what `poll` answers, and what the client is then, are one, unless memory was
+/// refused.
+pub fn polling_is_definite()
+    ensures { (old one other : Protocol) (now : ℕ) (answer again : TurnPollRet)
+        → answer ≢ poll.NoMemory
+        → again ≢ poll.NoMemory
+        → IsPolled old now answer one
+        → IsPolled old now again other
+        → (answer ≡ again) × (one ≡ other) }
+{}
+
+/// One moment: what `poll_transmit` answers, and what the client is then, are one.
+pub fn drawing_is_definite()
+    ensures { (old one other : Protocol) (now : ℕ) (answer again : Option Sent)
+        → IsDrawn old now answer one
+        → IsDrawn old now again other
+        → (answer ≡ again) × (one ≡ other) }
+{}
+
+/// One moment: what `delete` answers, and what the client is then, are one, unless memory was
+/// refused.
+pub fn deleting_is_definite()
+    ensures { (old one other : Protocol) (now : ℕ) (answer again : Result (Unit {0}) DeleteError)
+        → answer ≢ Err deletion.NoMemory
+        → again ≢ Err deletion.NoMemory
+        → IsDeleteAnswered old now answer one
+        → IsDeleteAnswered old now again other
+        → (answer ≡ again) × (one ≡ other) }
+{}
+
+/// One address, over one transport, at one moment: what `create_permission` answers, and what the
+/// client is then, are one, unless memory was refused.
+pub fn permitting_is_definite()
+    ensures { (old one other : Protocol) (transport : TransportType) (ip : IpAddr) (now : ℕ)
+        (answer again : Result (Unit {0}) CreatePermissionError)
+        → answer ≢ Err permission.NoMemory
+        → again ≢ Err permission.NoMemory
+        → IsPermissionAnswered old transport ip now answer one
+        → IsPermissionAnswered old transport ip now again other
+        → (answer ≡ again) × (one ≡ other) }
+{}

@@ -1,0 +1,254 @@
+-- What a client in a world answers is determined.
+use Rattle.std.proofs.Common.{◌≡◌, ◌≢◌, ℕ, Bool, true, false, List, ◌∷◌, Option, Some, None, Result, Ok, Err, refl, sym, ap, ◌∙◌, subst, inl, inr}
+use Rattle.std.specs.Bool.{MatchBool}
+use Rattle.std.specs.Borrow.{Bor}
+use Rattle.std.specs.declared.net.ip_addr.IpAddr.{IpAddr}
+use Rattle.std.specs.declared.net.socket_addr.SocketAddr.{SocketAddr}
+use Rattle.stun_types.specs.declared.transport.TransportType.{TransportType}
+use Rattle.turn_client_proto.specs.Api.declared.answer.TurnPollRet.{TurnPollRet}
+use Rattle.turn_client_proto.specs.Api.declared.answer.TurnPollRet.TheVariants as poll
+use Rattle.turn_client_proto.specs.Api.declared.answer.TurnRecvRet.{TurnRecvRet}
+use Rattle.turn_client_proto.specs.Api.declared.answer.TurnRecvRet.TheVariants as recv
+use Rattle.turn_client_proto.specs.Api.declared.error.CreatePermissionError.{CreatePermissionError}
+use Rattle.turn_client_proto.specs.Api.declared.error.CreatePermissionError.TheVariants as not_permitted
+use Rattle.turn_client_proto.specs.Api.declared.error.DeleteError.{DeleteError}
+use Rattle.turn_client_proto.specs.Api.declared.error.DeleteError.TheVariants as not_deleted
+use Rattle.turn_client_proto.specs.Api.declared.event.TurnEvent.{TurnEvent}
+use Rattle.turn_client_proto.specs.Deleting.{IsDeleteAnswered}
+use Rattle.turn_client_proto.specs.Drawing.{sent_of}
+use Rattle.turn_client_proto.specs.Kept.{Protocol}
+use Rattle.turn_client_proto.specs.Permitting.{IsPermissionAnswered}
+use Rattle.turn_client_proto.specs.Polling.{IsPolled}
+use Rattle.turn_desk_world.specs.Copies.{IsCopy}
+use Rattle.turn_client_proto_steps.proofs.Once.Calling.{delete_same, permission_same}
+use Rattle.turn_client_proto_steps.proofs.Once.Drawing.{draw_same}
+use Rattle.turn_client_proto_steps.proofs.Once.Polling.{poll_same}
+use Rattle.turn_desk_world.proofs.Receiving.{received_same}
+use Rattle.turn_desk_event.specs.declared.answer.Answer.{Answer}
+use Rattle.turn_desk_event.specs.declared.answer.Answer.TheVariants as answer
+use Rattle.turn_desk_event.specs.declared.answer.Refusal.TheVariants.{CreatePermission as PermissionRefused, Delete as DeleteRefused}
+use Rattle.turn_desk_event.specs.declared.event.ClientCall.{ClientCall}
+use Rattle.turn_desk_event.specs.declared.event.ClientCall.TheVariants as call
+use Rattle.turn_desk_world.specs.Calls.{ArePermissionsTold, IsCalled, IsDeleteTold, IsDrawnAs, IsEndTold, IsEventTold, IsFed, IsHaveTold, IsPermissionTold, IsPolledAs, IsRelayedTold, IsTold}
+use Rattle.turn_desk_world.specs.Determined.{IsSame}
+use Rattle.turn_desk_world.specs.Runs.{IsAtClient, IsInRange, is_in_range}
+
+-- ---- answers that are equal say the same
+
+itself : (a : Answer) → IsSame a a
+itself (answer.Reply reply) = refl
+itself (answer.Transmit transmit) = refl
+itself (answer.Relayed list) = refl
+itself (answer.Permissions list) = refl
+itself _ = refl
+
+pub equal_same : (a b : Answer) → a ≡ b → IsSame a b
+equal_same a b is = subst (λ (x : Answer). IsSame a x) is (itself a)
+
+-- two outcomes say the same, and lead to one state
+abbrev pub AreOne : {S : Type 0} → (ret again : Answer) → (new other : S) → Type 0
+AreOne ret again new other = IsSame ret again × (new ≡ other)
+
+equal_one : {S : Type 0} (ret again : Answer) (new other : S) → (ret ≡ again) × (new ≡ other) → AreOne ret again new other
+equal_one ret again new other is = (equal_same ret again is.0, is.1)
+
+-- ---- a call that is answered by what its contract speaks of
+
+-- an answer tells what a call gave
+record IsBy {R S : Type 0} (tell : R → Answer) (Gives : R → S → Type 0) (ret : Answer) (new : S) : Type 0 where
+  given : R
+  gives : Gives given new
+  told : ret ≡ tell given
+
+IsDefinite : {R S : Type 0} → (R → S → Type 0) → Type 0
+IsDefinite {R = R} {S = S} Gives = (one other : R) (new left : S) → Gives one new → Gives other left → (one ≡ other) × (new ≡ left)
+
+by_definite : {R S : Type 0} (tell : R → Answer) (Gives : R → S → Type 0) → IsDefinite Gives → (ret again : Answer) (new other : S) → IsBy tell Gives ret new → IsBy tell Gives again other → AreOne ret again new other
+unfolding IsDefinite
+by_definite tell Gives definite ret again new other a b =
+    let same = definite a.given b.given new other a.gives b.gives in
+    equal_one ret again new other (a.told ∙ ap tell same.0 ∙ sym b.told, same.1)
+
+-- ---- `poll`
+
+abbrev answer_of_poll : TurnPollRet → Answer
+answer_of_poll (poll.WaitUntil moment) = answer.Wait moment
+answer_of_poll (poll.AllocateTcpSocket id socket peer) = answer.Socket id socket peer
+answer_of_poll (poll.TcpClose local remote) = answer.Close local remote
+answer_of_poll poll.Closed = answer.Closed
+answer_of_poll poll.NoMemory = answer.OutOfRange
+
+module _ (old : Protocol) (now : ℕ) where
+  abbrev Polls : TurnPollRet → Protocol → Type 0
+  Polls ret new = (ret ≢ poll.NoMemory) × IsPolled old now ret new
+
+  by_poll : (ret : Answer) (new : Protocol) → IsPolledAs ret old now new → IsBy answer_of_poll Polls ret new
+  by_poll (answer.Wait moment) new is = record { given = poll.WaitUntil moment; gives = ((λ e. Prim.cc e), is); told = refl }
+  by_poll (answer.Socket id socket peer) new is = record { given = poll.AllocateTcpSocket id socket peer; gives = ((λ e. Prim.cc e), is); told = refl }
+  by_poll (answer.Close local remote) new is = record { given = poll.TcpClose local remote; gives = ((λ e. Prim.cc e), is); told = refl }
+  by_poll answer.Closed new is = record { given = poll.Closed; gives = ((λ e. Prim.cc e), is); told = refl }
+  by_poll _ new is = absurd is
+
+  polls : IsDefinite Polls
+  unfolding IsDefinite
+  polls one other new left a b = poll_same old now one other new left a.0 b.0 a.1 b.1
+
+  polled : (ret again : Answer) (new other : Protocol) → IsPolledAs ret old now new → IsPolledAs again old now other → AreOne ret again new other
+  polled ret again new other a b = by_definite answer_of_poll Polls polls ret again new other (by_poll ret new a) (by_poll again other b)
+
+-- ---- `delete`, `create_permission`
+
+abbrev answer_of_deletion : Result (Unit {0}) DeleteError → Answer
+answer_of_deletion (Ok x) = answer.Done
+answer_of_deletion (Err error) = answer.Refused (DeleteRefused error)
+
+abbrev answer_of_permission : Result (Unit {0}) CreatePermissionError → Answer
+answer_of_permission (Ok x) = answer.Done
+answer_of_permission (Err error) = answer.Refused (PermissionRefused error)
+
+inside_err : {E : Type 0} (a b : E) (p q : Result (Unit {0}) E) → p ≡ Err a → q ≡ Err b → p ≡ q → a ≡ b
+inside_err a b p q at here same = Prim.cc (sym at ∙ same ∙ here)
+
+module _ (old : Protocol) (now : ℕ) where
+  abbrev Deletes : Result (Unit {0}) DeleteError → Protocol → Type 0
+  Deletes ret new = (ret ≢ Err not_deleted.NoMemory) × IsDeleteAnswered old now ret new
+
+  by_deletion : (ret : Answer) (new : Protocol) → IsDeleteTold ret old now new → IsBy answer_of_deletion Deletes ret new
+  by_deletion answer.Done new is = record { given = Ok tt; gives = ((λ e. Prim.cc e), is); told = refl }
+  by_deletion (answer.Refused (DeleteRefused error)) new is = record { given = Err error; gives = ((λ e. is.1 (inside_err error not_deleted.NoMemory (Err error) (Err not_deleted.NoMemory) refl refl e)), is.0); told = refl }
+  by_deletion _ new is = absurd is
+
+  deletes : IsDefinite Deletes
+  unfolding IsDefinite
+  deletes one other new left a b = delete_same old now one other new left a.0 b.0 a.1 b.1
+
+  module _ (transport : TransportType) (ip : IpAddr) where
+    abbrev Permits : Result (Unit {0}) CreatePermissionError → Protocol → Type 0
+    Permits ret new = (ret ≢ Err not_permitted.NoMemory) × IsPermissionAnswered old transport ip now ret new
+
+    by_permission : (ret : Answer) (new : Protocol) → IsPermissionTold ret transport ip old now new → IsBy answer_of_permission Permits ret new
+    by_permission answer.Done new is = record { given = Ok tt; gives = ((λ e. Prim.cc e), is); told = refl }
+    by_permission (answer.Refused (PermissionRefused error)) new is = record { given = Err error; gives = ((λ e. is.1 (inside_err error not_permitted.NoMemory (Err error) (Err not_permitted.NoMemory) refl refl e)), is.0); told = refl }
+    by_permission _ new is = absurd is
+
+    permits : IsDefinite Permits
+    unfolding IsDefinite
+    permits one other new left a b = permission_same old transport ip now one other new left a.0 b.0 a.1 b.1
+
+-- ---- getters, events and ends
+
+event_told : (old : Protocol) (ret again : Answer) (new other : Protocol) → IsEventTold ret old new → IsEventTold again old other → AreOne ret again new other
+event_told old (answer.Event e) (answer.Event f) new other a b =
+    let both : e ∷ new.events ≡ f ∷ other.events = sym a.0 ∙ b.0 in
+    let first : e ≡ f = Prim.cc both in
+    let rest : new.events ≡ other.events = Prim.cc both in
+    (ap (λ (x : TurnEvent). answer.Event x) first, a.1 ∙ ap (λ (l : List TurnEvent). record old { events = l }) rest ∙ sym b.1)
+event_told old (answer.Event e) answer.Nothing new other a b = absurd (let never : ⊥ = Prim.cc (sym a.0 ∙ b.0) in never)
+event_told old answer.Nothing (answer.Event f) new other a b = absurd (let never : ⊥ = Prim.cc (sym a.0 ∙ b.0) in never)
+event_told old answer.Nothing answer.Nothing new other a b = (refl, a.1 ∙ sym b.1)
+event_told old (answer.Event e) _ new other a b = absurd b
+event_told old answer.Nothing _ new other a b = absurd b
+event_told old _ again new other a b = absurd a
+
+have_told : (transport : TransportType) (ip : IpAddr) (old : Protocol) (ret again : Answer) (new other : Protocol) → IsHaveTold ret transport ip old new → IsHaveTold again transport ip old other → AreOne ret again new other
+have_told transport ip old (answer.Have is) (answer.Have was) new other a b = (ap (λ (x : Bool). answer.Have x) (a.0 ∙ sym b.0), a.1 ∙ sym b.1)
+have_told transport ip old (answer.Have is) _ new other a b = absurd b
+have_told transport ip old _ again new other a b = absurd a
+
+permissions_told : (transport : TransportType) (relayed : SocketAddr) (old : Protocol) (ret again : Answer) (new other : Protocol) → ArePermissionsTold ret transport relayed old new → ArePermissionsTold again transport relayed old other
+    → AreOne ret again new other
+permissions_told transport relayed old (answer.Permissions list) (answer.Permissions more) new other a b = (a.0 ∙ sym b.0, a.1 ∙ sym b.1)
+permissions_told transport relayed old (answer.Permissions list) _ new other a b = absurd b
+permissions_told transport relayed old _ again new other a b = absurd a
+
+relayed_told : (old : Protocol) (ret again : Answer) (new other : Protocol) → IsRelayedTold ret old new → IsRelayedTold again old other → AreOne ret again new other
+relayed_told old (answer.Relayed list) (answer.Relayed more) new other a b = (a.0 ∙ sym b.0, a.1 ∙ sym b.1)
+relayed_told old (answer.Relayed list) _ new other a b = absurd b
+relayed_told old _ again new other a b = absurd a
+
+end_told : (old : Protocol) (ret again : Answer) (new other : Protocol) → IsEndTold ret old new → IsEndTold again old other → AreOne ret again new other
+end_told old answer.Done answer.Done new other a b = (refl, a ∙ sym b)
+end_told old answer.Done _ new other a b = absurd b
+end_told old _ again new other a b = absurd a
+
+pub called_once : (what : ClientCall) (old : Protocol) (now : ℕ) (ret again : Answer) (new other : Protocol) → IsCalled what ret old now new → IsCalled what again old now other → AreOne ret again new other
+unfolding IsCalled
+called_once call.Poll old now ret again new other a b = polled old now ret again new other a b
+called_once call.PollEvent old now ret again new other a b = event_told old ret again new other a b
+called_once call.Delete old now ret again new other a b = by_definite answer_of_deletion (Deletes old now) (deletes old now) ret again new other (by_deletion old now ret new a) (by_deletion old now again other b)
+called_once (call.CreatePermission transport ip) old now ret again new other a b =
+    by_definite answer_of_permission (Permits old now transport ip) (permits old now transport ip) ret again new other (by_permission old now transport ip ret new a) (by_permission old now transport ip again other b)
+called_once (call.HavePermission transport ip) old now ret again new other a b = have_told transport ip old ret again new other a b
+called_once (call.Permissions transport relayed) old now ret again new other a b = permissions_told transport relayed old ret again new other a b
+called_once call.ProtocolError old now ret again new other a b = end_told old ret again new other a b
+called_once call.RelayedAddresses old now ret again new other a b = relayed_told old ret again new other a b
+
+-- ---- what is sent
+
+inside : {A : Type 0} {a b : A} → Some a ≡ Some b → a ≡ b
+inside p = Prim.cc p
+
+pub drawn_once : (old : Protocol) (now : ℕ) (ret again : Answer) (new other : Protocol) → IsDrawnAs ret old now new → IsDrawnAs again old now other → AreOne ret again new other
+unfolding IsDrawnAs
+drawn_once old now (answer.Transmit one) (answer.Transmit two) new other a b =
+    let same = draw_same old now (Some (sent_of one)) (Some (sent_of two)) new other a b in
+    (inside same.0, same.1)
+drawn_once old now (answer.Transmit one) answer.Nothing new other a b = absurd (let never : ⊥ = Prim.cc (draw_same old now (Some (sent_of one)) None new other a b).0 in never)
+drawn_once old now answer.Nothing (answer.Transmit two) new other a b = absurd (let never : ⊥ = Prim.cc (draw_same old now None (Some (sent_of two)) new other a b).0 in never)
+drawn_once old now answer.Nothing answer.Nothing new other a b = (refl, (draw_same old now None None new other a b).1)
+drawn_once old now (answer.Transmit one) _ new other a b = absurd b
+drawn_once old now answer.Nothing _ new other a b = absurd b
+drawn_once old now _ again new other a b = absurd a
+
+-- ---- what comes
+
+told_handled : (ret : Answer) → IsTold recv.Handled ret → ret ≡ answer.Handled
+told_handled answer.Handled is = refl
+told_handled _ is = absurd is
+
+told_ignored : (came : _) (ret : Answer) → IsTold (recv.Ignored came) ret → ret ≡ answer.Ignored
+told_ignored came answer.Ignored is = refl
+told_ignored came _ is = absurd is
+
+pub fed_once : (old : Protocol) (bytes : List ℕ) (from to : SocketAddr) (now : ℕ) (ret again : Answer) (new other : Protocol) → IsFed ret old bytes from to now new → IsFed again old bytes from to now other → AreOne ret again new other
+fed_once old bytes from to now ret again new other a b =
+    let copy : IsCopy (λ (x : Bor (List ℕ)). x.now) a.came b.came = record {
+      bytes = b.bytes_are ∙ sym a.bytes_are;
+      transport = b.transport_is ∙ sym a.transport_is;
+      from = b.from_is ∙ sym a.from_is;
+      to = b.to_is ∙ sym a.to_is;
+    } in
+    let ample = λ (e : a.took ≡ recv.NoMemory a.came). subst (λ (r : TurnRecvRet (Bor (List ℕ))). IsTold r ret) e a.told in
+    let enough = λ (e : b.took ≡ recv.NoMemory b.came). subst (λ (r : TurnRecvRet (Bor (List ℕ))). IsTold r again) e b.told in
+    let same = received_same (λ (x : Bor (List ℕ)). x.now) old a.came b.came now a.took b.took new other ample enough copy a.received b.received in
+    equal_one ret again new other (
+      elim same.0 [
+        | inl both ↦
+            told_handled ret (subst (λ (r : TurnRecvRet (Bor (List ℕ))). IsTold r ret) both.0 a.told)
+            ∙ sym (told_handled again (subst (λ (r : TurnRecvRet (Bor (List ℕ))). IsTold r again) both.1 b.told))
+        | inr both ↦
+            told_ignored a.came ret (subst (λ (r : TurnRecvRet (Bor (List ℕ))). IsTold r ret) both.0 a.told)
+            ∙ sym (told_ignored b.came again (subst (λ (r : TurnRecvRet (Bor (List ℕ))). IsTold r again) both.1 b.told))
+      ],
+      same.1,
+    )
+
+-- ---- an event of the client
+
+module _ (now : ℕ) (Does : Answer → Protocol → Protocol → Type 0) (once : (old : Protocol) (ret again : Answer) (new other : Protocol) → Does ret old new → Does again old other → AreOne ret again new other) where
+  in_range : (old : Protocol) (ret again : Answer) (new other : Protocol) → IsInRange now (λ p q. Does ret p q) old ret new → IsInRange now (λ p q. Does again p q) old again other → AreOne ret again new other
+  unfolding IsInRange
+  in_range old ret again new other a b =
+      elim (is_in_range now) as (λ (t : Bool). MatchBool t (Does ret old new) ((ret ≡ answer.OutOfRange) × (new ≡ old)) → MatchBool t (Does again old other) ((again ≡ answer.OutOfRange) × (other ≡ old)) → AreOne ret again new other) [
+        | true ↦ λ x y. once old ret again new other x y
+        | false ↦ λ x y. equal_one ret again new other (x.0 ∙ sym y.0, x.1 ∙ sym y.1)
+      ] a b
+
+  pub at_client_once : (old : Option Protocol) (ret again : Answer) (new other : Option Protocol) → IsAtClient now (λ p q. Does ret p q) old ret new → IsAtClient now (λ p q. Does again p q) old again other → AreOne ret again new other
+  unfolding IsAtClient
+  at_client_once None ret again new other a b = equal_one ret again new other (a.0 ∙ sym b.0, a.1 ∙ sym b.1)
+  at_client_once (Some old) ret again None other a b = absurd a
+  at_client_once (Some old) ret again (Some new) None a b = absurd b
+  at_client_once (Some old) ret again (Some new) (Some other) a b =
+      let same = in_range old ret again new other a b in
+      (same.0, ap (λ (p : Protocol). Some p) same.1)

@@ -1,0 +1,3 @@
+pub mod Handshakes
+pub mod Rounds
+pub mod Ungranted

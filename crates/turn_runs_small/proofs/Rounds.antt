@@ -1,0 +1,276 @@
+-- The honest run is lawful, and up to sixteen requests it is unforged.
+use Rattle.std.proofs.lemmas.List.{append-nil}
+use Rattle.std.proofs.Common.{◌≡◌, ◌≢◌, ℕ, zero, suc, ◌≤◌, ◌%◌, ◌+◌, ◌-◌, List, [], ◌∷◌, map, Some, refl, ap, sym, ◌∙◌, subst, inl, inr, arith}
+use Rattle.stun_types.specs.IntegrityAlgorithms.{Sha1}
+use Rattle.stun_types.specs.declared.transport.TransportType.TheVariants.{Tcp}
+use Rattle.turn_runs.specs.Headline.{IsPromised}
+use Rattle.turn_runs.specs.Members.{IsIn}
+use Rattle.turn_runs.specs.Messages.{Message, Held, Permission, Channel, Connection, Gain, Holds, Knows, Asks, Brings, IsGrantFor, Payload, NamesHeld}
+use Rattle.turn_runs.specs.Names.{socket_ip, Request, Success, Error}
+use Rattle.turn_runs.specs.Runs.{AreDistinct, AtEach, IsLawful, IsNew, IsUnforged, Leads, NoForgery}
+use Rattle.turn_runs.specs.Steps.{Told, IsAnswered, ClientStep, DeskStep}
+use Rattle.turn_runs.specs.Words.{WireLaws}
+use Rattle.turn_types.specs.TurnRegistry.{connection_attempt_method}
+use Rattle.turn_runs.proofs.Safe.{promised}
+use Rattle.turn_runs.proofs.Tools.{in_either, in_left}
+use Rattle.turn_runs_small.specs.Handshakes.{Addresses, number_at, request_at, response_at, grant_at, told_at, held_after, recorded_after}
+use Rattle.turn_runs_small.specs.Rounds.{idle, quiet, asks_next, hears, payloads_at, takes_next, shows_all, rounds}
+use Rattle.turn_runs_small.specs.SmallWords.{Idle, Waiting, given_by, shown_small, small_wire, small_client, small_desk, small}
+use Rattle.turn_runs_small.proofs.Handshakes.{request_class, response_class, not_attempt, request_number, response_number, told_so, told_once, waits_next, grant_for, from_local}
+
+-- ---- how far the generator goes
+
+one_given : (n : ℕ) → given_by (Idle n) (Waiting n) ≡ 1
+one_given n = omega arith
+
+none_given : (n : ℕ) → (n + (16 - n % 16)) % 16 ≡ 0
+none_given n = omega arith
+
+-- ---- each step is lawful
+
+held_in : (h : Held) (ts : List Told) → IsIn h (map (λ (t : Told). t.held) ts) → (t : Told) × IsIn t ts × (t.held ≡ h)
+held_in h [] i = absurd i
+held_in h (t ∷ ts) i = elim i [
+  | inl e ↦ (t, inl refl, e)
+  | inr j ↦ (let k = held_in h ts j in (k.0, inr k.1, k.2))
+]
+
+module _ (a : Addresses) where
+  asks_step : (n : ℕ) → ClientStep (small_client a) (asks_next n)
+  asks_step n = record {
+    account = refl;
+    seed = refl;
+    counted = omega (arith, one_given n);
+    few = omega (arith, one_given n);
+    begun = request_at a n ∷ [];
+    requests = λ m i. elim i [
+      | inl e ↦ subst (λ (x : Message). (x.class ≡ Request) × (x.method ≢ connection_attempt_method)) e (request_class a n, not_attempt a n)
+      | inr none ↦ absurd none
+    ];
+    numbered = (n, omega arith, omega arith, inl (request_number a n), omega arith);
+    outstanding = λ m o. inr (inl (sym o));
+    queued = λ m q. absurd q;
+    taken = λ k t. absurd t;
+    draws = λ bytes m e shows. inl (inr (inr (inl (
+        let same : 0 ∷ n ∷ [] ≡ bytes = cc in
+        let both : Some (request_at a n) ≡ Some m = ap (shown_small a) same ∙ shows in
+        cc))));
+    handles = λ bytes i. absurd i;
+    buffers = λ bytes b. absurd b;
+    gained = [];
+    gains = λ h k. inl k;
+    answers = λ t i. absurd i;
+    once = tt;
+    spent = λ t m i. absurd i;
+    known = λ t i. absurd i;
+    is_of = λ t i. absurd i;
+    tells = refl;
+    shows = λ h k. k;
+    shown = λ h i. absurd i;
+    waits = λ number to w. inl w;
+    attempted = λ k t. absurd t;
+    names = λ p i. absurd i;
+  }
+
+  answered_here : (n : ℕ) (gain : Gain) → Asks (request_at a n) gain → Brings (response_at a n) gain →
+      IsAnswered (small_client a) (takes_next a n) [] gain (number_at n)
+  answered_here n gain asks brings = record {
+    bytes = 1 ∷ n ∷ [];
+    response = response_at a n;
+    arrives = record { handled = inl refl; shows = refl; key = []; own = ([], Sha1, refl); algorithm = Sha1; text = 1 ∷ n ∷ []; valid = (refl, refl) };
+    number_is = response_number a n;
+    request = request_at a n;
+    waited = inl refl;
+    request_is = request_number a n;
+    asks = asks;
+    brings = brings;
+  }
+
+  names_next : (n : ℕ) (p : Payload) → IsIn p (payloads_at a n) → (h : Held) × NamesHeld p h × IsIn h (held_after a (suc n))
+  names_next zero p i = absurd i
+  names_next (suc zero) p i = elim i [
+    | inl e ↦ subst (λ (x : Payload). (h : Held) × NamesHeld x h × IsIn h (held_after a 2)) e (Permission Tcp (socket_ip a.peer), refl, inl refl)
+    | inr none ↦ absurd none
+  ]
+  names_next (suc (suc zero)) p i = elim i [
+    | inl e ↦ subst (λ (x : Payload). (h : Held) × NamesHeld x h × IsIn h (held_after a 3)) e (Channel 0x4000 a.peer, refl, inr (inl refl))
+    | inr none ↦ absurd none
+  ]
+  names_next (suc (suc (suc zero))) p i = absurd i
+  names_next (suc (suc (suc (suc zero)))) p i = elim i [
+    | inl e ↦ subst (λ (x : Payload). (h : Held) × NamesHeld x h × IsIn h (held_after a 5)) e (Connection a.local a.peer 7, (7, refl), inl refl)
+    | inr none ↦ absurd none
+  ]
+  names_next (suc (suc (suc (suc (suc n))))) p i = absurd i
+
+  takes_step : (n : ℕ) → ClientStep (small_client a) (takes_next a n)
+  takes_step n = record {
+    account = refl;
+    seed = refl;
+    counted = omega (arith, none_given (suc n));
+    few = omega (arith, none_given (suc n));
+    begun = [];
+    requests = λ m i. absurd i;
+    numbered = omega arith;
+    outstanding = λ m o. absurd o;
+    queued = λ m q. absurd q;
+    taken = λ k t. absurd t;
+    draws = λ bytes m e shows. absurd (let never : ⊥ = cc in never);
+    handles = λ bytes i. inl i;
+    buffers = λ bytes b. absurd b;
+    gained = told_at a n;
+    gains = λ h k. elim (in_either h (map (λ (t : Told). t.held) (told_at a n)) (held_after a n) k) [
+      | inl new ↦ inr (held_in h (told_at a n) new)
+      | inr old ↦ inl old
+    ];
+    answers = λ t i. (let s = told_so a n t i in
+        subst (λ (k : ℕ). IsAnswered (small_client a) (takes_next a n) [] (Holds t.held) k) (sym s.number_is) (answered_here n (Holds t.held) s.asks s.brings));
+    once = told_once a n;
+    spent = λ t m i o. absurd o;
+    known = λ t i. (told_so a n t i).known;
+    is_of = λ t i. (told_so a n t i).is_of;
+    tells = append-nil (map (λ (t : Told). t.notice) (told_at a n));
+    shows = λ h k. k;
+    shown = λ h i. absurd i;
+    waits = λ number to w. elim (waits_next a n number to w) [
+      | inl old ↦ inl old
+      | inr new ↦ inr (inl (number_at n, answered_here n (Knows number to) new.0 new.1))
+    ];
+    attempted = λ k t. absurd t;
+    names = names_next n;
+  }
+
+  -- a call that leaves the client as it was, and draws, tells and brings nothing
+  idle_step : (n : ℕ) (came : List (List ℕ)) (shown : List Held) → ((h : Held) → IsIn h shown → IsIn h (held_after a n)) →
+      ClientStep (small_client a) (record (quiet (idle n) (idle n)) { came = came; handled = came; shown = shown })
+  idle_step n came shown held = record {
+    account = refl;
+    seed = refl;
+    counted = omega (arith, none_given n);
+    few = omega (arith, none_given n);
+    begun = [];
+    requests = λ m i. absurd i;
+    numbered = omega arith;
+    outstanding = λ m o. inl o;
+    queued = λ m q. absurd q;
+    taken = λ k t. absurd t;
+    draws = λ b m e shows. absurd (let never : ⊥ = cc in never);
+    handles = λ b i. inl i;
+    buffers = λ b i. absurd i;
+    gained = [];
+    gains = λ h k. inl k;
+    answers = λ t i. absurd i;
+    once = tt;
+    spent = λ t m i. absurd i;
+    known = λ t i. absurd i;
+    is_of = λ t i. absurd i;
+    tells = refl;
+    shows = λ h k. k;
+    shown = held;
+    waits = λ number to w. inl w;
+    attempted = λ k t. absurd t;
+    names = λ p i. absurd i;
+  }
+
+  hears_step : (n : ℕ) (bytes : List ℕ) → ClientStep (small_client a) (hears n bytes)
+  hears_step n bytes = idle_step n (bytes ∷ []) [] (λ h i. absurd i)
+
+  shows_step : (n : ℕ) → ClientStep (small_client a) (shows_all a n)
+  shows_step n = idle_step n [] (held_after a n) (λ h i. i)
+
+  desk_step : (n : ℕ) → DeskStep (small_wire a) (small_desk a) n
+  desk_step n =
+      let shows_it : (r : List ℕ) (m : Message) → Some (1 ∷ n ∷ []) ≡ Some r → shown_small a r ≡ Some m → response_at a n ≡ m
+      = λ r m e f. (let same : 1 ∷ n ∷ [] ≡ r = cc in let both : Some (response_at a n) ≡ Some m = ap (shown_small a) same ∙ f in cc) in
+      record {
+        responds = λ r m e f. inl (subst (λ (x : Message). x.class ≡ Success) (shows_it r m e f) (response_class a n));
+        grants = λ r m e f is. record {
+          request = request_at a n;
+          shows = refl;
+          class_is = request_class a n;
+          grant = grant_at a n;
+          granted = refl;
+          for = subst (λ (x : Message). IsGrantFor (request_at a n) x (grant_at a n)) (shows_it r m e f) (grant_for a n);
+          from_is = from_local a n;
+          kept = refl;
+        };
+        refuses = λ r m e f is. absurd (let no : Success ≡ Error = sym (subst (λ (x : Message). x.class ≡ Success) (shows_it r m e f) (response_class a n)) ∙ is in let never : ⊥ = cc in never);
+        validates = λ key algorithm e. (0 ∷ n ∷ [], (refl, e));
+        signs = λ key text r algorithm b e f g. (g, e);
+        keeps = λ g i. in_left g (recorded_after a n) (grant_at a n ∷ []) i;
+      }
+
+  -- ---- the whole run
+
+  pub small_laws : WireLaws (small_wire a)
+  small_laws = record {
+    fixed = λ one other key algorithm text p q. sym p.0 ∙ q.0;
+    same = λ one other e. ap (shown_small a) e;
+  }
+
+  pub first_is_new : IsNew (small a) (idle 0)
+  first_is_new = record {
+    none_outstanding = λ m o. o;
+    none_queued = λ m o. o;
+    none_taken = λ k t. t;
+    none_kept = λ h k. k;
+    none_waits = λ number to w. w;
+    none_attempted = λ k t. t;
+    none_buffered = λ b i. i;
+    none_created = refl;
+  }
+
+  pub leads : (n : ℕ) → Leads (idle 0) (rounds a n) (idle n)
+  leads zero = refl
+  leads (suc n) = (refl, (refl, (refl, (refl, (refl, leads n)))))
+
+  pub lawful : (n : ℕ) → AtEach (λ s _. IsLawful (small a) s) (rounds a n)
+  lawful zero = tt
+  lawful (suc n) = (
+    hears_step (suc n) (0 ∷ n ∷ []),
+    (hears_step (suc n) (1 ∷ n ∷ []), (shows_step (suc n), (takes_step n, (desk_step n, (asks_step n, lawful n))))),
+  )
+
+  authentic : (count n : ℕ) → NoForgery (small a) (idle 0) count (rounds a n)
+  authentic count zero = tt
+  authentic count (suc n) = (
+    (λ bytes key text b i own v. elim i [
+      | inl e ↦ inr (inr (inr (inr (inl (inl (0 ∷ n ∷ [], refl, (v.0 ∙ sym e, v.1)))))))
+      | inr none ↦ absurd none
+    ]),
+    (
+      (λ bytes key text b i own v. elim i [
+        | inl e ↦ inr (inr (inl (inr (1 ∷ n ∷ [], refl, v.0 ∙ sym e, (b, v.1)))))
+        | inr none ↦ absurd none
+      ]),
+      (
+        (λ bytes key text b i. absurd i),
+        (
+          (λ bytes key text b i own v. elim i [
+            | inl e ↦ inl (inr (1 ∷ n ∷ [], refl, v.0 ∙ sym e, (b, v.1)))
+            | inr none ↦ absurd none
+          ]),
+          (
+            (λ key text b m own v shows has. inl (inl (0 ∷ n ∷ [], refl, v))),
+            ((λ bytes key text b i. absurd i), authentic count n),
+          ),
+        ),
+      ),
+    ),
+  )
+
+  -- the first sixteen numbers differ
+  pub distinct : (count : ℕ) → count ≤ 16 → AreDistinct (small a) tt count
+  distinct count le i j less lt e = omega (arith, le, less, lt, e)
+
+  pub unforged : (n : ℕ) → n ≤ 16 → IsUnforged (small a) (idle 0) (rounds a n) (idle n)
+  unforged n le = record {
+    new = first_is_new;
+    leads = leads n;
+    lawful = lawful n;
+    authentic = authentic n n;
+    distinct = distinct n le;
+  }
+
+  pub rounds_promised : (n : ℕ) → IsPromised (small a) (idle 0) (rounds a n) (idle n)
+  rounds_promised n = promised (small a) small_laws (idle 0) (rounds a n) (idle n) first_is_new (leads n) (lawful n)

@@ -1,0 +1,4 @@
+pub mod Handshakes
+pub mod SmallWords
+pub mod Rounds
+pub mod Ungranted

@@ -1,0 +1,86 @@
+-- A small client and a small desk, in the words of a run.
+use Rattle.std.specs.Prelude.{◌≡◌, ℕ, zero, suc, ◌+◌, ◌-◌, ◌%◌, List, [], ◌∷◌, ◌++◌, Option, Some, None}
+use Rattle.turn_runs.specs.Members.{IsIn}
+use Rattle.turn_runs.specs.Messages.{Message}
+use Rattle.turn_runs.specs.Words.{Wire, ClientWords, DeskWords, Words}
+use Rattle.turn_runs_small.specs.Handshakes.{Addresses, number_at, request_at, response_at, grant_at, recorded_after, held_after, WaitsAfter}
+
+-- what the client keeps: how many of its requests were answered, and whether the next is outstanding
+pub data Core : Type 0 where
+  Idle : (answered : ℕ) → Core
+  Waiting : (answered : ℕ) → Core
+
+-- a client, as a run tells of it
+pub record Client : Type 0 where
+  pub core : Core
+  -- how many numbers it has drawn, as the run says: the client doesn't keep this
+  pub drawn : ℕ
+
+abbrev pub answered_in : Core → ℕ
+answered_in (Idle n) = n
+answered_in (Waiting n) = n
+
+-- the place that its generator has come to
+abbrev pub place_in : Core → ℕ
+place_in (Idle n) = n
+place_in (Waiting n) = suc n
+
+-- how far the generator went from one state to another, by its places in a stream of sixteen
+abbrev pub given_by : (before after : Core) → ℕ
+given_by before after = (place_in after + (16 - place_in before % 16)) % 16
+
+module _ (a : Addresses) where
+  -- a message is two numbers: whether it is a response, and how many came before
+  abbrev pub shown_small : List ℕ → Option Message
+  shown_small (zero ∷ n ∷ []) = Some (request_at a n)
+  shown_small (suc zero ∷ n ∷ []) = Some (response_at a n)
+  shown_small _ = None
+
+  abbrev pub IsOutstandingIn : Core → Message → Type 0
+  IsOutstandingIn (Idle n) m = ⊥
+  IsOutstandingIn (Waiting n) m = m ≡ request_at a n
+
+  -- there is one account and one key, and a message is covered whole
+  abbrev pub small_wire : Wire
+  small_wire = record {
+    Account = Unit {0};
+    Seed = Unit {0};
+    shown = shown_small;
+    Validates = λ bytes key algorithm text. (text ≡ bytes) × (key ≡ []);
+    Covers = λ bytes algorithm text. text ≡ bytes;
+    ShowsSame = λ one other. one ≡ other;
+    key = λ account realm algorithm. [];
+    number = λ seed place. number_at place;
+  }
+
+  abbrev pub small_client : ClientWords small_wire Client
+  small_client = record {
+    account = λ c. tt;
+    seed = λ c. tt;
+    count = λ c. c.drawn;
+    given = λ before after. given_by before.core after.core;
+    IsOutstanding = λ c m. IsOutstandingIn c.core m;
+    IsQueued = λ c m. ⊥;
+    IsTaken = λ c n. ⊥;
+    IsKept = λ c h. IsIn h (held_after a (answered_in c.core));
+    IsHeld = λ c h. IsIn h (held_after a (answered_in c.core));
+    Waits = λ c number to. WaitsAfter a (answered_in c.core) number to;
+    IsAttempted = λ c n. ⊥;
+    IsBuffered = λ c bytes. ⊥;
+    created = λ c. [];
+  }
+
+  -- a step of the desk is named by how many requests came before
+  abbrev pub small_desk : DeskWords ℕ
+  small_desk = record {
+    request = λ n. 0 ∷ n ∷ [];
+    source = λ n. a.local;
+    reply = λ n. Some (1 ∷ n ∷ []);
+    ValidatedWith = λ n key algorithm. key ≡ [];
+    recorded = recorded_after a;
+    records = λ n. recorded_after a n ++ grant_at a n ∷ [];
+    IsGranted = λ n g. g ≡ grant_at a n;
+  }
+
+  abbrev pub small : Words Client ℕ
+  small = record { wire = small_wire; client = small_client; desk = small_desk }
