@@ -79,3 +79,11 @@ changed_at p f xs new i place is = by_cases p f xs new i (slice_get xs i) refl p
 pub on_ok : {R E A B : Type 0} (r : Result R E) → (A → B) → OnOk r A → OnOk r B
 on_ok (Ok x) f h = f h
 on_ok (Err e) f h = h
+
+-- the element at the place that was found was read, and a changed one was put there
+pub put_there : {X : Type 0} (p : X → Bool) (f : X → X) (xs : List X) (i : ℕ) (x new : X) → position p xs ≡ Some i → x ≡ get_or xs i x → new ≡ f x → slice_set xs i new ≡ change_first p f xs
+put_there p f xs i x new place is made =
+    ap (λ y. slice_set xs i y) made ∙ change_first_at p f xs i x place (slice_get_read xs (length xs) i x refl (position-Some p xs i x place).0 is)
+
+-- the first that passes, by the place where it is
+pub ruleset first_by_place = (change_first_at, change_first_none, find_is)

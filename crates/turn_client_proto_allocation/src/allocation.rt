@@ -1,13 +1,26 @@
 //! An allocation (RFC 8656, section 5).
 
-ghost use Rattle.std.specs.Prelude.{◌≡◌, ◌++◌, ◌∷◌, [], OnOk, OnErr, Option, Some, None, find};
+ghost use Rattle.std.specs.Prelude.{◌≡◌, OnOk, OnErr, Option, Some, None};
 ghost use Rattle.std.specs.Duration.{as_nanos};
-ghost use Rattle.turn_client_proto_allocation.specs.Awaited.{is_awaited, is_refresh};
+ghost use Rattle.turn_client_proto_allocation.specs.Awaited.{is_awaited};
 ghost use Rattle.turn_client_proto_allocation.specs.Listed.{awaits_refresh};
 ghost use Rattle.turn_client_proto_allocation.specs.declared.allocation.Allocation.{Allocation};
-ghost use Rattle.turn_client_proto_allocation.specs.declared.refresh.PendingRefresh.{PendingRefresh};
+ghost use Rattle.turn_client_proto_allocation.specs.declared.refresh.PendingRefresh.{
+  PendingRefresh,
+};
 ghost use Rattle.turn_client_proto_allocation.specs.Polling.{has_ended, next_of, polled, stays};
-ghost use Rattle.turn_client_proto_allocation.specs.Refreshing.{ahead, ended, ends_by, granted, lifetime_asked, refreshing, renewal, renewed, stands_for, wants_refresh};
+ghost use Rattle.turn_client_proto_allocation.specs.Refreshing.{
+  ahead,
+  ended,
+  ends_by,
+  granted,
+  lifetime_asked,
+  refreshing,
+  renewal,
+  renewed,
+  stands_for,
+  wants_refresh,
+};
 
 use crate::channel::{self, Channel, LapsedChannel, PendingChannel};
 use crate::connection::{
@@ -29,7 +42,8 @@ const RENEWED_BEFORE: u64 = 60_000_000_000;
 /// Half a second, in nanoseconds.
 const HALF_SECOND: u64 = 500_000_000;
 
-/// An allocation that was granted no longer than this, in seconds, is renewed after half of its time.
+/// An allocation that was granted no longer than this, in seconds, is renewed after half of its
+/// time.
 const SHORT_LIFETIME: u32 = 120;
 
 /// A REFRESH that is answered with less than this, in seconds, renews nothing.
@@ -69,8 +83,8 @@ pub struct Allocation {
 }
 
 impl Allocation {
-    /// An allocation that is granted at a moment, for a lifetime in seconds. Nothing stands on it. It
-    /// holds no memory yet.
+    /// An allocation that is granted at a moment, for a lifetime in seconds. Nothing stands on it.
+    /// It holds no memory yet.
     pub fn granted(
         alloc: Global,
         transport: TransportType,
@@ -98,7 +112,8 @@ impl Allocation {
         }
     }
 
-    /// Whether something of it awaits the response to a request of this number, or has not answered it.
+    /// Whether something of it awaits the response to a request of this number, or has not answered
+    /// it.
     #[tactic(auto, unfolding(crate::specs::Awaited::is_awaited))]
     pub fn is_awaited(&self, number: TransactionId) -> bool
         ensures { result ≡ is_awaited number self.now }
@@ -146,8 +161,8 @@ impl Allocation {
         }
     }
 
-    /// The lifetime that the REFRESH of this number asks for, in seconds, where one of that number is
-    /// awaited.
+    /// The lifetime that the REFRESH of this number asks for, in seconds, where one of that number
+    /// is awaited.
     pub fn lifetime_asked(&self, number: TransactionId) -> Option<u32>
         ensures { result ≡ lifetime_asked number self.now.pending_refreshes }
     {
@@ -155,9 +170,9 @@ impl Allocation {
     }
 
     /// A success response to the REFRESH of this number came, and tells this lifetime, in seconds.
-    /// Where such a request is awaited, and it asked for more than 0, the allocation stands that long
-    /// from now on and no REFRESH is awaited; but where the lifetime is missing or under 600, nothing
-    /// changes (RFC 8656, section 8.3).
+    /// Where such a request is awaited, and it asked for more than 0, the allocation stands that
+    /// long from now on and no REFRESH is awaited; but where the lifetime is missing or under 600,
+    /// nothing changes (RFC 8656, section 8.3).
     #[tactic(auto, unfolding(crate::specs::Refreshing::renewed))]
     pub(crate) fn renew(&mut self, number: TransactionId, lifetime: Option<u32>, now: Instant)
         ensures { self.new ≡ renewed number now lifetime self.old }
@@ -181,8 +196,8 @@ impl Allocation {
         }
     }
 
-    /// Keeps that a REFRESH of this number was sent, which asks for a lifetime in seconds. Where memory
-    /// is refused, nothing changes.
+    /// Keeps that a REFRESH of this number was sent, which asks for a lifetime in seconds. Where
+    /// memory is refused, nothing changes.
     pub fn await_refresh(&mut self, number: TransactionId, lifetime: u32) -> Result<(), NoMemory>
         ensures ok { OnOk result (self.new
             ≡ refreshing (record { number = number; lifetime = lifetime }) self.old) }
@@ -217,8 +232,8 @@ impl Allocation {
         is_any_refresh(self.pending_refreshes.as_slice(), number)
     }
 
-    /// Whether it is kept at a moment, where the transaction of this number has ended: its time isn't
-    /// over; or its end was found before, and a REFRESH may still be answered.
+    /// Whether it is kept at a moment, where the transaction of this number has ended: its time
+    /// isn't over; or its end was found before, and a REFRESH may still be answered.
     #[tactic(auto, unfolding(crate::specs::Polling::stays))]
     pub(crate) fn stays(&self, ended: &Option<TransactionId>, now: Instant) -> bool
         ensures { result ≡ stays ended.now now self.now }
@@ -270,7 +285,8 @@ impl Allocation {
     }
 }
 
-/// How long before its end an allocation is renewed, in nanoseconds, by its first lifetime in seconds.
+/// How long before its end an allocation is renewed, in nanoseconds, by its first lifetime in
+/// seconds.
 fn ahead(lifetime: u32) -> u64
     ensures { result ≡ ahead lifetime }
 {

@@ -2,7 +2,11 @@
 
 ghost use Rattle.std.specs.Prelude.{◌≡◌};
 ghost use Rattle.std.specs.List.{list_any};
-ghost use Rattle.turn_client_proto_allocation.specs.Awaited.{asks_for_channel, has_number, renews_channel};
+ghost use Rattle.turn_client_proto_allocation.specs.Awaited.{
+  asks_for_channel,
+  has_number,
+  renews_channel,
+};
 
 use crate::numbers::has_number;
 use std::net::SocketAddr;
@@ -34,8 +38,8 @@ pub struct PendingChannel {
     pub numbers: ListOf<TransactionId>,
 }
 
-/// A channel that has lapsed. For a while neither its number nor its peer is taken for another channel
-/// (RFC 8656, section 12).
+/// A channel that has lapsed. For a while neither its number nor its peer is taken for another
+/// channel (RFC 8656, section 12).
 #[derive(Clone, Copy, Debug)]
 pub struct LapsedChannel {
     /// The number of the channel.

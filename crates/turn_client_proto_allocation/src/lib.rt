@@ -1,6 +1,6 @@
-//! What a TURN client keeps of its allocations (RFC 8656, sections 5 to 12; RFC 6062, section 4): the
-//! relayed address, what stands on it, what was asked for and is not answered, and when it has to be
-//! renewed.
+//! What a TURN client keeps of its allocations (RFC 8656, sections 5 to 12; RFC 6062, section 4):
+//! the relayed address, what stands on it, what was asked for and is not answered, and when it has
+//! to be renewed.
 #![tactic(auto)]
 
 pub mod allocation;

@@ -1,17 +1,40 @@
 //! The allocations of a client.
 
-ghost use Rattle.std.specs.Prelude.{◌≡◌, ◌<◌, ◌++◌, ◌∷◌, [], List, OnOk, OnErr, IfSome, MatchOption, None, Some, length, map, position, slice_get, slice_set, is_some};
+ghost use Rattle.std.specs.Prelude.{
+  ◌≡◌,
+  ◌<◌,
+  ◌++◌,
+  ◌∷◌,
+  [],
+  List,
+  OnOk,
+  OnErr,
+  None,
+  Some,
+  map,
+  position,
+};
 ghost use Rattle.std.specs.Borrow.{sem};
 ghost use Rattle.std.specs.List.{list_any};
 ghost use Rattle.stun_proto.specs.Least.{IsLeastOf};
-ghost use Rattle.turn_client_proto_allocation.specs.Awaited.{is_refresh};
-ghost use Rattle.turn_client_proto_allocation.specs.Changes.{change_first};
 ghost use Rattle.turn_client_proto_allocation.specs.Lending.{LendsAllocations};
-ghost use Rattle.turn_client_proto_allocation.specs.Listed.{awaits_refresh, is_any_awaited, refresh_asked, refreshed_again};
+ghost use Rattle.turn_client_proto_allocation.specs.Listed.{
+  awaits_refresh,
+  is_any_awaited,
+  refresh_asked,
+  refreshed_again,
+};
 ghost use Rattle.turn_client_proto_allocation.specs.Polling.{earlier, kept, nexts, polled};
 ghost use Rattle.turn_client_proto_allocation.specs.declared.allocation.Allocation.{Allocation};
-ghost use Rattle.turn_client_proto_allocation.specs.declared.refresh.PendingRefresh.{PendingRefresh};
-ghost use Rattle.turn_client_proto_allocation.specs.Refreshing.{ended, ends_by, refreshing, renewed};
+ghost use Rattle.turn_client_proto_allocation.specs.declared.refresh.PendingRefresh.{
+  PendingRefresh,
+};
+ghost use Rattle.turn_client_proto_allocation.specs.Refreshing.{
+  ended,
+  ends_by,
+  refreshing,
+  renewed,
+};
 
 use crate::allocation::Allocation;
 use crate::refresh::PendingRefresh;
@@ -82,18 +105,23 @@ impl Allocations {
     pub fn is_any_awaited(&self, number: TransactionId) -> bool
         ensures { result ≡ is_any_awaited number self.now }
     {
-        is_any_awaited(self.items.as_slice(), number)
+        self.items.iter().any(|a| a.is_awaited(number))
     }
 
-    /// The lifetime in seconds that the REFRESH of this number asks for, where one of them awaits it.
+    /// The lifetime in seconds that the REFRESH of this number asks for, where one of them awaits
+    /// it.
+    #[tactic(auto, using(crate::proofs::Changes::first_by_place))]
     pub fn refresh_asked(&self, number: TransactionId) -> Option<u32>
         ensures { result ≡ refresh_asked number self.now }
     {
-        refresh_asked(self.items.as_slice(), number)
+        let allocations = self.items.as_slice();
+        let place = place_awaiting(allocations, number)?;
+        allocations[place].lifetime_asked(number)
     }
 
-    /// The first one that awaits the REFRESH of this number awaits another one, too. Where memory is
-    /// refused, nothing changes.
+    /// The first one that awaits the REFRESH of this number awaits another one, too. Where memory
+    /// is refused, nothing changes.
+    #[tactic(auto, using(crate::proofs::Changes::first_by_place))]
     pub fn refresh_again(
         &mut self,
         number: TransactionId,
@@ -102,7 +130,10 @@ impl Allocations {
         ensures ok { OnOk result (self.new ≡ refreshed_again number refresh.now self.old) }
         ensures err { OnErr result (self.new ≡ self.old) }
     {
-        refresh_again(self.items.as_mut_slice(), number, refresh)
+        let Some(place) = place_awaiting(self.items.as_slice(), number) else {
+            return Ok(());
+        };
+        self.items[place].await_refresh(refresh.number, refresh.lifetime)
     }
 
     /// Each of them awaits a REFRESH. Where memory is refused, nothing changes.
@@ -125,14 +156,16 @@ impl Allocations {
     pub fn end(&mut self, now: Instant)
         ensures { self.new ≡ map (ended now) self.old }
     {
-        end_each(self.items.as_mut_slice(), now);
+        for allocation in self.items.iter_mut() {
+            allocation.end(now);
+        }
     }
 
     /// Whether the end of one of them was asked for by the request of this number.
     pub fn ends_any(&self, number: TransactionId) -> bool
         ensures { result ≡ list_any (ends_by number) self.now }
     {
-        ends_any(self.items.as_slice(), number)
+        self.items.iter().any(|a| a.ends_by(number))
     }
 
     /// A success response to the REFRESH of this number came, and tells this lifetime, in seconds
@@ -140,12 +173,14 @@ impl Allocations {
     pub fn renew(&mut self, number: TransactionId, lifetime: Option<u32>, now: Instant)
         ensures { self.new ≡ map (renewed number now lifetime) self.old }
     {
-        renew_each(self.items.as_mut_slice(), number, lifetime, now);
+        for allocation in self.items.iter_mut() {
+            allocation.renew(number, lifetime, now);
+        }
     }
 
     /// Time has come to a moment, and the transaction of this number has ended: those whose time is
-    /// over go, and of the others a REFRESH that ended is forgotten. The answer is the earliest of a
-    /// wait and of the moments at which one of them has something to do.
+    /// over go, and of the others a REFRESH that ended is forgotten. The answer is the earliest of
+    /// a wait and of the moments at which one of them has something to do.
     pub fn poll(
         &mut self,
         ended: &Option<TransactionId>,
@@ -157,25 +192,13 @@ impl Allocations {
         ensures wait { IsLeastOf wait
             (nexts ended.now ready now (kept ended.now now self.old)) result }
     {
-        drop_ended(&mut self.items, ended, now);
+        self.items.retain(|a| a.stays(ended, now));
         let next = earliest(self.items.as_slice(), ended, ready, now, wait);
-        poll_each(self.items.as_mut_slice(), ended);
+        for allocation in self.items.iter_mut() {
+            allocation.poll(ended);
+        }
         next
     }
-}
-
-/// Whether one of the allocations awaits the response to a request of this number.
-fn is_any_awaited(allocations: &[Allocation], number: TransactionId) -> bool
-    ensures { result ≡ is_any_awaited number allocations.now }
-{
-    allocations.iter().any(|a| a.is_awaited(number))
-}
-
-/// Whether the end of one of the allocations was asked for by the request of this number.
-fn ends_any(allocations: &[Allocation], number: TransactionId) -> bool
-    ensures { result ≡ list_any (ends_by number) allocations.now }
-{
-    allocations.iter().any(|a| a.ends_by(number))
 }
 
 /// The place of the first allocation that awaits the REFRESH of this number.
@@ -183,45 +206,6 @@ fn place_awaiting(allocations: &[Allocation], number: TransactionId) -> Option<u
     ensures { result ≡ position (awaits_refresh number) allocations.now }
 {
     allocations.iter().position(|a| a.awaits_refresh(number))
-}
-
-/// The lifetime that the REFRESH of this number asks for, of the first allocation that awaits it.
-#[tactic(auto, using(crate::proofs::Changes::find_is))]
-fn refresh_asked(allocations: &[Allocation], number: TransactionId) -> Option<u32>
-    ensures { result ≡ refresh_asked number allocations.now }
-{
-    let place = place_awaiting(allocations, number)?;
-    allocations[place].lifetime_asked(number)
-}
-
-/// The allocation at a place awaits a REFRESH. Where memory is refused, nothing changes.
-fn await_at(
-    allocations: &mut [Allocation],
-    place: usize,
-    refresh: &PendingRefresh,
-) -> Result<(), NoMemory>
-    requires { place < length allocations.old }
-    ensures ok { OnOk result (IfSome (slice_get allocations.old place)
-        (λ a. allocations.new ≡ slice_set allocations.old place (refreshing refresh.now a))) }
-    ensures err { OnErr result (allocations.new ≡ allocations.old) }
-{
-    allocations[place].await_refresh(refresh.number, refresh.lifetime)
-}
-
-/// The first allocation that awaits the REFRESH of this number awaits another one, too.
-#[tactic(auto, using(crate::proofs::Changes::change_first_at, crate::proofs::Changes::change_first_none))]
-fn refresh_again(
-    allocations: &mut [Allocation],
-    number: TransactionId,
-    refresh: &PendingRefresh,
-) -> Result<(), NoMemory>
-    ensures ok { OnOk result (allocations.new ≡ refreshed_again number refresh.now allocations.old) }
-    ensures err { OnErr result (allocations.new ≡ allocations.old) }
-{
-    let Some(place) = place_awaiting(allocations, number) else {
-        return Ok(());
-    };
-    await_at(allocations, place, refresh)
 }
 
 /// Each allocation awaits a REFRESH. Where memory is refused, nothing changes.
@@ -252,45 +236,6 @@ fn forget_each(allocations: &mut [Allocation])
     };
     first.forget_refresh();
     forget_each(others);
-}
-
-/// Each allocation ends at a moment, and nothing stands on it any more.
-fn end_each(allocations: &mut [Allocation], now: Instant)
-    ensures { allocations.new ≡ map (ended now) allocations.old }
-{
-    for allocation in allocations.iter_mut() {
-        allocation.end(now);
-    }
-}
-
-/// A success response to the REFRESH of this number came.
-fn renew_each(
-    allocations: &mut [Allocation],
-    number: TransactionId,
-    lifetime: Option<u32>,
-    now: Instant,
-)
-    ensures { allocations.new ≡ map (renewed number now lifetime) allocations.old }
-{
-    for allocation in allocations.iter_mut() {
-        allocation.renew(number, lifetime, now);
-    }
-}
-
-/// Of each allocation a REFRESH that ended is forgotten.
-fn poll_each(allocations: &mut [Allocation], ended: &Option<TransactionId>)
-    ensures { allocations.new ≡ map (polled ended.now) allocations.old }
-{
-    for allocation in allocations.iter_mut() {
-        allocation.poll(ended);
-    }
-}
-
-/// Drops the allocations whose time is over.
-fn drop_ended(allocations: &mut Vec<Allocation>, ended: &Option<TransactionId>, now: Instant)
-    ensures { allocations.new.items ≡ kept ended.now now allocations.old.items }
-{
-    allocations.retain(|a| a.stays(ended, now));
 }
 
 /// The earliest of a wait and of the moments at which one of the allocations has something to do.

@@ -1,9 +1,23 @@
 //! Permissions (RFC 8656, section 9).
 
-ghost use Rattle.std.specs.Prelude.{◌≡◌, [], ◌∷◌, ◌++◌, IfOk, OnOk, OnErr};
+ghost use Rattle.std.specs.Prelude.{◌≡◌, [], ◌∷◌, IfOk, OnOk, OnErr};
 ghost use Rattle.std.specs.List.{list_any};
-ghost use Rattle.turn_client_proto_allocation.specs.Awaited.{asks_for_permission, has_number, renews_permission};
-ghost use Rattle.turn_client_proto_allocation.specs.Permissions.{awaiting, has_lapsed, is_over, next_of_permission, permission_renewal, polled_permission, renewed_permission, wants_renewal, with_number};
+ghost use Rattle.turn_client_proto_allocation.specs.Awaited.{
+  asks_for_permission,
+  has_number,
+  renews_permission,
+};
+ghost use Rattle.turn_client_proto_allocation.specs.Permissions.{
+  awaiting,
+  has_lapsed,
+  is_over,
+  next_of_permission,
+  permission_renewal,
+  polled_permission,
+  renewed_permission,
+  wants_renewal,
+  with_number,
+};
 
 use crate::numbers::{has_number, is_among};
 use std::alloc::Global;
@@ -41,8 +55,8 @@ impl Permission {
         Instant::from_nanos(self.expiry.as_nanos().saturating_sub(RENEWED_BEFORE))
     }
 
-    /// Whether it is to be renewed at a moment: it stands, no request is to renew it, and its time has
-    /// come.
+    /// Whether it is to be renewed at a moment: it stands, no request is to renew it, and its time
+    /// has come.
     pub fn wants_renewal(&self, now: Instant) -> bool
         ensures { result ≡ wants_renewal now self.now }
     {
@@ -56,8 +70,8 @@ impl Permission {
         self.expiry <= now
     }
 
-    /// The moment at which it has something to do, where the transaction of a number has ended, and a
-    /// request is ready to go out at another moment: it lapses, or it is renewed in its time.
+    /// The moment at which it has something to do, where the transaction of a number has ended, and
+    /// a request is ready to go out at another moment: it lapses, or it is renewed in its time.
     #[tactic(auto, unfolding(crate::specs::Permissions::next_of_permission))]
     pub fn next(&self, ended: &Option<TransactionId>, ready: Instant, now: Instant) -> Instant
         ensures { result ≡ next_of_permission ended.now ready now self.now }
@@ -73,7 +87,8 @@ impl Permission {
         }
     }
 
-    /// Where the transaction that ended is that of a request which was to renew it, none is any more.
+    /// Where the transaction that ended is that of a request which was to renew it, none is any
+    /// more.
     #[tactic(auto, unfolding(crate::specs::Permissions::polled_permission))]
     pub(crate) fn poll(&mut self, ended: &Option<TransactionId>)
         ensures { self.new ≡ polled_permission ended.now self.old }
@@ -83,8 +98,8 @@ impl Permission {
         }
     }
 
-    /// The request of this number was granted. Where it was to renew the permission, that stands until
-    /// this moment, and no request is to renew it any more.
+    /// The request of this number was granted. Where it was to renew the permission, that stands
+    /// until this moment, and no request is to renew it any more.
     #[tactic(auto, unfolding(crate::specs::Permissions::renewed_permission))]
     pub(crate) fn renew(&mut self, number: TransactionId, expiry: Instant)
         ensures { self.new ≡ renewed_permission number expiry self.old }
@@ -114,8 +129,8 @@ pub struct PendingPermission {
 }
 
 impl PendingPermission {
-    /// A permission for an address that the request of this number asks for. Where memory is refused,
-    /// `NoMemory`.
+    /// A permission for an address that the request of this number asks for. Where memory is
+    /// refused, `NoMemory`.
     pub fn new(
         alloc: Global,
         ip: IpAddr,

@@ -1,9 +1,24 @@
 //! The permissions of an allocation, as lists (RFC 8656, sections 9 and 10).
 
-ghost use Rattle.std.specs.Prelude.{◌≡◌, ◌<◌, ◌++◌, ◌∷◌, [], List, OnOk, OnErr, IfSome, length, map, position, slice_get, slice_set};
-ghost use Rattle.turn_client_proto_allocation.specs.Awaited.{asks_for_permission, renews_permission};
-ghost use Rattle.turn_client_proto_allocation.specs.Permissions.{asked_again, awaiting, not_asked_by, not_over, not_renewed_by, polled_permission, polled_permissions, renewed_again, renewed_first, renewed_permission, standing, wants_renewal, with_number};
-ghost use Rattle.turn_client_proto_allocation.specs.declared.permission.PendingPermission.{PendingPermission};
+ghost use Rattle.std.specs.Prelude.{◌≡◌, ◌<◌, ◌++◌, ◌∷◌, [], List, OnOk, OnErr, map, position};
+ghost use Rattle.turn_client_proto_allocation.specs.Awaited.{
+  asks_for_permission,
+  renews_permission,
+};
+ghost use Rattle.turn_client_proto_allocation.specs.Permissions.{
+  asked_again,
+  not_asked_by,
+  not_over,
+  not_renewed_by,
+  polled_permissions,
+  renewed_again,
+  renewed_first,
+  renewed_permission,
+  wants_renewal,
+};
+ghost use Rattle.turn_client_proto_allocation.specs.declared.permission.PendingPermission.{
+  PendingPermission,
+};
 
 use crate::permission::{PendingPermission, Permission};
 use std::alloc::Global;
@@ -65,41 +80,53 @@ impl Permissions {
     pub fn renew(&mut self, number: TransactionId, expiry: Instant)
         ensures { self.new ≡ map (renewed_permission number expiry) self.old }
     {
-        renew_each(self.items.as_mut_slice(), number, expiry);
+        for permission in self.items.iter_mut() {
+            permission.renew(number, expiry);
+        }
     }
 
     /// The request of this number was refused: those that it was to renew go.
     pub fn refuse(&mut self, number: TransactionId)
         ensures { self.new ≡ not_renewed_by number self.old }
     {
-        drop_renewed(&mut self.items, number);
+        self.items.retain(|p| !p.is_renewed_by(number));
     }
 
-    /// Time has come to a moment, and the transaction of this number has ended: those that have lapsed
-    /// go, and those that it was to renew may be renewed again.
+    /// Time has come to a moment, and the transaction of this number has ended: those that have
+    /// lapsed go, and those that it was to renew may be renewed again.
     pub fn poll(&mut self, ended: &Option<TransactionId>, now: Instant)
         ensures { self.new ≡ polled_permissions ended.now now self.old }
     {
-        drop_lapsed(&mut self.items, now);
-        poll_each(self.items.as_mut_slice(), ended);
+        self.items.retain(|p| !p.has_lapsed(now));
+        for permission in self.items.iter_mut() {
+            permission.poll(ended);
+        }
     }
 
-    /// The first one that the request of this number is to renew is to be renewed by another one, too.
-    /// Where memory is refused, nothing changes.
+    /// The first one that the request of this number is to renew is to be renewed by another one,
+    /// too. Where memory is refused, nothing changes.
+    #[tactic(auto, using(crate::proofs::Changes::first_by_place))]
     pub fn renew_again(&mut self, old: TransactionId, number: TransactionId) -> Result<(), NoMemory>
         ensures ok { OnOk result (self.new ≡ renewed_again old number self.old) }
         ensures err { OnErr result (self.new ≡ self.old) }
     {
-        renew_again(self.items.as_mut_slice(), old, number)
+        let Some(place) = place_renewed(self.items.as_slice(), old) else {
+            return Ok(());
+        };
+        self.items[place].await_renewal(number)
     }
 
-    /// The first one that is to be renewed at a moment is to be so by the request of this number. Where
-    /// memory is refused, nothing changes.
+    /// The first one that is to be renewed at a moment is to be so by the request of this number.
+    /// Where memory is refused, nothing changes.
+    #[tactic(auto, using(crate::proofs::Changes::first_by_place))]
     pub fn renew_first(&mut self, now: Instant, number: TransactionId) -> Result<(), NoMemory>
         ensures ok { OnOk result (self.new ≡ renewed_first now number self.old) }
         ensures err { OnErr result (self.new ≡ self.old) }
     {
-        renew_first(self.items.as_mut_slice(), now, number)
+        let Some(place) = place_wanting(self.items.as_slice(), now) else {
+            return Ok(());
+        };
+        self.items[place].await_renewal(number)
     }
 }
 
@@ -112,7 +139,9 @@ pub struct PendingPermissions {
 
 impl Model for PendingPermissions {
     ghost use Rattle.std.specs.Prelude.{List};
-    ghost use Rattle.turn_client_proto_allocation.specs.declared.permission.PendingPermission.{PendingPermission};
+    ghost use Rattle.turn_client_proto_allocation.specs.declared.permission.PendingPermission.{
+      PendingPermission,
+    };
 
     ghost Value = { List PendingPermission };
 
@@ -157,85 +186,28 @@ impl PendingPermissions {
     pub fn forget(&mut self, number: TransactionId)
         ensures { self.new ≡ not_asked_by number self.old }
     {
-        drop_asked(&mut self.items, number);
+        self.items.retain(|p| !p.is_asked_by(number));
     }
 
     /// The transaction of this number has ended: those that its request asks for go.
     pub fn poll(&mut self, ended: &Option<TransactionId>)
         ensures { self.new ≡ not_over ended.now self.old }
     {
-        drop_over(&mut self.items, ended);
+        self.items.retain(|p| !p.is_over(ended));
     }
 
-    /// The first one that the request of this number asks for is asked for by another one, too. Where
-    /// memory is refused, nothing changes.
+    /// The first one that the request of this number asks for is asked for by another one, too.
+    /// Where memory is refused, nothing changes.
+    #[tactic(auto, using(crate::proofs::Changes::first_by_place))]
     pub fn ask_again(&mut self, old: TransactionId, number: TransactionId) -> Result<(), NoMemory>
         ensures ok { OnOk result (self.new ≡ asked_again old number self.old) }
         ensures err { OnErr result (self.new ≡ self.old) }
     {
-        ask_again(self.items.as_mut_slice(), old, number)
+        let Some(place) = place_asked(self.items.as_slice(), old) else {
+            return Ok(());
+        };
+        self.items[place].ask_again(number)
     }
-}
-
-/// The request of this number was granted: those that it was to renew stand until this moment.
-fn renew_each(permissions: &mut [Permission], number: TransactionId, expiry: Instant)
-    ensures { permissions.new ≡ map (renewed_permission number expiry) permissions.old }
-{
-    for permission in permissions.iter_mut() {
-        permission.renew(number, expiry);
-    }
-}
-
-/// Those that have lapsed go.
-fn drop_lapsed(permissions: &mut Vec<Permission>, now: Instant)
-    ensures { permissions.new.items ≡ standing now permissions.old.items }
-{
-    permissions.retain(|p| !p.has_lapsed(now));
-}
-
-/// Those that the request of this number was to renew go.
-fn drop_renewed(permissions: &mut Vec<Permission>, number: TransactionId)
-    ensures { permissions.new.items ≡ not_renewed_by number permissions.old.items }
-{
-    permissions.retain(|p| !p.is_renewed_by(number));
-}
-
-/// Those that the request of this number asks for go.
-fn drop_asked(pending: &mut Vec<PendingPermission>, number: TransactionId)
-    ensures { pending.new.items ≡ not_asked_by number pending.old.items }
-{
-    pending.retain(|p| !p.is_asked_by(number));
-}
-
-/// Those that the request which ended asks for go.
-fn drop_over(pending: &mut Vec<PendingPermission>, ended: &Option<TransactionId>)
-    ensures { pending.new.items ≡ not_over ended.now pending.old.items }
-{
-    pending.retain(|p| !p.is_over(ended));
-}
-
-/// Those that the request which ended was to renew may be renewed again.
-fn poll_each(permissions: &mut [Permission], ended: &Option<TransactionId>)
-    ensures { permissions.new ≡ map (polled_permission ended.now) permissions.old }
-{
-    for permission in permissions.iter_mut() {
-        permission.poll(ended);
-    }
-}
-
-/// The permission at a place is to be renewed by the request of this number. Where memory is refused,
-/// nothing changes.
-fn await_at(
-    permissions: &mut [Permission],
-    place: usize,
-    number: TransactionId,
-) -> Result<(), NoMemory>
-    requires { place < length permissions.old }
-    ensures ok { OnOk result (IfSome (slice_get permissions.old place)
-        (λ p. permissions.new ≡ slice_set permissions.old place (awaiting number p))) }
-    ensures err { OnErr result (permissions.new ≡ permissions.old) }
-{
-    permissions[place].await_renewal(number)
 }
 
 /// The place of the first permission that the request of this number is to renew.
@@ -252,73 +224,9 @@ fn place_wanting(permissions: &[Permission], now: Instant) -> Option<usize>
     permissions.iter().position(|p| p.wants_renewal(now))
 }
 
-/// The first permission that the request of this number is to renew is to be renewed by another one,
-/// too.
-#[tactic(auto, using(crate::proofs::Changes::change_first_at, crate::proofs::Changes::change_first_none))]
-fn renew_again(
-    permissions: &mut [Permission],
-    old: TransactionId,
-    number: TransactionId,
-) -> Result<(), NoMemory>
-    ensures ok { OnOk result (permissions.new ≡ renewed_again old number permissions.old) }
-    ensures err { OnErr result (permissions.new ≡ permissions.old) }
-{
-    let Some(place) = place_renewed(permissions, old) else {
-        return Ok(());
-    };
-    await_at(permissions, place, number)
-}
-
-/// The first permission that is to be renewed at a moment is to be so by the request of this number.
-#[tactic(auto, using(crate::proofs::Changes::change_first_at, crate::proofs::Changes::change_first_none))]
-fn renew_first(
-    permissions: &mut [Permission],
-    now: Instant,
-    number: TransactionId,
-) -> Result<(), NoMemory>
-    ensures ok { OnOk result (permissions.new ≡ renewed_first now number permissions.old) }
-    ensures err { OnErr result (permissions.new ≡ permissions.old) }
-{
-    let Some(place) = place_wanting(permissions, now) else {
-        return Ok(());
-    };
-    await_at(permissions, place, number)
-}
-
-/// The permission at a place is asked for by the request of this number, too. Where memory is refused,
-/// nothing changes.
-fn ask_at(
-    pending: &mut [PendingPermission],
-    place: usize,
-    number: TransactionId,
-) -> Result<(), NoMemory>
-    requires { place < length pending.old }
-    ensures ok { OnOk result (IfSome (slice_get pending.old place)
-        (λ p. pending.new ≡ slice_set pending.old place (with_number number p))) }
-    ensures err { OnErr result (pending.new ≡ pending.old) }
-{
-    pending[place].ask_again(number)
-}
-
 /// The place of the first permission that the request of this number asks for.
 fn place_asked(pending: &[PendingPermission], number: TransactionId) -> Option<usize>
     ensures { result ≡ position (asks_for_permission number) pending.now }
 {
     pending.iter().position(|p| p.is_asked_by(number))
-}
-
-/// The first permission that the request of this number asks for is asked for by another one, too.
-#[tactic(auto, using(crate::proofs::Changes::change_first_at, crate::proofs::Changes::change_first_none))]
-fn ask_again(
-    pending: &mut [PendingPermission],
-    old: TransactionId,
-    number: TransactionId,
-) -> Result<(), NoMemory>
-    ensures ok { OnOk result (pending.new ≡ asked_again old number pending.old) }
-    ensures err { OnErr result (pending.new ≡ pending.old) }
-{
-    let Some(place) = place_asked(pending, old) else {
-        return Ok(());
-    };
-    ask_at(pending, place, number)
 }

@@ -1,8 +1,7 @@
 //! REFRESH requests that are not answered (RFC 8656, section 8).
 
-ghost use Rattle.std.specs.Prelude.{◌≡◌, ◌++◌, ◌∷◌, [], OnOk, OnErr, find};
+ghost use Rattle.std.specs.Prelude.{◌≡◌, find};
 ghost use Rattle.std.specs.List.{list_any};
-ghost use Rattle.std.specs.Option.{option_map};
 ghost use Rattle.turn_client_proto_allocation.specs.Awaited.{is_refresh};
 ghost use Rattle.turn_client_proto_allocation.specs.Refreshing.{lifetime_asked};
 

@@ -1,7 +1,0 @@
-use Rattle.std.proofs.Common.{◌≡◌, ◌++◌, map, take, drop}
-use Rattle.turn_client_proto_allocation.specs.Refreshing.{ended}
-use Rattle.turn_client_proto_allocation.proofs.listed.end_each.Given as goal
-
--- those so far are changed, and the others are as they were
-abbrev pub invariant-loop-allocation : goal.invariant-loop-allocation
-invariant-loop-allocation l = l.allocations ≡ map (ended l.now) (take l.allocation-index l.fn.allocations) ++ drop l.allocation-index l.fn.allocations

@@ -1,9 +1,0 @@
-use Rattle.std.proofs.Common.{sym, ◌∙◌}
-use Rattle.turn_client_proto_allocation.specs.Listed.{awaits_refresh}
-use Rattle.turn_client_proto_allocation.specs.Refreshing.{refreshing}
-use Rattle.turn_client_proto_allocation.proofs.Changes.{changed_at, on_ok}
-use Rattle.turn_client_proto_allocation.proofs.listed.refresh_again.Goals as goal
-
-pub returns-clause-ok : goal.returns-clause-ok
-returns-clause-ok c =
-    on_ok c.await_at.result (changed_at (awaits_refresh c.args.number) (refreshing c.args.refresh.now) c.args.allocations.now c.await_at.new.allocations c.in-Some.place (sym c.place_awaiting.ensures ∙ c.in-Some.is)) c.await_at.ensures.ok
