@@ -2,7 +2,6 @@
 
 ghost use Rattle.std.specs.Prelude.{
   ◌≡◌,
-  ◌<◌,
   ◌++◌,
   ◌∷◌,
   [],

@@ -1,6 +1,6 @@
 //! The permissions of an allocation, as lists (RFC 8656, sections 9 and 10).
 
-ghost use Rattle.std.specs.Prelude.{◌≡◌, ◌<◌, ◌++◌, ◌∷◌, [], List, OnOk, OnErr, map, position};
+ghost use Rattle.std.specs.Prelude.{◌≡◌, ◌++◌, ◌∷◌, [], List, OnOk, OnErr, map, position};
 ghost use Rattle.turn_client_proto_allocation.specs.Awaited.{
   asks_for_permission,
   renews_permission,
