@@ -1,3 +1,4 @@
 pub mod Earliest
 pub mod Fronts
+pub mod Lent
 pub mod Undoing

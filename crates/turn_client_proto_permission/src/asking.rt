@@ -1,10 +1,36 @@
 //! Permissions that are asked for (RFC 8656, section 10.1).
 
-ghost use Rattle.std.specs.Prelude.{◌≡◌, ◌<◌, ◌++◌, ◌∷◌, [], List, OnOk, OnErr, IfSome, length, position, slice_get, slice_set};
+ghost use Rattle.std.specs.Prelude.{
+  ◌≡◌,
+  ◌<◌,
+  List,
+  OnOk,
+  OnErr,
+  IfSome,
+  length,
+  position,
+  slice_get,
+  slice_set,
+};
 ghost use Rattle.std.specs.List.{list_any};
-ghost use Rattle.turn_client_proto_allocation.specs.declared.allocation.Allocation.{Allocation as Kept};
-ghost use Rattle.turn_client_proto_allocation.specs.declared.permission.PendingPermission.{PendingPermission as Pending};
-ghost use Rattle.turn_client_proto_permission.specs.Asking.{all_asked_again, all_renewed_again, asking, asking_again, has_asked, has_renewed, is_of, marked, peer_asked, peer_renewed, permits_over, renewing_again};
+ghost use Rattle.turn_client_proto_allocation.specs.declared.allocation.Allocation.{
+  Allocation as Kept,
+};
+ghost use Rattle.turn_client_proto_allocation.specs.declared.permission.PendingPermission.{
+  PendingPermission as Pending,
+};
+ghost use Rattle.turn_client_proto_permission.specs.Asking.{
+  all_asked_again,
+  all_renewed_again,
+  asking,
+  has_asked,
+  has_renewed,
+  is_of,
+  marked,
+  peer_asked,
+  peer_renewed,
+  permits_over,
+};
 
 use crate::one::{self, has_asked, has_renewed, is_of, permits_over};
 use std::net::IpAddr;
@@ -25,21 +51,12 @@ pub fn place_of(
     allocations.iter().position(|a| is_of(a, transport, family))
 }
 
-/// Whether a permission for an address stands in one of the allocations of this transport that are not
-/// marked as expired.
+/// Whether a permission for an address stands in one of the allocations of this transport that are
+/// not marked as expired.
 pub fn permits_any(allocations: &[Allocation], transport: TransportType, ip: IpAddr) -> bool
     ensures { result ≡ list_any (permits_over transport ip) allocations.now }
 {
     allocations.iter().any(|a| permits_over(a, transport, ip))
-}
-
-/// The allocation at a place is marked as expired.
-fn mark(allocations: &mut [Allocation], place: usize)
-    requires { place < length allocations.old }
-    ensures { IfSome (slice_get allocations.old place)
-        (λ a. allocations.new ≡ slice_set allocations.old place (marked a)) }
-{
-    allocations[place].is_expired = true;
 }
 
 /// The allocation at a place is marked as expired.
@@ -48,24 +65,12 @@ pub fn mark_at(allocations: &mut Allocations, place: usize)
     ensures { IfSome (slice_get allocations.old place)
         (λ a. allocations.new ≡ slice_set allocations.old place (marked a)) }
 {
-    mark(allocations.as_mut_slice(), place);
+    let items = allocations.as_mut_slice();
+    items[place].is_expired = true;
 }
 
-/// A permission is asked for in the allocation at a place. Where memory is refused, nothing changes.
-fn ask(
-    allocations: &mut [Allocation],
-    place: usize,
-    pending: PendingPermission,
-) -> Result<(), NoMemory>
-    requires { place < length allocations.old }
-    ensures ok { OnOk result (IfSome (slice_get allocations.old place)
-        (λ a. allocations.new ≡ slice_set allocations.old place (asking pending a))) }
-    ensures err { OnErr result (allocations.new ≡ allocations.old) }
-{
-    allocations[place].pending_permissions.push(pending)
-}
-
-/// A permission is asked for in the allocation at a place. Where memory is refused, nothing changes.
+/// A permission is asked for in the allocation at a place. Where memory is refused, nothing
+/// changes.
 pub fn ask_at(
     allocations: &mut Allocations,
     place: usize,
@@ -76,18 +81,8 @@ pub fn ask_at(
         (λ a. allocations.new ≡ slice_set allocations.old place (asking pending a))) }
     ensures err { OnErr result (allocations.new ≡ allocations.old) }
 {
-    ask(allocations.as_mut_slice(), place, pending)
-}
-
-/// The allocation at a place forgets the permission that was asked for last.
-fn forget(allocations: &mut [Allocation], place: usize)
-    requires { place < length allocations.old }
-    ensures length { length allocations.new ≡ length allocations.old }
-    ensures undone { (before : List Kept) (a : Kept) (pending : Pending)
-        → slice_get before place ≡ Some a
-        → allocations.old ≡ slice_set before place (asking pending a) → allocations.new ≡ before }
-{
-    one::forget(&mut allocations[place]);
+    let items = allocations.as_mut_slice();
+    items[place].pending_permissions.push(pending)
 }
 
 /// The allocation at a place forgets the permission that was asked for last.
@@ -97,7 +92,8 @@ pub fn forget_at(allocations: &mut Allocations, place: usize)
         → slice_get before place ≡ Some a
         → allocations.old ≡ slice_set before place (asking pending a) → allocations.new ≡ before }
 {
-    forget(allocations.as_mut_slice(), place);
+    let items = allocations.as_mut_slice();
+    one::forget(&mut items[place]);
 }
 
 /// The place of the first allocation in which the request of this number asks for a permission.
@@ -115,7 +111,7 @@ fn place_renewed(allocations: &[Allocation], number: TransactionId) -> Option<us
 }
 
 /// The transport and the address of the first permission that the request of this number asks for.
-#[tactic(auto, using(turn_client_proto_allocation::proofs::Changes::find_is))]
+#[tactic(auto, using(turn_client_proto_allocation::proofs::Changes::first_by_place))]
 pub fn peer_asked(
     allocations: &[Allocation],
     number: TransactionId,
@@ -126,8 +122,9 @@ pub fn peer_asked(
     one::peer_asked(&allocations[place], number)
 }
 
-/// The transport and the address of the first permission that the request of this number is to renew.
-#[tactic(auto, using(turn_client_proto_allocation::proofs::Changes::find_is))]
+/// The transport and the address of the first permission that the request of this number is to
+/// renew.
+#[tactic(auto, using(turn_client_proto_allocation::proofs::Changes::first_by_place))]
 pub fn peer_renewed(
     allocations: &[Allocation],
     number: TransactionId,
@@ -138,27 +135,9 @@ pub fn peer_renewed(
     one::peer_renewed(&allocations[place], number)
 }
 
-/// In the allocation at a place, the first permission that a request asks for is asked for by another
-/// one, too. Where memory is refused, nothing changes.
-fn ask_again_at(
-    allocations: &mut [Allocation],
-    place: usize,
-    old: TransactionId,
-    number: TransactionId,
-) -> Result<(), NoMemory>
-    requires { place < length allocations.old }
-    ensures ok { OnOk result (IfSome (slice_get allocations.old place)
-        (λ a. allocations.new ≡ slice_set allocations.old place (asking_again old number a))) }
-    ensures err { OnErr result (allocations.new ≡ allocations.old) }
-{
-    allocations[place]
-        .pending_permissions
-        .ask_again(old, number)
-}
-
 /// The first permission that a request asks for is asked for by another one, too. Where memory is
 /// refused, nothing changes.
-#[tactic(auto, using(turn_client_proto_allocation::proofs::Changes::change_first_at, turn_client_proto_allocation::proofs::Changes::change_first_none))]
+#[tactic(auto, using(turn_client_proto_allocation::proofs::Changes::first_by_place))]
 pub fn ask_again(
     allocations: &mut [Allocation],
     old: TransactionId,
@@ -170,28 +149,14 @@ pub fn ask_again(
     let Some(place) = place_asked(allocations, old) else {
         return Ok(());
     };
-    ask_again_at(allocations, place, old, number)
+    allocations[place]
+        .pending_permissions
+        .ask_again(old, number)
 }
 
-/// In the allocation at a place, the first permission that a request is to renew is to be renewed by
-/// another one, too. Where memory is refused, nothing changes.
-fn renew_again_at(
-    allocations: &mut [Allocation],
-    place: usize,
-    old: TransactionId,
-    number: TransactionId,
-) -> Result<(), NoMemory>
-    requires { place < length allocations.old }
-    ensures ok { OnOk result (IfSome (slice_get allocations.old place)
-        (λ a. allocations.new ≡ slice_set allocations.old place (renewing_again old number a))) }
-    ensures err { OnErr result (allocations.new ≡ allocations.old) }
-{
-    allocations[place].permissions.renew_again(old, number)
-}
-
-/// The first permission that a request is to renew is to be renewed by another one, too. Where memory is
-/// refused, nothing changes.
-#[tactic(auto, using(turn_client_proto_allocation::proofs::Changes::change_first_at, turn_client_proto_allocation::proofs::Changes::change_first_none))]
+/// The first permission that a request is to renew is to be renewed by another one, too. Where
+/// memory is refused, nothing changes.
+#[tactic(auto, using(turn_client_proto_allocation::proofs::Changes::first_by_place))]
 pub fn renew_again(
     allocations: &mut [Allocation],
     old: TransactionId,
@@ -203,5 +168,5 @@ pub fn renew_again(
     let Some(place) = place_renewed(allocations, old) else {
         return Ok(());
     };
-    renew_again_at(allocations, place, old, number)
+    allocations[place].permissions.renew_again(old, number)
 }

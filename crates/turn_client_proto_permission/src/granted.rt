@@ -1,7 +1,7 @@
 //! What the response to a CREATE_PERMISSION makes of permissions (RFC 8656, section 10.3).
 
-ghost use Rattle.std.specs.Prelude.{◌≡◌, ◌<◌, OnOk, OnErr, IfSome, length, map, slice_get, slice_set};
-ghost use Rattle.turn_client_proto_permission.specs.Granted.{all_permitted, permitted, renewed, turned_down};
+ghost use Rattle.std.specs.Prelude.{◌≡◌, ◌<◌, OnOk, OnErr, map};
+ghost use Rattle.turn_client_proto_permission.specs.Granted.{all_permitted, renewed, turned_down};
 
 use crate::asking::place_asked;
 use crate::one;
@@ -11,26 +11,9 @@ use stun_types::message::TransactionId;
 use turn_client_proto_allocation::allocation::Allocation;
 use turn_client_proto_api::Instant;
 
-/// In the allocation at a place, the request of this number was granted. Where memory is refused,
-/// nothing changes.
-fn permit_at(
-    alloc: Global,
-    allocations: &mut [Allocation],
-    place: usize,
-    number: TransactionId,
-    now: Instant,
-) -> Result<(), NoMemory>
-    requires { place < length allocations.old }
-    ensures ok { OnOk result (IfSome (slice_get allocations.old place)
-        (λ a. allocations.new ≡ slice_set allocations.old place (permitted number now a))) }
-    ensures err { OnErr result (allocations.new ≡ allocations.old) }
-{
-    one::permit(alloc, &mut allocations[place], number, now)
-}
-
-/// The request of this number was granted: the first permission that it asks for stands from now on.
-/// Where memory is refused, nothing changes.
-#[tactic(auto, using(turn_client_proto_allocation::proofs::Changes::change_first_at, turn_client_proto_allocation::proofs::Changes::change_first_none))]
+/// The request of this number was granted: the first permission that it asks for stands from now
+/// on. Where memory is refused, nothing changes.
+#[tactic(auto, using(turn_client_proto_allocation::proofs::Changes::first_by_place))]
 pub fn permit(
     alloc: Global,
     allocations: &mut [Allocation],
@@ -43,7 +26,7 @@ pub fn permit(
     let Some(place) = place_asked(allocations, number) else {
         return Ok(());
     };
-    permit_at(alloc, allocations, place, number, now)
+    one::permit(alloc, &mut allocations[place], number, now)
 }
 
 /// The request of this number was granted: the permissions that it was to renew stand on.

@@ -1,6 +1,6 @@
-//! The permissions of a TURN client's allocations (RFC 8656, sections 9 and 10): what is asked for, what
-//! a response makes of it, what lapses and what is to be renewed. [`one`] has what is done to one
-//! allocation, and the other modules what is done to all of a client's.
+//! The permissions of a TURN client's allocations (RFC 8656, sections 9 and 10): what is asked for,
+//! what a response makes of it, what lapses and what is to be renewed. [`one`] has what is done to
+//! one allocation, and the other modules what is done to all of a client's.
 #![tactic(auto)]
 
 pub mod asking;

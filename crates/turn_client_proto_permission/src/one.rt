@@ -3,14 +3,38 @@
 ghost use Rattle.std.specs.Prelude.{◌≡◌, OnOk, OnErr, find};
 ghost use Rattle.std.specs.Option.{option_map};
 ghost use Rattle.turn_client_proto_allocation.specs.Permissions.{wants_renewal};
-ghost use Rattle.turn_client_proto_allocation.specs.declared.allocation.Allocation.{Allocation as Kept};
-ghost use Rattle.turn_client_proto_allocation.specs.declared.permission.PendingPermission.{PendingPermission as Pending};
-ghost use Rattle.turn_client_proto_allocation.specs.declared.permission.Permission.{Permission as Standing};
+ghost use Rattle.turn_client_proto_allocation.specs.declared.allocation.Allocation.{
+  Allocation as Kept,
+};
+ghost use Rattle.turn_client_proto_allocation.specs.declared.permission.PendingPermission.{
+  PendingPermission as Pending,
+};
+ghost use Rattle.turn_client_proto_allocation.specs.declared.permission.Permission.{
+  Permission as Standing,
+};
 ghost use Rattle.turn_client_proto_allocation.specs.Refreshing.{wants_refresh};
-ghost use Rattle.turn_client_proto_permission.specs.Asking.{address_asked, address_renewed, asking, asks_for, at_transport, has_asked, has_renewed, is_of, is_past, knows, permits, permits_over};
-ghost use Rattle.turn_client_proto_permission.specs.Granted.{granted_for, permission_end, permitted, renewed, turned_down};
+ghost use Rattle.turn_client_proto_permission.specs.Asking.{
+  address_asked,
+  address_renewed,
+  asking,
+  asks_for,
+  at_transport,
+  has_asked,
+  has_renewed,
+  is_of,
+  is_past,
+  knows,
+  permits,
+  permits_over,
+};
+ghost use Rattle.turn_client_proto_permission.specs.Granted.{
+  permission_end,
+  permitted,
+  renewed,
+  turned_down,
+};
 ghost use Rattle.turn_client_proto_permission.specs.Telling.{polled};
-ghost use Rattle.turn_client_proto_permission.specs.Wanting.{renewal_wanted, stands, want, wants};
+ghost use Rattle.turn_client_proto_permission.specs.Wanting.{renewal_wanted, want, wants};
 
 use crate::wanting::Want;
 use std::alloc::Global;
@@ -67,8 +91,8 @@ pub fn knows(a: &Allocation, ip: IpAddr) -> bool
     permits(a, ip) || asks_for(a, ip)
 }
 
-/// Whether a permission for an address stands, where the allocation is of a transport, and is not marked
-/// as expired.
+/// Whether a permission for an address stands, where the allocation is of a transport, and is not
+/// marked as expired.
 pub(crate) fn permits_over(a: &Allocation, transport: TransportType, ip: IpAddr) -> bool
     ensures { result ≡ permits_over transport ip a.now }
 {
@@ -197,7 +221,8 @@ fn first_renewal(permissions: &[Permission], now: Instant) -> Option<IpAddr>
     Some(found.ip)
 }
 
-/// The address of the first permission that is to be renewed at a moment, where the allocation stands.
+/// The address of the first permission that is to be renewed at a moment, where the allocation
+/// stands.
 #[tactic(auto, unfolding(crate::specs::Wanting::renewal_wanted))]
 fn renewal_wanted(a: &Allocation, now: Instant) -> Option<IpAddr>
     ensures { result ≡ renewal_wanted now a.now }

@@ -29,7 +29,7 @@ fn place_at(
 }
 
 /// The permissions that stand in the first allocation of this transport and relayed address.
-#[tactic(auto, using(turn_client_proto_allocation::proofs::Changes::find_is))]
+#[tactic(auto, using(turn_client_proto_allocation::proofs::Changes::first_by_place))]
 pub fn permissions_at(
     allocations: &[Allocation],
     transport: TransportType,

@@ -2,8 +2,18 @@
 
 ghost use Rattle.std.specs.Prelude.{◌≡◌, ◌++◌, OnOk, OnErr, length, map, take};
 ghost use Rattle.turn_client_proto_api.specs.Least.{IsLeastOf};
-ghost use Rattle.turn_client_proto_api.specs.declared.event.TurnEvent.TheVariants.{PermissionCreateFailed};
-ghost use Rattle.turn_client_proto_permission.specs.Telling.{addresses_lapsed, addresses_over, all_failures, all_nexts, earlier_of, failures, polled};
+ghost use Rattle.turn_client_proto_api.specs.declared.event.TurnEvent.TheVariants.{
+  PermissionCreateFailed,
+};
+ghost use Rattle.turn_client_proto_permission.specs.Telling.{
+  addresses_lapsed,
+  addresses_over,
+  all_failures,
+  all_nexts,
+  earlier_of,
+  failures,
+  polled,
+};
 
 use crate::one;
 use stun_types::message::TransactionId;
@@ -14,9 +24,9 @@ use turn_client_proto_api::Instant;
 use turn_client_proto_api::event::TurnEvent;
 use turn_client_proto_queue::queue::QueueOf;
 
-/// Tells the permissions whose request ended without a response. Where memory is refused, `NoMemory`,
-/// and the events that were there still come first.
-#[tactic(auto, using(turn_client_proto_allocation::proofs::Prefixes::front_kept, turn_client_proto_allocation::proofs::Prefixes::whole_kept))]
+/// Tells the permissions whose request ended without a response. Where memory is refused,
+/// `NoMemory`, and the events that were there still come first.
+#[tactic(auto, using(crate::proofs::Fronts::fronts))]
 fn tell_over(
     events: &mut QueueOf<TurnEvent>,
     transport: TransportType,
@@ -35,9 +45,9 @@ fn tell_over(
     Ok(())
 }
 
-/// Tells the permissions that have lapsed. Where memory is refused, `NoMemory`, and the events that were
-/// there still come first.
-#[tactic(auto, using(turn_client_proto_allocation::proofs::Prefixes::front_kept, turn_client_proto_allocation::proofs::Prefixes::whole_kept))]
+/// Tells the permissions that have lapsed. Where memory is refused, `NoMemory`, and the events that
+/// were there still come first.
+#[tactic(auto, using(crate::proofs::Fronts::fronts))]
 fn tell_lapsed(
     events: &mut QueueOf<TurnEvent>,
     transport: TransportType,
@@ -56,9 +66,9 @@ fn tell_lapsed(
     Ok(())
 }
 
-/// Tells the permissions of an allocation that go. Where memory is refused, `NoMemory`, and the events
-/// that were there still come first.
-#[tactic(auto, using(turn_client_proto_allocation::proofs::Prefixes::front_kept, turn_client_proto_allocation::proofs::Prefixes::whole_kept), unfolding(crate::specs::Telling::failures))]
+/// Tells the permissions of an allocation that go. Where memory is refused, `NoMemory`, and the
+/// events that were there still come first.
+#[tactic(auto, using(crate::proofs::Fronts::fronts), unfolding(crate::specs::Telling::failures))]
 fn tell_of(
     events: &mut QueueOf<TurnEvent>,
     a: &Allocation,
@@ -72,10 +82,10 @@ fn tell_of(
     tell_lapsed(events, a.transport, a.permissions.as_slice(), now)
 }
 
-/// Tells the permissions that go, of each allocation: those whose request ended without a response, and
-/// then those that have lapsed. Where memory is refused, `NoMemory`, and the events that were there
-/// still come first.
-#[tactic(auto, using(turn_client_proto_allocation::proofs::Prefixes::front_kept, turn_client_proto_allocation::proofs::Prefixes::whole_kept, crate::proofs::Fronts::front_of))]
+/// Tells the permissions that go, of each allocation: those whose request ended without a response,
+/// and then those that have lapsed. Where memory is refused, `NoMemory`, and the events that were
+/// there still come first.
+#[tactic(auto, using(crate::proofs::Fronts::fronts))]
 pub fn tell_failures(
     events: &mut QueueOf<TurnEvent>,
     allocations: &[Allocation],
@@ -92,8 +102,9 @@ pub fn tell_failures(
     Ok(())
 }
 
-/// Time has come to a moment, and the transaction of this number has ended: permissions that have lapsed
-/// go, and so do those whose request has ended; those that it was to renew may be renewed again.
+/// Time has come to a moment, and the transaction of this number has ended: permissions that have
+/// lapsed go, and so do those whose request has ended; those that it was to renew may be renewed
+/// again.
 pub fn poll(allocations: &mut [Allocation], ended: &Option<TransactionId>, now: Instant)
     ensures { allocations.new ≡ map (polled ended.now now) allocations.old }
 {

@@ -1,8 +1,14 @@
-//! What allocations are to be renewed, and which of their permissions (RFC 8656, sections 8.1 and 10.1).
+//! What allocations are to be renewed, and which of their permissions (RFC 8656, sections 8.1 and
+//! 10.1).
 
-ghost use Rattle.std.specs.Prelude.{◌≡◌, ◌<◌, OnOk, OnErr, IfSome, length, position, slice_get, slice_set};
-ghost use Rattle.turn_client_proto_allocation.specs.Refreshing.{refreshing};
-ghost use Rattle.turn_client_proto_permission.specs.Wanting.{refreshed_first, renewal_first, renewing, want, wanted, wants};
+ghost use Rattle.std.specs.Prelude.{◌≡◌, ◌<◌, OnOk, OnErr, position};
+ghost use Rattle.turn_client_proto_permission.specs.Wanting.{
+  refreshed_first,
+  renewal_first,
+  want,
+  wanted,
+  wants,
+};
 
 use crate::one::{want, wants};
 use std::net::IpAddr;
@@ -29,7 +35,7 @@ fn place_wanting(allocations: &[Allocation], now: Instant) -> Option<usize>
 }
 
 /// What is to be sent at a moment, for the first allocation for which something is.
-#[tactic(auto, using(turn_client_proto_allocation::proofs::Changes::find_is))]
+#[tactic(auto, using(turn_client_proto_allocation::proofs::Changes::first_by_place))]
 pub fn wanted(allocations: &[Allocation], now: Instant) -> Option<Want>
     ensures { result ≡ wanted now allocations.now }
 {
@@ -37,23 +43,9 @@ pub fn wanted(allocations: &[Allocation], now: Instant) -> Option<Want>
     want(&allocations[place], now)
 }
 
-/// The allocation at a place awaits a REFRESH. Where memory is refused, nothing changes.
-fn refresh_at(
-    allocations: &mut [Allocation],
-    place: usize,
-    refresh: &PendingRefresh,
-) -> Result<(), NoMemory>
-    requires { place < length allocations.old }
-    ensures ok { OnOk result (IfSome (slice_get allocations.old place)
-        (λ a. allocations.new ≡ slice_set allocations.old place (refreshing refresh.now a))) }
-    ensures err { OnErr result (allocations.new ≡ allocations.old) }
-{
-    allocations[place].await_refresh(refresh.number, refresh.lifetime)
-}
-
-/// The first allocation for which something is to be sent at a moment awaits a REFRESH. Where memory is
-/// refused, nothing changes.
-#[tactic(auto, using(turn_client_proto_allocation::proofs::Changes::change_first_at, turn_client_proto_allocation::proofs::Changes::change_first_none))]
+/// The first allocation for which something is to be sent at a moment awaits a REFRESH. Where
+/// memory is refused, nothing changes.
+#[tactic(auto, using(turn_client_proto_allocation::proofs::Changes::first_by_place))]
 pub fn refresh_first(
     allocations: &mut [Allocation],
     now: Instant,
@@ -66,28 +58,13 @@ pub fn refresh_first(
     let Some(place) = place_wanting(allocations, now) else {
         return Ok(());
     };
-    refresh_at(allocations, place, refresh)
+    allocations[place].await_refresh(refresh.number, refresh.lifetime)
 }
 
-/// The first permission of the allocation at a place that is to be renewed at a moment is to be so by
-/// the request of this number. Where memory is refused, nothing changes.
-fn renew_at(
-    allocations: &mut [Allocation],
-    place: usize,
-    now: Instant,
-    number: TransactionId,
-) -> Result<(), NoMemory>
-    requires { place < length allocations.old }
-    ensures ok { OnOk result (IfSome (slice_get allocations.old place)
-        (λ a. allocations.new ≡ slice_set allocations.old place (renewing now number a))) }
-    ensures err { OnErr result (allocations.new ≡ allocations.old) }
-{
-    allocations[place].permissions.renew_first(now, number)
-}
-
-/// The first permission that is to be renewed at a moment, of the first allocation for which something
-/// is to be sent, is to be so by the request of this number. Where memory is refused, nothing changes.
-#[tactic(auto, using(turn_client_proto_allocation::proofs::Changes::change_first_at, turn_client_proto_allocation::proofs::Changes::change_first_none))]
+/// The first permission that is to be renewed at a moment, of the first allocation for which
+/// something is to be sent, is to be so by the request of this number. Where memory is refused,
+/// nothing changes.
+#[tactic(auto, using(turn_client_proto_allocation::proofs::Changes::first_by_place))]
 pub fn renew_first(
     allocations: &mut [Allocation],
     now: Instant,
@@ -99,5 +76,5 @@ pub fn renew_first(
     let Some(place) = place_wanting(allocations, now) else {
         return Ok(());
     };
-    renew_at(allocations, place, now, number)
+    allocations[place].permissions.renew_first(now, number)
 }

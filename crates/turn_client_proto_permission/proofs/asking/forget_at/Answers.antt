@@ -1,13 +1,22 @@
-use Rattle.std.proofs.Common.{◌≡◌, ℕ, List, ◌++◌, ap, drop, length, take, subst, ◌∙◌}
-use Rattle.turn_client_proto_allocation.proofs.Prefixes.{front_kept}
+use Rattle.std.proofs.Common.{◌≡◌, ◌<◌, List, ap, get_or, length, slice_set, subst, ◌∙◌}
+use Rattle.std.proofs.lemmas.List.{get_or-set_same, length-set}
 use Rattle.turn_client_proto_allocation.specs.declared.allocation.Allocation.{Allocation}
+use Rattle.turn_client_proto_permission.specs.Asking.{asking}
+use Rattle.turn_client_proto_permission.proofs.Lent.{lent_back}
+use Rattle.turn_client_proto_permission.proofs.Undoing.{set_back}
 use Rattle.turn_client_proto_permission.proofs.asking.forget_at.Goals as goal
 
 pub returns : goal.returns
 returns c = λ before a pending there is.
-    let left : List Allocation = c.forget.new.allocations in
-    let lent : List Allocation = c.args.allocations.now in
-    let many = c.forget.ensures.length ∙ ap (λ (l : List Allocation). length l) c.as_mut_slice.ensures.value in
-    let back : take (length lent) (left ++ drop (length left) lent) ≡ left =
-    subst (λ (n : ℕ). take n (left ++ drop (length left) lent) ≡ left) many (front_kept left (drop (length left) lent)) in
-    back ∙ c.forget.ensures.undone before a pending there (c.as_mut_slice.ensures.value ∙ is)
+    let place = c.args.place in
+    let lent : List Allocation = c.as_mut_slice-items.result.now in
+    let left : List Allocation = slice_set lent place c.forget.new.a in
+    let found = c.index-items-place.result in
+    let was = c.as_mut_slice-items.ensures.value ∙ is in
+    let long : place < length before = subst (λ n. place < n) (ap length is ∙ length-set before place (asking pending a)) c.requires in
+    let here : get_or lent place found ≡ asking pending a =
+    ap (λ l. get_or l place found) was ∙ get_or-set_same before place (asking pending a) found long in
+    lent_back c.args.allocations.now left (length-set lent place c.forget.new.a ∙ ap (λ (l : List Allocation). length l) c.as_mut_slice-items.ensures.value)
+    ∙ ap (λ l. slice_set l place c.forget.new.a) was
+    ∙ ap (λ x. slice_set (slice_set before place (asking pending a)) place x) (c.forget.ensures a pending here)
+    ∙ set_back before place a (asking pending a) there

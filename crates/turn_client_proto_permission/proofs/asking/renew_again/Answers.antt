@@ -1,8 +1,11 @@
-use Rattle.std.proofs.Common.{sym, ◌∙◌}
-use Rattle.turn_client_proto_allocation.proofs.Changes.{changed_at, on_ok}
+use Rattle.std.proofs.Common.{ap, get_or, sym, ◌∙◌}
+use Rattle.turn_client_proto_allocation.proofs.Changes.{on_ok, put_there}
+use Rattle.turn_client_proto_allocation.specs.declared.allocation.Allocation.{Allocation}
 use Rattle.turn_client_proto_permission.specs.Asking.{has_renewed, renewing_again}
 use Rattle.turn_client_proto_permission.proofs.asking.renew_again.Goals as goal
 
 pub returns-clause-ok : goal.returns-clause-ok
 returns-clause-ok c =
-    on_ok c.renew_again_at.result (changed_at (has_renewed c.args.old) (renewing_again c.args.old c.args.number) c.args.allocations.now c.renew_again_at.new.allocations c.in-Some.place (sym c.place_renewed.ensures ∙ c.in-Some.is)) c.renew_again_at.ensures.ok
+    let x : Allocation = get_or c.args.allocations.now c.in-Some.place c.index-allocations-place.result in
+    let is_there = ap (λ y. get_or c.args.allocations.now c.in-Some.place y) c.index-allocations-place.is in
+    on_ok c.renew_again.result (λ is. put_there (has_renewed c.args.old) (renewing_again c.args.old c.args.number) c.args.allocations.now c.in-Some.place x (record x { permissions = c.renew_again.new.self }) (sym c.place_renewed.ensures ∙ c.in-Some.is) is_there (ap (λ l. record x { permissions = l }) is)) c.renew_again.ensures.ok

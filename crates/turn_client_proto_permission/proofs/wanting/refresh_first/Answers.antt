@@ -1,9 +1,12 @@
-use Rattle.std.proofs.Common.{sym, ◌∙◌}
-use Rattle.turn_client_proto_allocation.proofs.Changes.{changed_at, on_ok}
+use Rattle.std.proofs.Common.{ap, get_or, sym, ◌∙◌}
+use Rattle.turn_client_proto_allocation.proofs.Changes.{on_ok, put_there}
 use Rattle.turn_client_proto_allocation.specs.Refreshing.{refreshing}
+use Rattle.turn_client_proto_allocation.specs.declared.allocation.Allocation.{Allocation}
 use Rattle.turn_client_proto_permission.specs.Wanting.{wants}
 use Rattle.turn_client_proto_permission.proofs.wanting.refresh_first.Goals as goal
 
 pub returns-clause-ok : goal.returns-clause-ok
 returns-clause-ok c =
-    on_ok c.refresh_at.result (changed_at (wants c.args.now) (refreshing c.args.refresh.now) c.args.allocations.now c.refresh_at.new.allocations c.in-Some.place (sym c.place_wanting.ensures ∙ c.in-Some.is)) c.refresh_at.ensures.ok
+    let x : Allocation = get_or c.args.allocations.now c.in-Some.place c.index-allocations-place.result in
+    let is_there = ap (λ y. get_or c.args.allocations.now c.in-Some.place y) c.index-allocations-place.is in
+    on_ok c.await_refresh.result (λ is. put_there (wants c.args.now) (refreshing c.args.refresh.now) c.args.allocations.now c.in-Some.place x c.await_refresh.new.self (sym c.place_wanting.ensures ∙ c.in-Some.is) is_there is) c.await_refresh.ensures.ok
