@@ -5,22 +5,9 @@ ghost use Rattle.std.specs.Duration.{as_nanos};
 ghost use Rattle.turn_client_proto_allocation.specs.Awaited.{is_awaited};
 ghost use Rattle.turn_client_proto_allocation.specs.Listed.{awaits_refresh};
 ghost use Rattle.turn_client_proto_allocation.specs.declared.allocation.Allocation.{Allocation};
-ghost use Rattle.turn_client_proto_allocation.specs.declared.refresh.PendingRefresh.{
-  PendingRefresh,
-};
+ghost use Rattle.turn_client_proto_allocation.specs.declared.refresh.PendingRefresh.{PendingRefresh};
 ghost use Rattle.turn_client_proto_allocation.specs.Polling.{has_ended, next_of, polled, stays};
-ghost use Rattle.turn_client_proto_allocation.specs.Refreshing.{
-  ahead,
-  ended,
-  ends_by,
-  granted,
-  lifetime_asked,
-  refreshing,
-  renewal,
-  renewed,
-  stands_for,
-  wants_refresh,
-};
+ghost use Rattle.turn_client_proto_allocation.specs.Refreshing.{ahead, ended, ends_by, granted, lifetime_asked, refreshing, renewal, renewed, stands_for, wants_refresh};
 
 use crate::channel::{self, Channel, LapsedChannel, PendingChannel};
 use crate::connection::{

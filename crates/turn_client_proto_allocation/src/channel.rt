@@ -2,11 +2,7 @@
 
 ghost use Rattle.std.specs.Prelude.{◌≡◌};
 ghost use Rattle.std.specs.List.{list_any};
-ghost use Rattle.turn_client_proto_allocation.specs.Awaited.{
-  asks_for_channel,
-  has_number,
-  renews_channel,
-};
+ghost use Rattle.turn_client_proto_allocation.specs.Awaited.{asks_for_channel, has_number, renews_channel};
 
 use crate::numbers::has_number;
 use std::net::SocketAddr;

@@ -1,39 +1,15 @@
 //! The allocations of a client.
 
-ghost use Rattle.std.specs.Prelude.{
-  ◌≡◌,
-  ◌++◌,
-  ◌∷◌,
-  [],
-  List,
-  OnOk,
-  OnErr,
-  None,
-  Some,
-  map,
-  position,
-};
+ghost use Rattle.std.specs.Prelude.{◌≡◌, ◌++◌, ◌∷◌, [], List, OnOk, OnErr, None, Some, map, position};
 ghost use Rattle.std.specs.Borrow.{sem};
 ghost use Rattle.std.specs.List.{list_any};
 ghost use Rattle.stun_proto.specs.Least.{IsLeastOf};
 ghost use Rattle.turn_client_proto_allocation.specs.Lending.{LendsAllocations};
-ghost use Rattle.turn_client_proto_allocation.specs.Listed.{
-  awaits_refresh,
-  is_any_awaited,
-  refresh_asked,
-  refreshed_again,
-};
+ghost use Rattle.turn_client_proto_allocation.specs.Listed.{awaits_refresh, is_any_awaited, refresh_asked, refreshed_again};
 ghost use Rattle.turn_client_proto_allocation.specs.Polling.{earlier, kept, nexts, polled};
 ghost use Rattle.turn_client_proto_allocation.specs.declared.allocation.Allocation.{Allocation};
-ghost use Rattle.turn_client_proto_allocation.specs.declared.refresh.PendingRefresh.{
-  PendingRefresh,
-};
-ghost use Rattle.turn_client_proto_allocation.specs.Refreshing.{
-  ended,
-  ends_by,
-  refreshing,
-  renewed,
-};
+ghost use Rattle.turn_client_proto_allocation.specs.declared.refresh.PendingRefresh.{PendingRefresh};
+ghost use Rattle.turn_client_proto_allocation.specs.Refreshing.{ended, ends_by, refreshing, renewed};
 
 use crate::allocation::Allocation;
 use crate::refresh::PendingRefresh;

@@ -2,22 +2,8 @@
 
 ghost use Rattle.std.specs.Prelude.{◌≡◌, [], ◌∷◌, IfOk, OnOk, OnErr};
 ghost use Rattle.std.specs.List.{list_any};
-ghost use Rattle.turn_client_proto_allocation.specs.Awaited.{
-  asks_for_permission,
-  has_number,
-  renews_permission,
-};
-ghost use Rattle.turn_client_proto_allocation.specs.Permissions.{
-  awaiting,
-  has_lapsed,
-  is_over,
-  next_of_permission,
-  permission_renewal,
-  polled_permission,
-  renewed_permission,
-  wants_renewal,
-  with_number,
-};
+ghost use Rattle.turn_client_proto_allocation.specs.Awaited.{asks_for_permission, has_number, renews_permission};
+ghost use Rattle.turn_client_proto_allocation.specs.Permissions.{awaiting, has_lapsed, is_over, next_of_permission, permission_renewal, polled_permission, renewed_permission, wants_renewal, with_number};
 
 use crate::numbers::{has_number, is_among};
 use std::alloc::Global;

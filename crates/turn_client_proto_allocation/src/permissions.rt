@@ -1,24 +1,9 @@
 //! The permissions of an allocation, as lists (RFC 8656, sections 9 and 10).
 
 ghost use Rattle.std.specs.Prelude.{◌≡◌, ◌++◌, ◌∷◌, [], List, OnOk, OnErr, map, position};
-ghost use Rattle.turn_client_proto_allocation.specs.Awaited.{
-  asks_for_permission,
-  renews_permission,
-};
-ghost use Rattle.turn_client_proto_allocation.specs.Permissions.{
-  asked_again,
-  not_asked_by,
-  not_over,
-  not_renewed_by,
-  polled_permissions,
-  renewed_again,
-  renewed_first,
-  renewed_permission,
-  wants_renewal,
-};
-ghost use Rattle.turn_client_proto_allocation.specs.declared.permission.PendingPermission.{
-  PendingPermission,
-};
+ghost use Rattle.turn_client_proto_allocation.specs.Awaited.{asks_for_permission, renews_permission};
+ghost use Rattle.turn_client_proto_allocation.specs.Permissions.{asked_again, not_asked_by, not_over, not_renewed_by, polled_permissions, renewed_again, renewed_first, renewed_permission, wants_renewal};
+ghost use Rattle.turn_client_proto_allocation.specs.declared.permission.PendingPermission.{PendingPermission};
 
 use crate::permission::{PendingPermission, Permission};
 use std::alloc::Global;
@@ -139,9 +124,7 @@ pub struct PendingPermissions {
 
 impl Model for PendingPermissions {
     ghost use Rattle.std.specs.Prelude.{List};
-    ghost use Rattle.turn_client_proto_allocation.specs.declared.permission.PendingPermission.{
-      PendingPermission,
-    };
+    ghost use Rattle.turn_client_proto_allocation.specs.declared.permission.PendingPermission.{PendingPermission};
 
     ghost Value = { List PendingPermission };
 

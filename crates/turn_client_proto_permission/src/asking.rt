@@ -1,36 +1,10 @@
 //! Permissions that are asked for (RFC 8656, section 10.1).
 
-ghost use Rattle.std.specs.Prelude.{
-  ◌≡◌,
-  ◌<◌,
-  List,
-  OnOk,
-  OnErr,
-  IfSome,
-  length,
-  position,
-  slice_get,
-  slice_set,
-};
+ghost use Rattle.std.specs.Prelude.{◌≡◌, ◌<◌, List, OnOk, OnErr, IfSome, length, position, slice_get, slice_set};
 ghost use Rattle.std.specs.List.{list_any};
-ghost use Rattle.turn_client_proto_allocation.specs.declared.allocation.Allocation.{
-  Allocation as Kept,
-};
-ghost use Rattle.turn_client_proto_allocation.specs.declared.permission.PendingPermission.{
-  PendingPermission as Pending,
-};
-ghost use Rattle.turn_client_proto_permission.specs.Asking.{
-  all_asked_again,
-  all_renewed_again,
-  asking,
-  has_asked,
-  has_renewed,
-  is_of,
-  marked,
-  peer_asked,
-  peer_renewed,
-  permits_over,
-};
+ghost use Rattle.turn_client_proto_allocation.specs.declared.allocation.Allocation.{Allocation as Kept};
+ghost use Rattle.turn_client_proto_allocation.specs.declared.permission.PendingPermission.{PendingPermission as Pending};
+ghost use Rattle.turn_client_proto_permission.specs.Asking.{all_asked_again, all_renewed_again, asking, has_asked, has_renewed, is_of, marked, peer_asked, peer_renewed, permits_over};
 
 use crate::one::{self, has_asked, has_renewed, is_of, permits_over};
 use std::net::IpAddr;

@@ -3,36 +3,12 @@
 ghost use Rattle.std.specs.Prelude.{◌≡◌, OnOk, OnErr, find};
 ghost use Rattle.std.specs.Option.{option_map};
 ghost use Rattle.turn_client_proto_allocation.specs.Permissions.{wants_renewal};
-ghost use Rattle.turn_client_proto_allocation.specs.declared.allocation.Allocation.{
-  Allocation as Kept,
-};
-ghost use Rattle.turn_client_proto_allocation.specs.declared.permission.PendingPermission.{
-  PendingPermission as Pending,
-};
-ghost use Rattle.turn_client_proto_allocation.specs.declared.permission.Permission.{
-  Permission as Standing,
-};
+ghost use Rattle.turn_client_proto_allocation.specs.declared.allocation.Allocation.{Allocation as Kept};
+ghost use Rattle.turn_client_proto_allocation.specs.declared.permission.PendingPermission.{PendingPermission as Pending};
+ghost use Rattle.turn_client_proto_allocation.specs.declared.permission.Permission.{Permission as Standing};
 ghost use Rattle.turn_client_proto_allocation.specs.Refreshing.{wants_refresh};
-ghost use Rattle.turn_client_proto_permission.specs.Asking.{
-  address_asked,
-  address_renewed,
-  asking,
-  asks_for,
-  at_transport,
-  has_asked,
-  has_renewed,
-  is_of,
-  is_past,
-  knows,
-  permits,
-  permits_over,
-};
-ghost use Rattle.turn_client_proto_permission.specs.Granted.{
-  permission_end,
-  permitted,
-  renewed,
-  turned_down,
-};
+ghost use Rattle.turn_client_proto_permission.specs.Asking.{address_asked, address_renewed, asking, asks_for, at_transport, has_asked, has_renewed, is_of, is_past, knows, permits, permits_over};
+ghost use Rattle.turn_client_proto_permission.specs.Granted.{permission_end, permitted, renewed, turned_down};
 ghost use Rattle.turn_client_proto_permission.specs.Telling.{polled};
 ghost use Rattle.turn_client_proto_permission.specs.Wanting.{renewal_wanted, want, wants};
 

@@ -2,18 +2,8 @@
 
 ghost use Rattle.std.specs.Prelude.{◌≡◌, ◌++◌, OnOk, OnErr, length, map, take};
 ghost use Rattle.turn_client_proto_api.specs.Least.{IsLeastOf};
-ghost use Rattle.turn_client_proto_api.specs.declared.event.TurnEvent.TheVariants.{
-  PermissionCreateFailed,
-};
-ghost use Rattle.turn_client_proto_permission.specs.Telling.{
-  addresses_lapsed,
-  addresses_over,
-  all_failures,
-  all_nexts,
-  earlier_of,
-  failures,
-  polled,
-};
+ghost use Rattle.turn_client_proto_api.specs.declared.event.TurnEvent.TheVariants.{PermissionCreateFailed};
+ghost use Rattle.turn_client_proto_permission.specs.Telling.{addresses_lapsed, addresses_over, all_failures, all_nexts, earlier_of, failures, polled};
 
 use crate::one;
 use stun_types::message::TransactionId;

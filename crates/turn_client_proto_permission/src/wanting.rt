@@ -2,13 +2,7 @@
 //! 10.1).
 
 ghost use Rattle.std.specs.Prelude.{◌≡◌, ◌<◌, OnOk, OnErr, position};
-ghost use Rattle.turn_client_proto_permission.specs.Wanting.{
-  refreshed_first,
-  renewal_first,
-  want,
-  wanted,
-  wants,
-};
+ghost use Rattle.turn_client_proto_permission.specs.Wanting.{refreshed_first, renewal_first, want, wanted, wants};
 
 use crate::one::{want, wants};
 use std::net::IpAddr;
