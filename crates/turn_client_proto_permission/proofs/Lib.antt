@@ -1,4 +1,5 @@
 pub mod Earliest
 pub mod Fronts
 pub mod Lent
+pub mod Told
 pub mod Undoing

@@ -1,6 +1,6 @@
 //! What becomes of permissions as time goes on (RFC 8656, section 9), and what is told of it.
 
-ghost use Rattle.std.specs.Prelude.{◌≡◌, ◌++◌, OnOk, OnErr, length, map, take};
+ghost use Rattle.std.specs.Prelude.{◌≡◌, ◌≢◌, ◌++◌, [], OnOk, OnErr, length, map, take};
 ghost use Rattle.turn_client_proto_api.specs.Least.{IsLeastOf};
 ghost use Rattle.turn_client_proto_api.specs.declared.event.TurnEvent.TheVariants.{PermissionCreateFailed};
 ghost use Rattle.turn_client_proto_permission.specs.Telling.{addresses_lapsed, addresses_over, all_failures, all_nexts, earlier_of, failures, polled};
@@ -26,6 +26,7 @@ fn tell_over(
     ensures ok { OnOk result (events.new ≡ events.old
         ++ map (PermissionCreateFailed transport) (addresses_over ended.now pending.now)) }
     ensures err { OnErr result (take (length events.old) events.new ≡ events.old) }
+    ensures told { OnErr result (addresses_over ended.now pending.now ≢ []) }
 {
     for permission in pending {
         if permission.is_over(ended) {
@@ -47,6 +48,7 @@ fn tell_lapsed(
     ensures ok { OnOk result (events.new ≡ events.old
         ++ map (PermissionCreateFailed transport) (addresses_lapsed now permissions.now)) }
     ensures err { OnErr result (take (length events.old) events.new ≡ events.old) }
+    ensures told { OnErr result (addresses_lapsed now permissions.now ≢ []) }
 {
     for permission in permissions {
         if permission.has_lapsed(now) {
@@ -67,6 +69,7 @@ fn tell_of(
 ) -> Result<(), NoMemory>
     ensures ok { OnOk result (events.new ≡ events.old ++ failures ended.now now a.now) }
     ensures err { OnErr result (take (length events.old) events.new ≡ events.old) }
+    ensures told { OnErr result (failures ended.now now a.now ≢ []) }
 {
     tell_over(events, a.transport, a.pending_permissions.as_slice(), ended)?;
     tell_lapsed(events, a.transport, a.permissions.as_slice(), now)
@@ -74,7 +77,7 @@ fn tell_of(
 
 /// Tells the permissions that go, of each allocation: those whose request ended without a response,
 /// and then those that have lapsed. Where memory is refused, `NoMemory`, and the events that were
-/// there still come first.
+/// there still come first. It is refused only where there is something to tell.
 #[tactic(auto, using(crate::proofs::Fronts::fronts))]
 pub fn tell_failures(
     events: &mut QueueOf<TurnEvent>,
@@ -85,6 +88,7 @@ pub fn tell_failures(
     ensures ok { OnOk result (events.new
         ≡ events.old ++ all_failures ended.now now allocations.now) }
     ensures err { OnErr result (take (length events.old) events.new ≡ events.old) }
+    ensures told { OnErr result (all_failures ended.now now allocations.now ≢ []) }
 {
     for allocation in allocations {
         tell_of(events, allocation, ended, now)?;
