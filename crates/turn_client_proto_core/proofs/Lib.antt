@@ -3,6 +3,7 @@ pub mod Granting
 pub mod Numbers
 pub mod Results
 pub mod UnderWay
+pub mod Usual
 -- What stands above this crate has these through it.
 pub use Rattle.turn_client_proto_allocation.proofs as Allocation
 pub use Rattle.turn_client_proto_request.proofs as Request

@@ -27,7 +27,6 @@ fn phase_by(allocations: &[Allocation]) -> Phase
 
 impl Protocol {
     /// A success response to a signed ALLOCATE was accepted.
-    #[tactic(auto, using(turn_client_proto_allocation::proofs::Prefixes::front_kept, turn_client_proto_allocation::proofs::Prefixes::whole_kept))]
     pub(crate) fn take_success(
         &mut self,
         message: &Message<'_>,
@@ -53,7 +52,6 @@ impl Protocol {
     }
 
     /// Keeps the allocations that a success response brought.
-    #[tactic(auto, using(turn_client_proto_allocation::proofs::Prefixes::front_kept, turn_client_proto_allocation::proofs::Prefixes::whole_kept), unfolding(crate::specs::Allocating::allocated))]
     fn keep_allocations(&mut self, allocations: Allocations) -> Result<(), NoMemory>
         ensures ok { OnOk result (self.new ≡ allocated allocations self.old) }
         ensures err { OnErr result (IsUnderWay self.old self.new) }

@@ -13,8 +13,8 @@ use turn_client_proto_request::request::TurnRequest;
 
 impl Protocol {
     /// Makes a request of this number: it is outstanding from now on, and waits to be sent. Where
-    /// memory is refused, nothing changes. So it is, too, where a request of the number is outstanding.
-    #[tactic(auto, unfolding(crate::specs::Asking::asked))]
+    /// memory is refused, nothing changes. So it is, too, where a request of the number is
+    /// outstanding.
     pub(crate) fn ask(
         &mut self,
         number: TransactionId,

@@ -1,16 +1,25 @@
 //! What a client that has not allocated makes of a message (RFC 8656, sections 7.3 and 7.4).
 
-ghost use Rattle.std.specs.Prelude.{◌≡◌, ◌++◌, ◌∷◌, [], ℕ, IfOk, OnOk, OnErr, Some, None, true, false};
+ghost use Rattle.std.specs.Prelude.{◌≡◌, ◌++◌, ◌∷◌, [], ℕ, IfOk, OnOk, OnErr, Some, None, true};
+ghost use Rattle.std.specs.Prelude.{false};
 ghost use Rattle.turn_client_proto_api.specs.Handling.{is_awaited, is_response};
 ghost use Rattle.stun_types.specs.Attributes.{kind_at};
 ghost use Rattle.stun_types.specs.Grammar.{number_at};
 ghost use Rattle.stun_types.specs.Types.{class_of};
-ghost use Rattle.turn_client_proto_request.specs.declared.request.TurnRequest.TheVariants.{Allocate};
+ghost use Rattle.turn_client_proto_request.specs.declared.request.TurnRequest.TheVariants.{
+  Allocate,
+};
 ghost use Rattle.turn_client_proto_core.specs.Asking.{asked};
-ghost use Rattle.turn_client_proto_core.specs.Authenticating.{IsAccepted, IsAllocateAnswered, IsChallenged, IsErrorAnswered, IsFirstJudged, IsSignedJudged, IsTurnedAway, allocates_again, allocates_other, family_left, numbers_sent, other_family};
+ghost use Rattle.turn_client_proto_core.specs.Authenticating.{IsAccepted, IsAllocateAnswered};
+ghost use Rattle.turn_client_proto_core.specs.Authenticating.{IsChallenged, IsErrorAnswered};
+ghost use Rattle.turn_client_proto_core.specs.Authenticating.{IsFirstJudged, IsSignedJudged};
+ghost use Rattle.turn_client_proto_core.specs.Authenticating.{IsTurnedAway, allocates_again};
+ghost use Rattle.turn_client_proto_core.specs.Authenticating.{allocates_other, family_left};
+ghost use Rattle.turn_client_proto_core.specs.Authenticating.{numbers_sent, other_family};
 ghost use Rattle.turn_client_proto_core.specs.Ending.{IsUnderWay};
 ghost use Rattle.turn_client_proto_core.specs.Numbering.{IsNextNumber, after_number};
-ghost use Rattle.turn_client_proto_core.specs.Receiving.{GrowsBy, GrowsFirst, GrowsSigned, IsFollowed};
+ghost use Rattle.turn_client_proto_core.specs.Receiving.{GrowsBy, GrowsFirst, GrowsSigned};
+ghost use Rattle.turn_client_proto_core.specs.Receiving.{IsFollowed};
 ghost use Rattle.turn_client_proto_core.specs.Responding.{accepted, answered, challenged, is_tired};
 
 use crate::protocol::{Phase, Protocol};
@@ -26,8 +35,8 @@ use turn_client_proto_api::families::RequestedFamilies;
 use turn_client_proto_request::request::TurnRequest;
 use turn_client_proto_response::told::first_code;
 
-/// After so many challenges that were answered without an accepted response between, the next one ends
-/// the client.
+/// After so many challenges that were answered without an accepted response between, the next one
+/// ends the client.
 const MOST_RESENDS: u32 = 8;
 
 /// The family that is left where the server has no addresses of IPv4, and both were asked for.
@@ -59,7 +68,6 @@ impl Protocol {
     }
 
     /// A response ends its transaction. Where memory is refused, nothing changes.
-    #[tactic(auto, unfolding(crate::specs::Responding::answered))]
     pub(crate) fn answer(&mut self, message: &Message<'_>) -> Result<(), NoMemory>
         ensures ok { OnOk result (self.new ≡ answered message.now self.old) }
         ensures err { OnErr result (self.new ≡ self.old) }
@@ -68,9 +76,8 @@ impl Protocol {
         Ok(())
     }
 
-    /// A response is accepted: its transaction ends, and the challenges before it count no more. Where
-    /// memory is refused, nothing changes.
-    #[tactic(auto, unfolding(crate::specs::Responding::accepted, crate::specs::Responding::answered))]
+    /// A response is accepted: its transaction ends, and the challenges before it count no more.
+    /// Where memory is refused, nothing changes.
     pub(crate) fn accept(&mut self, message: &Message<'_>) -> Result<(), NoMemory>
         ensures ok { OnOk result (self.new ≡ accepted message.now self.old) }
         ensures err { OnErr result (self.new ≡ self.old) }
@@ -82,7 +89,6 @@ impl Protocol {
 
     /// A challenge was answered: its transaction ends, and it is counted. Where memory is refused,
     /// nothing changes.
-    #[tactic(auto, unfolding(crate::specs::Responding::challenged, crate::specs::Responding::answered))]
     pub(crate) fn count_challenge(&mut self, message: &Message<'_>) -> Result<(), NoMemory>
         requires { is_tired self.old ≡ false }
         ensures ok { OnOk result (self.new ≡ challenged message.now self.old) }
@@ -106,7 +112,6 @@ fn numbers_sent(alloc: Global, phase: Phase) -> ListOf<TransactionId>
 
 impl Protocol {
     /// Asks for an allocation under the credentials, once more.
-    #[tactic(auto, using(turn_client_proto_allocation::proofs::Prefixes::front_kept, turn_client_proto_allocation::proofs::Prefixes::whole_kept), unfolding(crate::specs::Authenticating::allocates_again, crate::specs::Asking::asked))]
     fn allocate_again(&mut self, now: Instant) -> Result<(), NoMemory>
         ensures ok { OnOk result ((number : ℕ) × IsNextNumber self.old number
             × (self.new ≡ allocates_again number now self.old)) }
@@ -123,7 +128,6 @@ impl Protocol {
     }
 
     /// A challenge that can be answered came (RFC 8489, section 9.2.5).
-    #[tactic(auto, using(turn_client_proto_allocation::proofs::Prefixes::front_kept, turn_client_proto_allocation::proofs::Prefixes::whole_kept), unfolding(crate::specs::Authenticating::allocates_again, crate::specs::Asking::asked, crate::specs::Ending::ended))]
     fn answer_challenge(&mut self, message: &Message<'_>, now: Instant) -> Result<bool, NoMemory>
         ensures ok { IfOk result (λ handled.
             IsChallenged self.old message.now now handled self.new) }
@@ -142,7 +146,6 @@ impl Protocol {
     }
 
     /// A response to the first ALLOCATE came that is no challenge, or one that can't be answered.
-    #[tactic(auto, using(turn_client_proto_allocation::proofs::Prefixes::front_kept, turn_client_proto_allocation::proofs::Prefixes::whole_kept), unfolding(crate::specs::Responding::answered))]
     fn turn_away(&mut self, message: &Message<'_>) -> Result<bool, NoMemory>
         ensures ok { IfOk result (λ handled. IsTurnedAway self.old message.now handled self.new) }
         ensures err { OnErr result (IsUnderWay self.old self.new) }
@@ -157,7 +160,6 @@ impl Protocol {
     }
 
     /// A response came where no ALLOCATE was signed.
-    #[tactic(auto, using(turn_client_proto_allocation::proofs::Prefixes::front_kept, turn_client_proto_allocation::proofs::Prefixes::whole_kept))]
     pub(crate) fn hear_first(
         &mut self,
         message: &Message<'_>,
@@ -180,7 +182,6 @@ impl Protocol {
     }
 
     /// A response to one of the signed ALLOCATEs came.
-    #[tactic(auto, using(turn_client_proto_allocation::proofs::Prefixes::front_kept, turn_client_proto_allocation::proofs::Prefixes::whole_kept))]
     pub(crate) fn hear_signed(
         &mut self,
         message: &Message<'_>,
@@ -204,7 +205,6 @@ impl Protocol {
     }
 
     /// A response to a signed ALLOCATE came that validates.
-    #[tactic(auto, using(turn_client_proto_allocation::proofs::Prefixes::front_kept, turn_client_proto_allocation::proofs::Prefixes::whole_kept), unfolding(crate::specs::Responding::accepted))]
     fn take_response(&mut self, message: &Message<'_>, now: Instant) -> Result<bool, NoMemory>
         ensures ok { IfOk result (λ handled.
             IsAccepted self.old message.now now handled self.new) }
@@ -220,7 +220,6 @@ impl Protocol {
     }
 
     /// A response to a signed ALLOCATE was accepted.
-    #[tactic(auto, using(turn_client_proto_allocation::proofs::Prefixes::front_kept, turn_client_proto_allocation::proofs::Prefixes::whole_kept))]
     fn take_answer(&mut self, message: &Message<'_>, now: Instant) -> Result<bool, NoMemory>
         ensures ok { IfOk result (λ handled. IsAllocateAnswered
             (class_of (kind_at message.now)) self.old message.now now handled self.new) }
@@ -244,7 +243,6 @@ impl Protocol {
     }
 
     /// An error response to a signed ALLOCATE was accepted (RFC 8656, section 7.4).
-    #[tactic(auto, using(turn_client_proto_allocation::proofs::Prefixes::front_kept, turn_client_proto_allocation::proofs::Prefixes::whole_kept))]
     fn take_error(&mut self, message: &Message<'_>, now: Instant) -> Result<bool, NoMemory>
         ensures ok { IfOk result (λ handled. IsErrorAnswered
             (family_left self.old message.now) self.old now handled self.new) }
@@ -259,7 +257,6 @@ impl Protocol {
     }
 
     /// Gives up IPv4, and asks for an address of the family that is left.
-    #[tactic(auto, using(turn_client_proto_allocation::proofs::Prefixes::front_kept, turn_client_proto_allocation::proofs::Prefixes::whole_kept), unfolding(crate::specs::Authenticating::allocates_other, crate::specs::Asking::asked))]
     fn allocate_other(&mut self, family: AddressFamily, now: Instant) -> Result<(), NoMemory>
         ensures ok { OnOk result ((number : ℕ) × IsNextNumber self.old number
             × (self.new ≡ allocates_other family number now self.old)) }

@@ -16,8 +16,8 @@ use turn_client_proto_queue::queue::QueueOf;
 use turn_client_proto_request::signer::Signer;
 
 impl Protocol {
-    /// A client with these settings that nothing was sent by, and nothing asked of, yet. It keeps the
-    /// allocator. The numbers of its messages are drawn from the generator of this seed.
+    /// A client with these settings that nothing was sent by, and nothing asked of, yet. It keeps
+    /// the allocator. The numbers of its messages are drawn from the generator of this seed.
     pub fn new(
         alloc: Global,
         transport: TransportType,

@@ -4,7 +4,8 @@ ghost use Rattle.std.specs.Prelude.{◌≡◌, ◌++◌, [], IfNone, OnOk, OnErr
 ghost use Rattle.turn_client_proto_allocation.specs.Refreshing.{deleted, ended, refreshing};
 ghost use Rattle.turn_client_proto_request.specs.declared.request.TurnRequest.TheVariants.{Refresh};
 ghost use Rattle.turn_client_proto_core.specs.Asking.{asked};
-ghost use Rattle.turn_client_proto_core.specs.Deleting.{IsDeleteAnswered, after_delete, delete_refusal, is_authenticated};
+ghost use Rattle.turn_client_proto_core.specs.Deleting.{IsDeleteAnswered, after_delete};
+ghost use Rattle.turn_client_proto_core.specs.Deleting.{delete_refusal, is_authenticated};
 ghost use Rattle.turn_client_proto_core.specs.Numbering.{after_number};
 
 use crate::protocol::{Phase, Protocol};
@@ -17,10 +18,10 @@ use turn_client_proto_api::event::TurnEvent;
 use turn_client_proto_request::request::TurnRequest;
 
 impl Protocol {
-    /// Asks for the end of the allocations (RFC 8656, section 8.1): a REFRESH of lifetime 0 is made,
-    /// and each allocation is marked as expired, with no permission and no channel. Refused with
-    /// `NoAllocation` where the server has allocated nothing, or the client has ended. Where memory is
-    /// refused, `NoMemory`, and nothing changes but the words that were drawn.
+    /// Asks for the end of the allocations (RFC 8656, section 8.1): a REFRESH of lifetime 0 is
+    /// made, and each allocation is marked as expired, with no permission and no channel. Refused
+    /// with `NoAllocation` where the server has allocated nothing, or the client has ended. Where
+    /// memory is refused, `NoMemory`, and nothing changes but the words that were drawn.
     pub fn delete(&mut self, now: Instant) -> Result<(), DeleteError>
         ensures { IsDeleteAnswered self.old now result self.new }
     {
@@ -44,7 +45,6 @@ impl Protocol {
     }
 
     /// Asks for the end by a REFRESH of this number, or changes nothing.
-    #[tactic(auto, using(crate::proofs::Deleting::deleted_each), unfolding(crate::specs::Asking::asked))]
     fn delete_by(&mut self, number: TransactionId, now: Instant) -> Result<(), NoMemory>
         ensures ok { OnOk result (self.new ≡ record (asked self.old (Refresh 0) number now) {
           allocations = map (deleted number now) self.old.allocations;

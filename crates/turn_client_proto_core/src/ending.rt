@@ -12,7 +12,6 @@ impl Protocol {
     /// Ends the client: that no address is allocated is told for each family, in order. What is
     /// outstanding and what waits stays. Memory is asked for where there is a family to tell of, as
     /// there is in every client; where it is refused, nothing changes.
-    #[tactic(auto, unfolding(crate::specs::Ending::ended))]
     pub fn end(&mut self) -> Result<(), NoMemory>
         ensures ok { OnOk result (self.new ≡ ended self.old) }
         ensures err { OnErr result (self.new ≡ self.old) }

@@ -3,7 +3,9 @@
 ghost use Rattle.std.specs.Prelude.{◌≡◌, ◌+◌, ◌%◌, ◌^◌, IfOk, OnErr};
 ghost use Rattle.std.specs.FinMap as finite;
 ghost use Rattle.turn_client_proto_allocation.specs.Awaited.{has_number};
-ghost use Rattle.turn_client_proto_core.specs.Numbering.{AreAllTaken, IsFirstFree, IsNextNumber, after_draw, after_number, behind, drawn, is_taken};
+ghost use Rattle.turn_client_proto_core.specs.Numbering.{AreAllTaken, IsFirstFree, IsNextNumber};
+ghost use Rattle.turn_client_proto_core.specs.Numbering.{after_draw, after_number, behind, drawn};
+ghost use Rattle.turn_client_proto_core.specs.Numbering.{is_taken};
 
 use crate::protocol::Protocol;
 use rand_chacha::ChaCha20Rng;
@@ -35,9 +37,9 @@ fn next(number: TransactionId) -> TransactionId
 }
 
 impl Protocol {
-    /// Draws the number of the next message: the next three words of the generator, the first of them
-    /// highest; a number that is taken is passed by. Where every number there is is taken, `NoMemory`:
-    /// that is 2^96 of them, and no client has the memory for so many.
+    /// Draws the number of the next message: the next three words of the generator, the first of
+    /// them highest; a number that is taken is passed by. Where every number there is is taken,
+    /// `NoMemory`: that is 2^96 of them, and no client has the memory for so many.
     pub fn draw_number(&mut self) -> Result<TransactionId, NoMemory>
         ensures number { IfOk result (λ number. IsNextNumber self.old number) }
         ensures full { OnErr result (AreAllTaken self.old) }
@@ -56,8 +58,8 @@ impl Protocol {
             || (self.phase.awaits(number) || self.allocations.is_any_awaited(number))
     }
 
-    /// The first number from this one on that isn't taken. The search ends at last where it began, with
-    /// `NoMemory`.
+    /// The first number from this one on that isn't taken. The search ends at last where it began,
+    /// with `NoMemory`.
     fn first_free(&self, from: TransactionId) -> Result<TransactionId, NoMemory>
         ensures free { IfOk result (λ number. IsFirstFree self.now from number) }
         ensures full { OnErr result (AreAllTaken self.now) }

@@ -1,16 +1,24 @@
 //! Permissions that a client is asked for, and the responses to its requests for them (RFC 8656,
 //! section 10).
 
-ghost use Rattle.std.specs.Prelude.{◌≡◌, ◌<◌, ℕ, ◌∷◌, [], List, IfOk, IfSome, OnErr, OnOk, false, length, slice_get, slice_set};
+ghost use Rattle.std.specs.Prelude.{◌≡◌, ◌<◌, ℕ, ◌∷◌, [], List, IfOk, IfSome, OnErr, OnOk, false};
+ghost use Rattle.std.specs.Prelude.{length, slice_get, slice_set};
 ghost use Rattle.turn_client_proto_api.specs.Handling.{is_awaited};
 ghost use Rattle.stun_types.specs.Grammar.{number_at};
-ghost use Rattle.turn_client_proto_permission.specs.Asking.{all_asked_again, all_renewed_again, asking, peer_asked, peer_renewed};
+ghost use Rattle.turn_client_proto_permission.specs.Asking.{all_asked_again, all_renewed_again};
+ghost use Rattle.turn_client_proto_permission.specs.Asking.{asking, peer_asked, peer_renewed};
 ghost use Rattle.turn_client_proto_request.specs.ToldRequests.{IsLawfulRequest};
-ghost use Rattle.turn_client_proto_request.specs.declared.request.TurnRequest.TheVariants.{CreatePermission};
+ghost use Rattle.turn_client_proto_request.specs.declared.request.TurnRequest.TheVariants.{
+  CreatePermission,
+};
 ghost use Rattle.turn_client_proto_core.specs.Asking.{asked};
 ghost use Rattle.turn_client_proto_core.specs.Ending.{IsUnderWay};
 ghost use Rattle.turn_client_proto_core.specs.Numbering.{IsNextNumber, after_number};
-ghost use Rattle.turn_client_proto_core.specs.Permitting.{IsAskingAgain, IsGrantedFor, IsPermissionAnswered, IsPermissionResponded, IsPermittingAgain, IsRefusedFor, IsRenewingAgain, family_of_ip, permits_again};
+ghost use Rattle.turn_client_proto_core.specs.Permitting.{IsAskingAgain, IsGrantedFor};
+ghost use Rattle.turn_client_proto_core.specs.Permitting.{IsPermissionAnswered};
+ghost use Rattle.turn_client_proto_core.specs.Permitting.{IsPermissionResponded, IsPermittingAgain};
+ghost use Rattle.turn_client_proto_core.specs.Permitting.{IsRefusedFor, IsRenewingAgain};
+ghost use Rattle.turn_client_proto_core.specs.Permitting.{family_of_ip, permits_again};
 ghost use Rattle.turn_client_proto_core.specs.Responding.{is_tired};
 
 use crate::protocol::Protocol;
@@ -37,10 +45,11 @@ fn family_of_ip(ip: &IpAddr) -> AddressFamily
 
 impl Protocol {
     /// Asks for a permission for an address (RFC 8656, section 10.1), in the first allocation of a
-    /// transport whose address is of the same family. Refused with `NoAllocation` where there is none,
-    /// or its time is over: then it is marked as expired; with `AlreadyExists` where a permission for
-    /// the address stands there, or was asked for; and with `NoAllocation` where the client has ended.
-    /// Where memory is refused, `NoMemory`, and nothing changes but the words that were drawn.
+    /// transport whose address is of the same family. Refused with `NoAllocation` where there is
+    /// none, or its time is over: then it is marked as expired; with `AlreadyExists` where a
+    /// permission for the address stands there, or was asked for; and with `NoAllocation` where the
+    /// client has ended. Where memory is refused, `NoMemory`, and nothing changes but the words
+    /// that were drawn.
     pub fn create_permission(
         &mut self,
         transport: TransportType,
@@ -88,7 +97,6 @@ impl Protocol {
     }
 
     /// The same, by a request of this number. Where memory is refused, nothing changes.
-    #[tactic(auto, unfolding(crate::specs::Asking::asked))]
     fn ask_by(
         &mut self,
         place: usize,
@@ -119,7 +127,6 @@ impl Protocol {
     }
 
     /// A challenge came to a request that asks for a permission, or was to renew one.
-    #[tactic(auto, using(turn_client_proto_allocation::proofs::Prefixes::front_kept, turn_client_proto_allocation::proofs::Prefixes::whole_kept), unfolding(crate::specs::Permitting::permits_again, crate::specs::Asking::asked))]
     pub(crate) fn permit_again(
         &mut self,
         message: &Message<'_>,
@@ -142,7 +149,6 @@ impl Protocol {
     }
 
     /// A challenge came to a request that was to renew a permission.
-    #[tactic(auto, using(turn_client_proto_allocation::proofs::Prefixes::front_kept, turn_client_proto_allocation::proofs::Prefixes::whole_kept), unfolding(crate::specs::Permitting::permits_again, crate::specs::Asking::asked))]
     fn renew_again(&mut self, message: &Message<'_>, now: Instant) -> Result<bool, NoMemory>
         requires { is_tired self.old ≡ false }
         ensures ok { IfOk result (λ handled. IsRenewingAgain
@@ -161,7 +167,6 @@ impl Protocol {
     }
 
     /// Makes a CREATE_PERMISSION for an address, of the next number.
-    #[tactic(auto, using(turn_client_proto_allocation::proofs::Prefixes::front_kept, turn_client_proto_allocation::proofs::Prefixes::whole_kept), unfolding(crate::specs::Asking::asked))]
     fn ask_for(&mut self, ip: IpAddr, now: Instant) -> Result<TransactionId, NoMemory>
         ensures ok { IfOk result (λ number. IsNextNumber self.old number
             × IsLawfulRequest (CreatePermission ip)
@@ -196,7 +201,6 @@ impl Protocol {
 
     /// The request of this number was granted: the permission that it asks for stands, and that is
     /// told; or those that it was to renew stand on.
-    #[tactic(auto, using(turn_client_proto_allocation::proofs::Prefixes::front_kept, turn_client_proto_allocation::proofs::Prefixes::whole_kept), unfolding(crate::specs::Permitting::granted, crate::specs::Permitting::renews))]
     fn grant_permission(&mut self, number: TransactionId, now: Instant) -> Result<bool, NoMemory>
         ensures ok { IfOk result (λ handled. IsGrantedFor
             (peer_asked number self.old.allocations) self.old number now handled self.new) }
@@ -215,9 +219,8 @@ impl Protocol {
         Ok(true)
     }
 
-    /// The request of this number was refused: the permissions that it asked for, or was to renew, go,
-    /// and the first of them is told.
-    #[tactic(auto, using(turn_client_proto_allocation::proofs::Prefixes::front_kept, turn_client_proto_allocation::proofs::Prefixes::whole_kept), unfolding(crate::specs::Permitting::refused))]
+    /// The request of this number was refused: the permissions that it asked for, or was to renew,
+    /// go, and the first of them is told.
     fn refuse_permission(&mut self, number: TransactionId) -> Result<bool, NoMemory>
         ensures ok { IfOk result (λ handled. IsRefusedFor
             (peer_asked number self.old.allocations) self.old number handled self.new) }

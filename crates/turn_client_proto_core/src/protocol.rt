@@ -50,8 +50,8 @@ impl Phase {
     }
 }
 
-/// A message that waits to be sent: a request, or the response to one of the server's. Contracts see
-/// the record `Queued`.
+/// A message that waits to be sent: a request, or the response to one of the server's. Contracts
+/// see the record `Queued`.
 #[derive(Debug, Drop)]
 pub struct Queued {
     bytes: Vec<u8>,

@@ -11,15 +11,15 @@ use turn_client_proto_allocation::numbers::has_number;
 use turn_client_proto_api::Instant;
 
 impl Protocol {
-    /// A message came from the server at a moment. Answers whether it was for the client. Where memory
-    /// is refused, `NoMemory`: then the client has ended, holds and awaits nothing, and sends nothing
-    /// more; the events that waited still do.
+    /// A message came from the server at a moment. Answers whether it was for the client. Where
+    /// memory is refused, `NoMemory`: then the client has ended, holds and awaits nothing, and
+    /// sends nothing more; the events that waited still do.
     ///
     /// Memory is asked for where there is something to keep or to tell: of a challenge that can be
-    /// answered, whatever request it answers; of a response that is accepted, or that ends the client.
-    /// It is not by a client that has sent nothing or has ended, by an indication, or by a response
-    /// with a number that isn't outstanding, unless that one is such a challenge, ends a client that
-    /// allocates by its wrong digest, or validates before an ALLOCATE was signed.
+    /// answered, whatever request it answers; of a response that is accepted, or that ends the
+    /// client. It is not by a client that has sent nothing or has ended, by an indication, or by a
+    /// response with a number that isn't outstanding, unless that one is such a challenge, ends a
+    /// client that allocates by its wrong digest, or validates before an ALLOCATE was signed.
     pub fn handle_message(&mut self, message: &Message<'_>, now: Instant) -> Result<bool, NoMemory>
         ensures ok { IfOk result (λ handled. IsHeard self.old message.now now handled self.new) }
         ensures err { OnErr result (HasFailed self.old self.new) }
@@ -36,7 +36,6 @@ impl Protocol {
     }
 
     /// The same; but where memory is refused, the client is under way still.
-    #[tactic(auto, using(turn_client_proto_allocation::proofs::Prefixes::front_kept, turn_client_proto_allocation::proofs::Prefixes::whole_kept))]
     fn hear(&mut self, message: &Message<'_>, now: Instant) -> Result<bool, NoMemory>
         ensures ok { IfOk result (λ handled. IsHeard self.old message.now now handled self.new) }
         ensures err { OnErr result (IsUnderWay self.old self.new) }

@@ -6,7 +6,9 @@ ghost use Rattle.turn_client_proto_api.specs.Handling.{is_awaited, is_response};
 ghost use Rattle.turn_client_proto_core.specs.Ending.{IsUnderWay};
 ghost use Rattle.turn_client_proto_core.specs.Numbering.{IsNextNumber};
 ghost use Rattle.turn_client_proto_core.specs.Receiving.{GrowsBy, GrowsStanding, IsFollowed};
-ghost use Rattle.turn_client_proto_core.specs.Standing.{IsJudgedStanding, IsRechallenged, IsTakenUp, after_refresh, deallocated, is_refreshed, refreshed, refreshes_again};
+ghost use Rattle.turn_client_proto_core.specs.Standing.{IsJudgedStanding, IsRechallenged};
+ghost use Rattle.turn_client_proto_core.specs.Standing.{IsTakenUp, after_refresh, deallocated};
+ghost use Rattle.turn_client_proto_core.specs.Standing.{is_refreshed, refreshed, refreshes_again};
 
 use crate::protocol::{Phase, Protocol};
 use stun_types::NoMemory;
@@ -32,7 +34,6 @@ fn is_refreshed(message: &Message<'_>) -> bool
 
 impl Protocol {
     /// A request or a response came.
-    #[tactic(auto, using(turn_client_proto_allocation::proofs::Prefixes::front_kept, turn_client_proto_allocation::proofs::Prefixes::whole_kept))]
     pub(crate) fn hear_standing(
         &mut self,
         message: &Message<'_>,
@@ -52,7 +53,6 @@ impl Protocol {
     }
 
     /// A challenge that can be answered came (RFC 8489, section 9.2.5).
-    #[tactic(auto, using(turn_client_proto_allocation::proofs::Prefixes::front_kept, turn_client_proto_allocation::proofs::Prefixes::whole_kept), unfolding(crate::specs::Standing::refreshes_again, crate::specs::Asking::asked))]
     fn ask_again(&mut self, message: &Message<'_>, now: Instant) -> Result<bool, NoMemory>
         ensures ok { IfOk result (λ handled.
             IsRechallenged self.old message.now now handled self.new) }
@@ -74,9 +74,8 @@ impl Protocol {
         Ok(true)
     }
 
-    /// Sends a REFRESH of this lifetime again, under another number, for the allocation that awaits the
-    /// one of the old number.
-    #[tactic(auto, using(turn_client_proto_allocation::proofs::Prefixes::front_kept, turn_client_proto_allocation::proofs::Prefixes::whole_kept), unfolding(crate::specs::Standing::refreshes_again, crate::specs::Asking::asked))]
+    /// Sends a REFRESH of this lifetime again, under another number, for the allocation that awaits
+    /// the one of the old number.
     fn refresh_again(
         &mut self,
         old: TransactionId,
@@ -95,7 +94,6 @@ impl Protocol {
     }
 
     /// A request or a response came that validates.
-    #[tactic(auto, using(turn_client_proto_allocation::proofs::Prefixes::front_kept, turn_client_proto_allocation::proofs::Prefixes::whole_kept), unfolding(crate::specs::Responding::accepted))]
     fn take_up(&mut self, message: &Message<'_>, now: Instant) -> Result<bool, NoMemory>
         ensures ok { IfOk result (λ handled.
             IsTakenUp self.old message.now now handled self.new) }
@@ -118,7 +116,6 @@ impl Protocol {
     }
 
     /// The response to a REFRESH was accepted.
-    #[tactic(auto, unfolding(crate::specs::Standing::after_refresh))]
     fn take_refresh(&mut self, message: &Message<'_>, now: Instant)
         ensures { self.new ≡ after_refresh message.now now self.old }
     {
@@ -127,9 +124,8 @@ impl Protocol {
         }
     }
 
-    /// A REFRESH was granted: the allocations are gone where their end was asked for, and are renewed
-    /// else.
-    #[tactic(auto, unfolding(crate::specs::Standing::refreshed, crate::specs::Standing::deallocated))]
+    /// A REFRESH was granted: the allocations are gone where their end was asked for, and are
+    /// renewed else.
     fn refresh(&mut self, message: &Message<'_>, now: Instant)
         ensures { self.new ≡ refreshed message.now now self.old }
     {

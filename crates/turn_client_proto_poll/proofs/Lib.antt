@@ -1,8 +1,8 @@
 pub mod Draws
 pub mod Losses
 pub mod Polls
-pub mod Prefixes
 pub mod Quiet
+pub mod Usual
 -- What stands above this crate has these through it.
 pub use Rattle.turn_client_proto_core.proofs.Request
 pub use Rattle.turn_client_proto_core.proofs.Keeps

@@ -5,7 +5,13 @@ ghost use Rattle.std.specs.Option.{option_map};
 ghost use Rattle.turn_client_proto_core.specs.Sending.{NoneDue};
 ghost use Rattle.turn_client_proto_core.specs.Permission.Wanting.{wanted};
 ghost use Rattle.turn_client_proto_core.specs.Request.Requests.{request_text};
-ghost use Rattle.turn_client_proto_poll.specs.Drawing.{HasToBegin, HasToRepeat, HasToSend, IsBegun, IsDrawn, IsFirstSent, IsFreshSent, IsNextSent, IsRefreshSent, IsRenewalSent, IsRenewed, IsRepeated, after_sending, first_allocated, first_permitted, first_refreshed, is_resting, sent_at_once, sent_of};
+ghost use Rattle.turn_client_proto_poll.specs.Drawing.{HasToBegin, HasToRepeat, HasToSend, IsBegun};
+ghost use Rattle.turn_client_proto_poll.specs.Drawing.{IsDrawn, IsFirstSent, IsFreshSent};
+ghost use Rattle.turn_client_proto_poll.specs.Drawing.{IsNextSent, IsRefreshSent, IsRenewalSent};
+ghost use Rattle.turn_client_proto_poll.specs.Drawing.{IsRenewed, IsRepeated, after_sending};
+ghost use Rattle.turn_client_proto_poll.specs.Drawing.{first_allocated, first_permitted};
+ghost use Rattle.turn_client_proto_poll.specs.Drawing.{first_refreshed, is_resting, sent_at_once};
+ghost use Rattle.turn_client_proto_poll.specs.Drawing.{sent_of};
 ghost use Rattle.turn_client_proto_core.specs.Ending.{HasFailed, IsUnderWay};
 ghost use Rattle.turn_client_proto_core.specs.Numbering.{IsNextNumber};
 
@@ -26,9 +32,9 @@ use turn_client_proto_core::request::request::{ALLOCATION_LIFETIME, TurnRequest}
 /// ALLOCATE, or what renews something whose time has come: a REFRESH for an allocation, or a
 /// CREATE_PERMISSION for a permission. Call it again until it answers `None`.
 ///
-/// Memory is asked for where a request is due again, and where one is made. A message that waits takes
-/// none, and neither does a call that answers `None`. Where it is refused, `NoMemory`, and the client
-/// has failed.
+/// Memory is asked for where a request is due again, and where one is made. A message that waits
+/// takes none, and neither does a call that answers `None`. Where it is refused, `NoMemory`, and
+/// the client has failed.
 pub fn poll_transmit(
     protocol: &mut Protocol,
     now: Instant,
@@ -49,7 +55,6 @@ pub fn poll_transmit(
 }
 
 /// The same; but where memory is refused, the client is under way still.
-#[tactic(auto, using(crate::proofs::Prefixes::front_kept, crate::proofs::Prefixes::whole_kept))]
 fn draw(protocol: &mut Protocol, now: Instant) -> Result<Option<Transmit<Data<'static>>>, NoMemory>
     ensures ok { IfOk result (λ answer.
         IsDrawn protocol.old now (option_map sent_of answer) protocol.new) }
@@ -66,7 +71,6 @@ fn draw(protocol: &mut Protocol, now: Instant) -> Result<Option<Transmit<Data<'s
 }
 
 /// A request that is due again.
-#[tactic(auto, using(crate::proofs::Prefixes::front_kept, crate::proofs::Prefixes::whole_kept))]
 fn draw_again(
     protocol: &mut Protocol,
     now: Instant,
@@ -97,7 +101,6 @@ fn is_resting(protocol: &Protocol, now: Instant) -> bool
 }
 
 /// The first message that waits, or else one that is made now.
-#[tactic(auto, using(crate::proofs::Prefixes::front_kept, crate::proofs::Prefixes::whole_kept))]
 fn draw_next(
     protocol: &mut Protocol,
     now: Instant,
@@ -121,7 +124,6 @@ fn draw_next(
 }
 
 /// A message that is made now: the first ALLOCATE, or what renews something whose time has come.
-#[tactic(auto, using(crate::proofs::Prefixes::front_kept, crate::proofs::Prefixes::whole_kept))]
 fn begin(protocol: &mut Protocol, now: Instant) -> Result<Option<Transmit<Data<'static>>>, NoMemory>
     ensures ok { IfOk result (λ answer.
         IsBegun protocol.old.phase protocol.old now (option_map sent_of answer) protocol.new) }
@@ -137,10 +139,9 @@ fn begin(protocol: &mut Protocol, now: Instant) -> Result<Option<Transmit<Data<'
 }
 
 /// A REFRESH for an allocation, or a CREATE_PERMISSION for a permission, whose time has come.
-#[tactic(auto, using(crate::proofs::Prefixes::front_kept, crate::proofs::Prefixes::whole_kept))]
 fn renew(protocol: &mut Protocol, now: Instant) -> Result<Option<Transmit<Data<'static>>>, NoMemory>
-    ensures ok { IfOk result (λ answer. IsRenewed (wanted now protocol.old.allocations) protocol.old now
-        (option_map sent_of answer) protocol.new) }
+    ensures ok { IfOk result (λ answer. IsRenewed (wanted now protocol.old.allocations)
+        protocol.old now (option_map sent_of answer) protocol.new) }
     ensures err { OnErr result (IsUnderWay protocol.old protocol.new) }
     ensures memory { OnErr result (wanted now protocol.old.allocations ≢ None) }
 {
@@ -152,7 +153,6 @@ fn renew(protocol: &mut Protocol, now: Instant) -> Result<Option<Transmit<Data<'
 }
 
 /// Sends the first ALLOCATE.
-#[tactic(auto, using(crate::proofs::Prefixes::front_kept, crate::proofs::Prefixes::whole_kept), unfolding(crate::specs::Drawing::first_allocated, crate::specs::Drawing::sent_at_once))]
 fn send_first(protocol: &mut Protocol, now: Instant) -> Result<Transmit<Data<'static>>, NoMemory>
     ensures ok { IfOk result (λ sent. IsFirstSent protocol.old now (sent_of sent) protocol.new) }
     ensures err { OnErr result (IsUnderWay protocol.old protocol.new) }
@@ -168,7 +168,6 @@ fn send_first(protocol: &mut Protocol, now: Instant) -> Result<Transmit<Data<'st
 }
 
 /// Sends a REFRESH for the first allocation for which something is to be sent.
-#[tactic(auto, using(crate::proofs::Prefixes::front_kept, crate::proofs::Prefixes::whole_kept), unfolding(crate::specs::Drawing::first_refreshed, crate::specs::Drawing::sent_at_once))]
 fn send_refresh(protocol: &mut Protocol, now: Instant) -> Result<Transmit<Data<'static>>, NoMemory>
     ensures ok { IfOk result (λ sent. IsRefreshSent protocol.old now (sent_of sent) protocol.new) }
     ensures err { OnErr result (IsUnderWay protocol.old protocol.new) }
@@ -189,14 +188,15 @@ fn send_refresh(protocol: &mut Protocol, now: Instant) -> Result<Transmit<Data<'
     Ok(sent)
 }
 
-/// Sends a CREATE_PERMISSION for an address, by which the first permission that is to be renewed is.
-#[tactic(auto, using(crate::proofs::Prefixes::front_kept, crate::proofs::Prefixes::whole_kept), unfolding(crate::specs::Drawing::first_permitted, crate::specs::Drawing::sent_at_once))]
+/// Sends a CREATE_PERMISSION for an address, by which the first permission that is to be renewed
+/// is.
 fn send_renewal(
     protocol: &mut Protocol,
     ip: IpAddr,
     now: Instant,
 ) -> Result<Transmit<Data<'static>>, NoMemory>
-    ensures ok { IfOk result (λ sent. IsRenewalSent protocol.old ip now (sent_of sent) protocol.new) }
+    ensures ok { IfOk result (λ sent.
+        IsRenewalSent protocol.old ip now (sent_of sent) protocol.new) }
     ensures err { OnErr result (IsUnderWay protocol.old protocol.new) }
 {
     let number = protocol.draw_number()?;
@@ -210,7 +210,6 @@ fn send_renewal(
 
 /// Makes a request of this number that is sent at once, and is outstanding from now on. Where
 /// memory is refused, nothing changes.
-#[tactic(auto, unfolding(crate::specs::Drawing::sent_at_once))]
 fn send_at_once(
     protocol: &mut Protocol,
     number: TransactionId,

@@ -1,17 +1,19 @@
-//! What the contracts of a client mean for a layer above. The functions do nothing; each contract is a
-//! law.
+//! What the contracts of a client mean for a layer above. The functions do nothing; each contract
+//! is a law.
 
 ghost use Rattle.std.specs.Prelude.{◌<◌, ◌≤◌, ℕ, Option};
-ghost use Rattle.turn_client_proto_core.specs.Api.declared.answer.TurnPollRet.TheVariants.{WaitUntil};
+ghost use Rattle.turn_client_proto_core.specs.Api.declared.answer.TurnPollRet.TheVariants.{
+  WaitUntil,
+};
 ghost use Rattle.turn_client_proto_poll.specs.Drawing.{IsDrawn, IsStill, Sent};
 ghost use Rattle.turn_client_proto_poll.specs.Polling.{IsPolled};
 ghost use Rattle.turn_client_proto_core.specs.declared.protocol.Protocol.{Protocol};
 
 use turn_client_proto_core::laws::agent_laws;
 
-/// A client that is told to wait has nothing to send before the wait is over: after `poll` answered a
-/// moment later than now, `poll_transmit` answers `None` at every moment from now on and before that
-/// one, and changes nothing, where no other call comes between (RFC 8489, section 6.2.1).
+/// A client that is told to wait has nothing to send before the wait is over: after `poll` answered
+/// a moment later than now, `poll_transmit` answers `None` at every moment from now on and before
+/// that one, and changes nothing, where no other call comes between (RFC 8489, section 6.2.1).
 pub fn nothing_is_sent_before()
     ensures { (old new after : Protocol) (now until moment : ℕ) (sent : Option Sent)
         → IsPolled old now (WaitUntil until) new → now < until → now ≤ moment → moment < until

@@ -1,6 +1,7 @@
-//! What a TURN client does as time goes on (RFC 8656): [`polling`] says what is to be done and until when
-//! there is nothing, and [`drawing`] what is to be sent. [`laws`] has what the two promise each other.
-#![tactic(auto)]
+//! What a TURN client does as time goes on (RFC 8656): [`polling`] says what is to be done and
+//! until when there is nothing, and [`drawing`] what is to be sent. [`laws`] has what the two
+//! promise each other.
+#![tactic(auto, using(crate::proofs::Usual::usual), unfolding(crate::proofs::Usual::opened))]
 
 pub mod drawing;
 pub mod laws;

@@ -6,7 +6,12 @@ ghost use Rattle.turn_client_proto_core.specs.Allocation.Permissions.{has_lapsed
 ghost use Rattle.turn_client_proto_core.specs.Moments.{moment_after};
 ghost use Rattle.turn_client_proto_core.specs.Permission.Telling.{all_failures};
 ghost use Rattle.turn_client_proto_core.specs.Ending.{IsUnderWay};
-ghost use Rattle.turn_client_proto_poll.specs.Polling.{HasToTell, HasToTellIn, IsPolled, IsPolledBy, IsPolledIn, IsPolledSent, IsPolledStanding, IsTicked, answer_of, cadence, ended_of, left, longest_pause, loses_any, ready_after, wait_of, wait_to_send, waits_until};
+ghost use Rattle.turn_client_proto_poll.specs.Polling.{HasToTell, HasToTellIn, IsPolled};
+ghost use Rattle.turn_client_proto_poll.specs.Polling.{IsPolledBy, IsPolledIn, IsPolledSent};
+ghost use Rattle.turn_client_proto_poll.specs.Polling.{IsPolledStanding, IsTicked, answer_of};
+ghost use Rattle.turn_client_proto_poll.specs.Polling.{cadence, ended_of, left, longest_pause};
+ghost use Rattle.turn_client_proto_poll.specs.Polling.{loses_any, ready_after, wait_of};
+ghost use Rattle.turn_client_proto_poll.specs.Polling.{wait_to_send, waits_until};
 
 use std::time::Duration;
 use stun_types::NoMemory;
@@ -95,9 +100,9 @@ fn answer_of(
 /// ended or has no allocation left, and else the moment until which nothing is to be done, at most
 /// 9999 seconds from now; it is now where a request has ended.
 ///
-/// Memory is asked for where no event waits and something is to be told: that an ALLOCATE ended without
-/// a response, or that a permission did, or has lapsed. Where it is refused, `NoMemory`, and the client
-/// has failed.
+/// Memory is asked for where no event waits and something is to be told: that an ALLOCATE ended
+/// without a response, or that a permission did, or has lapsed. Where it is refused, `NoMemory`,
+/// and the client has failed.
 pub fn poll(protocol: &mut Protocol, now: Instant) -> TurnPollRet
     ensures { IsPolled protocol.old now result protocol.new }
 {
@@ -136,7 +141,6 @@ fn ready_after(protocol: &Protocol, now: Instant) -> Instant
 }
 
 /// Polls the agent, and does what follows, where no event waits.
-#[tactic(auto, using(crate::proofs::Prefixes::front_kept, crate::proofs::Prefixes::whole_kept))]
 fn tick(protocol: &mut Protocol, now: Instant) -> Result<TurnPollRet, NoMemory>
     ensures ok { IfOk result (λ answer. IsTicked protocol.old now answer protocol.new) }
     ensures named { IfOk result (λ answer. answer ≢ TurnPollRet.NoMemory) }
@@ -150,7 +154,6 @@ fn tick(protocol: &mut Protocol, now: Instant) -> Result<TurnPollRet, NoMemory>
 }
 
 /// Does what follows from what the agent told.
-#[tactic(auto, using(crate::proofs::Prefixes::front_kept, crate::proofs::Prefixes::whole_kept))]
 fn follow(
     protocol: &mut Protocol,
     ended: &Option<TransactionId>,
@@ -193,7 +196,6 @@ fn has_any_lapsed(permissions: &[Permission], now: Instant) -> bool
 }
 
 /// Whether a permission of an allocation goes.
-#[tactic(auto, unfolding(crate::specs::Polling::loses_any))]
 fn loses_any(a: &Allocation, ended: &Option<TransactionId>, now: Instant) -> bool
     ensures { result ≡ loses_any ended.now now a.now }
 {
@@ -209,7 +211,6 @@ fn is_any_lost(allocations: &[Allocation], ended: &Option<TransactionId>, now: I
 }
 
 /// Tells the permissions that go. Where none does, no memory is asked for.
-#[tactic(auto, using(crate::proofs::Prefixes::front_kept, crate::proofs::Prefixes::whole_kept, crate::proofs::Losses::nothing_told))]
 fn tell_lost(
     protocol: &mut Protocol,
     ended: &Option<TransactionId>,
@@ -230,7 +231,6 @@ fn tell_lost(
 }
 
 /// Lets time come to a moment for the allocations and their permissions.
-#[tactic(auto, using(crate::proofs::Prefixes::front_kept, crate::proofs::Prefixes::whole_kept), unfolding(crate::specs::Polling::after_time))]
 fn poll_allocations(
     protocol: &mut Protocol,
     ended: &Option<TransactionId>,
