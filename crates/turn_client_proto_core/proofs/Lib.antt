@@ -2,6 +2,7 @@ pub mod Deleting
 pub mod Granting
 pub mod Numbers
 pub mod Results
+pub mod Shown
 pub mod UnderWay
 pub mod Usual
 -- What stands above this crate has these through it.

@@ -1,9 +1,13 @@
 -- The numbers of messages.
-use Rattle.std.proofs.Common.{◌≡◌, ℕ, ◌+◌, ◌-◌, ◌%◌, ◌^◌, ◌<◌, ◌≤◌, true, ltb, arith, refl, sym, ap, ◌∙◌, subst, inl, inr}
+use Rattle.std.proofs.Common.{◌≡◌, ℕ, ◌+◌, ◌-◌, ◌%◌, ◌^◌, ◌<◌, ◌≤◌, Bool, true, false, Option, Some, None, ltb, arith, refl, sym, ap, ◌∙◌, subst, inl, inr}
+use Rattle.std.specs.Prelude.{◌||◌, is_some}
+use Rattle.std.specs.FinMap as map
 use Rattle.std.proofs.lemmas.Bool.{cases_Bool, ltb-false, ltb-true}
 use Rattle.std.proofs.Math.Nat.{add-mod_left, mod-add-mod, mod-eq_of_lt, mod-lt}
 use Rattle.rand_chacha.specs.ChaCha.{ChaCha}
-use Rattle.turn_client_proto_core.specs.Numbering.{AreAllTaken, IsFirstFree, behind, is_taken}
+use Rattle.turn_client_proto_allocation.specs.Listed.{is_any_awaited}
+use Rattle.turn_client_proto_api.specs.State.{Agent}
+use Rattle.turn_client_proto_core.specs.Numbering.{AreAllTaken, IsFirstFree, IsUnused, after_number, awaits, behind, is_taken}
 use Rattle.turn_client_proto_core.specs.declared.protocol.Protocol.{Protocol}
 
 -- which numbers are taken has nothing to do with the generator
@@ -41,3 +45,17 @@ all_taken p from passed = λ number there.
 
 pub still_all : (p : Protocol) (rng : ChaCha) → AreAllTaken (record p { rng = rng }) → AreAllTaken p
 still_all p rng all = λ number there. sym (same_taken p rng number) ∙ all number there
+
+-- under a number that was drawn no request is outstanding
+none_there : {A : Type 0} (found : Option A) (awaited : Bool) → (is_some found || awaited) ≡ false → found ≡ None
+none_there None awaited free = refl
+none_there (Some x) awaited free = cc
+
+pub unused : (old new : Protocol) (from number : ℕ) → IsFirstFree old from number → new ≡ after_number old → IsUnused new.agent number
+unfolding is_taken
+unused old new from number first after =
+    let here : IsUnused old.agent number = record {
+      fits = subst (λ (n : ℕ). n < 2 ^ 96) (sym first.is) (mod-lt (from + first.steps) (omega arith));
+      none = none_there (map.get old.agent.outstanding number) (awaits number old.phase || is_any_awaited number old.allocations) first.free;
+    } in
+    subst (λ (a : Agent). IsUnused a number) (sym (ap (λ (p : Protocol). p.agent) after)) here

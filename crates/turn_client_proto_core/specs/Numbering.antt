@@ -1,9 +1,10 @@
 -- The numbers of a client's messages (RFC 8489, section 5).
-use Rattle.std.specs.Prelude.{◌≡◌, ◌⊎◌, ℕ, ◌+◌, ◌*◌, ◌%◌, ◌^◌, ◌<◌, Bool, ◌||◌, true, false, is_some}
+use Rattle.std.specs.Prelude.{◌≡◌, ◌⊎◌, ℕ, ◌+◌, ◌*◌, ◌%◌, ◌^◌, ◌<◌, Bool, ◌||◌, true, false, None, is_some}
 use Rattle.std.specs.FinMap as map
 use Rattle.rand_chacha.specs.ChaCha.{ChaCha, next_word}
 use Rattle.turn_client_proto_allocation.specs.Awaited.{has_number}
 use Rattle.turn_client_proto_allocation.specs.Listed.{is_any_awaited}
+use Rattle.turn_client_proto_api.specs.State.{Agent}
 use Rattle.turn_client_proto_core.specs.declared.protocol.Phase.{Phase}
 use Rattle.turn_client_proto_core.specs.declared.protocol.Phase.TheVariants.{Initial, InitialSent, Authenticating, Authenticated, Ended}
 use Rattle.turn_client_proto_core.specs.declared.protocol.Protocol.{Protocol}
@@ -43,6 +44,11 @@ pub record IsFirstFree (p : Protocol) (from number : ℕ) : Type 0 where
   pub is : number ≡ behind from steps
   pub passed : (k : ℕ) → k < steps → is_taken p (behind from k) ≡ true
   pub free : is_taken p number ≡ false
+
+-- a number that a request can be sent under: none of it is outstanding
+pub record IsUnused (agent : Agent) (number : ℕ) : Type 0 where
+  pub fits : number < 2 ^ 96
+  pub none : map.get agent.outstanding number ≡ None
 
 -- every number there is is taken
 abbrev pub AreAllTaken : Protocol → Type 0

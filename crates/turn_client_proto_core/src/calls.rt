@@ -6,7 +6,7 @@ ghost use Rattle.turn_client_proto_request.specs.declared.request.TurnRequest.Th
 ghost use Rattle.turn_client_proto_core.specs.Asking.{asked};
 ghost use Rattle.turn_client_proto_core.specs.Deleting.{IsDeleteAnswered, after_delete};
 ghost use Rattle.turn_client_proto_core.specs.Deleting.{delete_refusal, is_authenticated};
-ghost use Rattle.turn_client_proto_core.specs.Numbering.{after_number};
+ghost use Rattle.turn_client_proto_core.specs.Numbering.{IsUnused, after_number};
 
 use crate::protocol::{Phase, Protocol};
 use stun_types::NoMemory;
@@ -46,6 +46,7 @@ impl Protocol {
 
     /// Asks for the end by a REFRESH of this number, or changes nothing.
     fn delete_by(&mut self, number: TransactionId, now: Instant) -> Result<(), NoMemory>
+        requires unused { IsUnused self.old.agent number }
         ensures ok { OnOk result (self.new ≡ record (asked self.old (Refresh 0) number now) {
           allocations = map (deleted number now) self.old.allocations;
         }) }

@@ -13,7 +13,7 @@ ghost use Rattle.turn_client_proto_request.specs.declared.request.TurnRequest.Th
 };
 ghost use Rattle.turn_client_proto_core.specs.Asking.{asked};
 ghost use Rattle.turn_client_proto_core.specs.Ending.{IsUnderWay};
-ghost use Rattle.turn_client_proto_core.specs.Numbering.{IsNextNumber, after_number};
+ghost use Rattle.turn_client_proto_core.specs.Numbering.{IsNextNumber, IsUnused, after_number};
 ghost use Rattle.turn_client_proto_core.specs.Permitting.{IsAskingAgain, IsGrantedFor};
 ghost use Rattle.turn_client_proto_core.specs.Permitting.{IsPermissionAnswered};
 ghost use Rattle.turn_client_proto_core.specs.Permitting.{IsPermissionResponded, IsPermittingAgain};
@@ -104,7 +104,8 @@ impl Protocol {
         number: TransactionId,
         now: Instant,
     ) -> Result<(), NoMemory>
-        requires { place < length self.old.allocations }
+        requires there { place < length self.old.allocations }
+        requires unused { IsUnused self.old.agent number }
         ensures lawful { IsLawfulRequest (CreatePermission ip) }
         ensures ok { OnOk result (IfSome (slice_get self.old.allocations place) (λ a. self.new
             ≡ record (asked self.old (CreatePermission ip) number now) {

@@ -1,12 +1,15 @@
 -- What most functions here are proved by, under one name.
+use Rattle.turn_client_proto_core.specs.Sending.{request_refusal}
 use Rattle.turn_client_proto_core.proofs.Allocation.Prefixes.{front_kept, whole_kept}
+use Rattle.turn_client_proto_core.proofs.Numbers.{unused}
+use Rattle.turn_client_proto_core.proofs.Shown.{none_shown}
 use Rattle.turn_client_proto_poll.specs.Drawing.{first_allocated, first_permitted, first_refreshed, sent_at_once}
 use Rattle.turn_client_proto_poll.specs.Polling.{after_time, loses_any}
 use Rattle.turn_client_proto_poll.proofs.Losses.{nothing_told}
 
-pub ruleset usual = (front_kept, whole_kept, nothing_told)
+pub ruleset usual = (front_kept, whole_kept, nothing_told, unused, none_shown)
 
 -- What calls make of a client, to be opened: to unfold this one is to unfold all that its line names.
 unfoldable pub opened : Type 0
-unfolding first_allocated first_permitted first_refreshed sent_at_once after_time loses_any
+unfolding first_allocated first_permitted first_refreshed sent_at_once after_time loses_any request_refusal
 opened = Unit {0}

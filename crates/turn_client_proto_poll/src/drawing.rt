@@ -13,7 +13,7 @@ ghost use Rattle.turn_client_proto_poll.specs.Drawing.{first_allocated, first_pe
 ghost use Rattle.turn_client_proto_poll.specs.Drawing.{first_refreshed, is_resting, sent_at_once};
 ghost use Rattle.turn_client_proto_poll.specs.Drawing.{sent_of};
 ghost use Rattle.turn_client_proto_core.specs.Ending.{HasFailed, IsUnderWay};
-ghost use Rattle.turn_client_proto_core.specs.Numbering.{IsNextNumber};
+ghost use Rattle.turn_client_proto_core.specs.Numbering.{IsNextNumber, IsUnused};
 
 use crate::polling::next_send;
 use std::net::{IpAddr, SocketAddr};
@@ -21,6 +21,7 @@ use stun_types::data::{Data, DataOwned};
 use stun_types::message::TransactionId;
 use stun_types::{ListOf, NoMemory, Transmit, TransportType};
 use turn_client_proto_core::Instant;
+use turn_client_proto_core::agent::StunError;
 use turn_client_proto_core::allocation::refresh::PendingRefresh;
 use turn_client_proto_core::permission::wanting::{Want, refresh_first, renew_first, wanted};
 use turn_client_proto_core::protocol::{Phase, Protocol};
@@ -216,6 +217,7 @@ fn send_at_once(
     request: TurnRequest,
     now: Instant,
 ) -> Result<Transmit<Data<'static>>, NoMemory>
+    requires unused { IsUnused protocol.old.agent number }
     ensures sent { IfOk result (λ sent. sent_of sent ≡ record {
       bytes = request_text protocol.old.auth request number;
       transport = protocol.old.agent.transport;
@@ -233,6 +235,10 @@ fn send_at_once(
         .send_request(bytes.as_slice(), protocol.server, now)
     {
         Ok(_) => {}
+        // No request of the number is outstanding.
+        Err(StunError::AlreadyInProgress) => unreachable!(),
+        // Memory is refused, or the text is no message: the signer writes none such, but no clause
+        // of it says so.
         Err(_) => return Err(NoMemory),
     }
     let transport = protocol.agent.transport();

@@ -1,0 +1,34 @@
+-- The number that a request shows.
+use Rattle.std.proofs.Common.{◌≡◌, ℕ, ◌<◌, ◌^◌, Bool, true, false, Option, Some, None, refl, ap, ◌∙◌, arith}
+use Rattle.std.specs.Prelude.{◌≢◌, is_some}
+use Rattle.std.specs.FinMap as map
+use Rattle.stun_types.specs.Grammar.{number_at}
+use Rattle.stun_types.specs.Text.{header_text, message_text}
+use Rattle.turn_client_proto_api.specs.Client.{Client}
+use Rattle.turn_client_proto_api.specs.State.{Agent}
+use Rattle.turn_client_proto_request.specs.Requests.{request_text}
+use Rattle.turn_client_proto_request.specs.ShortTexts.{HasShortTexts}
+use Rattle.turn_client_proto_request.specs.declared.request.TurnRequest.{TurnRequest}
+use Rattle.turn_client_proto_request.specs.declared.request.TurnRequest.TheVariants.{Refresh}
+use Rattle.turn_client_proto_request.proofs.Reading.{number_law}
+use Rattle.turn_client_proto_core.specs.Numbering.{IsUnused}
+
+-- a client that signs nothing
+abbrev bare : Client → Client
+bare client = record client { account = None; challenge = None }
+
+bare_short : (client : Client) → HasShortTexts (bare client)
+bare_short client = record { username = tt; challenge = tt }
+
+-- the number stands in the header: what is asked for, and who signs it, makes no difference
+same_number : (client other : Client) (request another : TurnRequest) (number : ℕ) → number_at (request_text client request number) ≡ number_at (request_text other another number)
+unfolding request_text message_text header_text number_at
+same_number client other request another number = refl
+
+pub number_shown : (client : Client) (request : TurnRequest) (number : ℕ) → number < 2 ^ 96 → number_at (request_text client request number) ≡ number
+number_shown client request number fits =
+    same_number client (bare client) request (Refresh 0) number ∙ number_law (bare client) (Refresh 0) number (bare_short client) (omega arith) fits
+
+-- no request is outstanding under the number that a request of an unused number shows
+pub none_shown : (agent : Agent) (client : Client) (request : TurnRequest) (number : ℕ) → IsUnused agent number → map.get agent.outstanding (number_at (request_text client request number)) ≡ None
+none_shown agent client request number free = ap (λ (n : ℕ). map.get agent.outstanding n) (number_shown client request number free.fits) ∙ free.none
