@@ -1,7 +1,6 @@
 //! What a client that has not allocated makes of a message (RFC 8656, sections 7.3 and 7.4).
 
 ghost use Rattle.std.specs.Prelude.{◌≡◌, ◌++◌, ◌∷◌, [], ℕ, IfOk, OnOk, OnErr, Some, None, true};
-ghost use Rattle.std.specs.Prelude.{false};
 ghost use Rattle.turn_client_proto_api.specs.Handling.{is_awaited, is_response};
 ghost use Rattle.stun_types.specs.Attributes.{kind_at};
 ghost use Rattle.stun_types.specs.Grammar.{number_at};
@@ -20,7 +19,7 @@ ghost use Rattle.turn_client_proto_core.specs.Ending.{IsUnderWay};
 ghost use Rattle.turn_client_proto_core.specs.Numbering.{IsNextNumber, after_number};
 ghost use Rattle.turn_client_proto_core.specs.Receiving.{GrowsBy, GrowsFirst, GrowsSigned};
 ghost use Rattle.turn_client_proto_core.specs.Receiving.{IsFollowed};
-ghost use Rattle.turn_client_proto_core.specs.Responding.{accepted, answered, challenged, is_tired};
+ghost use Rattle.turn_client_proto_core.specs.Responding.{accepted, answered, is_tired};
 
 use crate::protocol::{Phase, Protocol};
 use std::alloc::Global;
@@ -35,10 +34,6 @@ use turn_client_proto_api::families::RequestedFamilies;
 use turn_client_proto_request::request::TurnRequest;
 use turn_client_proto_response::told::first_code;
 
-/// After so many challenges that were answered without an accepted response between, the next one
-/// ends the client.
-const MOST_RESENDS: u32 = 8;
-
 /// The family that is left where the server has no addresses of IPv4, and both were asked for.
 fn other_family(families: RequestedFamilies) -> Option<AddressFamily>
     ensures { result ≡ other_family families }
@@ -47,56 +42,6 @@ fn other_family(families: RequestedFamilies) -> Option<AddressFamily>
         Some(AddressFamily::IPV6)
     } else {
         None
-    }
-}
-
-impl Protocol {
-    /// Whether a request of a message's number is outstanding.
-    pub(crate) fn is_awaited(&self, message: &Message<'_>) -> bool
-        ensures { result ≡ is_awaited self.now.agent message.now }
-    {
-        self.agent
-            .request_transaction(message.transaction_id())
-            .is_some()
-    }
-
-    /// Whether too many challenges were answered without an accepted response between.
-    pub(crate) fn is_tired(&self) -> bool
-        ensures { result ≡ is_tired self.now }
-    {
-        self.resends > MOST_RESENDS
-    }
-
-    /// A response ends its transaction. Where memory is refused, nothing changes.
-    pub(crate) fn answer(&mut self, message: &Message<'_>) -> Result<(), NoMemory>
-        ensures ok { OnOk result (self.new ≡ answered message.now self.old) }
-        ensures err { OnErr result (self.new ≡ self.old) }
-    {
-        let _ = self.agent.handle_stun_message(message, self.server)?;
-        Ok(())
-    }
-
-    /// A response is accepted: its transaction ends, and the challenges before it count no more.
-    /// Where memory is refused, nothing changes.
-    pub(crate) fn accept(&mut self, message: &Message<'_>) -> Result<(), NoMemory>
-        ensures ok { OnOk result (self.new ≡ accepted message.now self.old) }
-        ensures err { OnErr result (self.new ≡ self.old) }
-    {
-        self.answer(message)?;
-        self.resends = 0;
-        Ok(())
-    }
-
-    /// A challenge was answered: its transaction ends, and it is counted. Where memory is refused,
-    /// nothing changes.
-    pub(crate) fn count_challenge(&mut self, message: &Message<'_>) -> Result<(), NoMemory>
-        requires { is_tired self.old ≡ false }
-        ensures ok { OnOk result (self.new ≡ challenged message.now self.old) }
-        ensures err { OnErr result (self.new ≡ self.old) }
-    {
-        self.answer(message)?;
-        self.resends += 1;
-        Ok(())
     }
 }
 

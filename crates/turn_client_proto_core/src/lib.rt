@@ -14,6 +14,7 @@ pub mod permitting;
 pub mod protocol;
 pub mod receiving;
 pub mod standing;
+pub mod transactions;
 
 // What stands above this crate has these through it.
 pub use turn_client_proto_allocation as allocation;
