@@ -2,12 +2,10 @@
 use Rattle.std.specs.Prelude.{◌≡◌, ℕ, Bool, List, [], ◌∷◌, ◌++◌, find, map, Option, Some, None, Result, Err, MatchResult, IfSome, IfNone, if◌then◌else◌}
 use Rattle.std.specs.Bool.{MatchBool}
 use Rattle.std.specs.declared.net.ip_addr.IpAddr.{IpAddr}
-use Rattle.std.specs.declared.net.ip_addr.IpAddr.TheVariants.{V4, V6}
 use Rattle.stun_types.specs.Attributes.{kind_at}
 use Rattle.stun_types.specs.Grammar.{number_at}
+pub use Rattle.stun_types.specs.Family.{family_of_ip}
 use Rattle.stun_types.specs.Types.{class_of}
-use Rattle.stun_types.specs.declared.family.AddressFamily.{AddressFamily}
-use Rattle.stun_types.specs.declared.family.AddressFamily.TheVariants.{IPV4, IPV6}
 use Rattle.stun_types.specs.declared.transport.TransportType.{TransportType}
 use Rattle.turn_client_proto_allocation.specs.Changes.{change_first}
 use Rattle.turn_client_proto_allocation.specs.declared.allocation.Allocation.{Allocation}
@@ -27,10 +25,6 @@ use Rattle.turn_client_proto_core.specs.declared.protocol.Phase.{Phase}
 use Rattle.turn_client_proto_core.specs.declared.protocol.Protocol.{Protocol}
 
 -- ---- a caller asks for one
-
-abbrev pub family_of_ip : IpAddr → AddressFamily
-family_of_ip (V4 ip) = IPV4
-family_of_ip (V6 ip) = IPV6
 
 -- the allocation in which a permission for an address is asked for: the first of the transport and of the address's family
 abbrev pub allocation_for : TransportType → IpAddr → Protocol → Option Allocation

@@ -18,7 +18,7 @@ ghost use Rattle.turn_client_proto_core.specs.Permitting.{IsAskingAgain, IsGrant
 ghost use Rattle.turn_client_proto_core.specs.Permitting.{IsPermissionAnswered};
 ghost use Rattle.turn_client_proto_core.specs.Permitting.{IsPermissionResponded, IsPermittingAgain};
 ghost use Rattle.turn_client_proto_core.specs.Permitting.{IsRefusedFor, IsRenewingAgain};
-ghost use Rattle.turn_client_proto_core.specs.Permitting.{family_of_ip, permits_again};
+ghost use Rattle.turn_client_proto_core.specs.Permitting.{permits_again};
 ghost use Rattle.turn_client_proto_core.specs.Responding.{is_tired};
 
 use crate::protocol::Protocol;
@@ -32,16 +32,6 @@ use turn_client_proto_api::event::TurnEvent;
 use turn_client_proto_permission::{asking, granted, one};
 use turn_client_proto_request::laws::requests_are_lawful;
 use turn_client_proto_request::request::TurnRequest;
-
-/// The family of an address.
-fn family_of_ip(ip: &IpAddr) -> AddressFamily
-    ensures { result ≡ family_of_ip ip.now }
-{
-    match ip {
-        IpAddr::V4(_) => AddressFamily::IPV4,
-        IpAddr::V6(_) => AddressFamily::IPV6,
-    }
-}
 
 impl Protocol {
     /// Asks for a permission for an address (RFC 8656, section 10.1), in the first allocation of a
@@ -58,7 +48,7 @@ impl Protocol {
     ) -> Result<(), CreatePermissionError>
         ensures { IsPermissionAnswered self.old transport ip now result self.new }
     {
-        let family = family_of_ip(&ip);
+        let family = AddressFamily::from(&ip);
         let Some(place) = asking::place_of(self.allocations.as_slice(), transport, family) else {
             return Err(CreatePermissionError::NoAllocation);
         };

@@ -11,13 +11,13 @@ use Rattle.turn_client_proto_core.proofs.protocol.Protocol.create_permission.Goa
 pub returns-in_default : goal.returns-in_default
 returns-in_default c =
     let old = c.args.self.now in
-    refused_by old c.args.transport c.args.ip c.args.now None (nowhere old c.args.transport c.args.ip c.args.now (place_is old c.args.transport c.args.ip c.args.now c.place_of.result None c.family_of_ip-family.result c.as_slice.result.now c.family_of_ip-family.ensures c.as_slice.ensures c.place_of.ensures c.in_default.is)) NoAllocation old refl refl
+    refused_by old c.args.transport c.args.ip c.args.now None (nowhere old c.args.transport c.args.ip c.args.now (place_is old c.args.transport c.args.ip c.args.now c.place_of.result None c.from-family.result c.as_slice.result.now c.from-family.ensures c.as_slice.ensures c.place_of.ensures c.in_default.is)) NoAllocation old refl refl
 
 pub returns-then-is_past : goal.returns-then-is_past
 returns-then-is_past c =
     let old = c.args.self.now in
     let a = c.index-as_slice-place.result in
-    let here = place_is old c.args.transport c.args.ip c.args.now c.place_of.result (Some c.in-Some.place) c.family_of_ip-family.result c.as_slice.result.now c.family_of_ip-family.ensures c.as_slice.ensures c.place_of.ensures c.in-Some.is in
+    let here = place_is old c.args.transport c.args.ip c.args.now c.place_of.result (Some c.in-Some.place) c.from-family.result c.as_slice.result.now c.from-family.ensures c.as_slice.ensures c.place_of.ensures c.in-Some.is in
     let at = c.index-as_slice-place.is ∙ ap (λ l. get_or l c.in-Some.place a) c.as_slice-2.ensures in
     let is = sym c.is_past.ensures ∙ c.if-is_past.true in
     refused_by old c.args.transport c.args.ip c.args.now (Some a) (found old c.args.transport c.args.ip c.args.now c.in-Some.place a here at) NoAllocation _
@@ -28,7 +28,7 @@ pub returns-then-knows : goal.returns-then-knows
 returns-then-knows c =
     let old = c.args.self.now in
     let a = c.index-as_slice-place.result in
-    let here = place_is old c.args.transport c.args.ip c.args.now c.place_of.result (Some c.in-Some.place) c.family_of_ip-family.result c.as_slice.result.now c.family_of_ip-family.ensures c.as_slice.ensures c.place_of.ensures c.in-Some.is in
+    let here = place_is old c.args.transport c.args.ip c.args.now c.place_of.result (Some c.in-Some.place) c.from-family.result c.as_slice.result.now c.from-family.ensures c.as_slice.ensures c.place_of.ensures c.in-Some.is in
     let at = c.index-as_slice-place.is ∙ ap (λ l. get_or l c.in-Some.place a) c.as_slice-2.ensures in
     let not_past = sym c.is_past.ensures ∙ c.if-is_past.false in
     refused_by old c.args.transport c.args.ip c.args.now (Some a) (found old c.args.transport c.args.ip c.args.now c.in-Some.place a here at) AlreadyExists old
@@ -39,7 +39,7 @@ pub returns-then-not-is_authenticated : goal.returns-then-not-is_authenticated
 returns-then-not-is_authenticated c =
     let old = c.args.self.now in
     let a = c.index-as_slice-place.result in
-    let here = place_is old c.args.transport c.args.ip c.args.now c.place_of.result (Some c.in-Some.place) c.family_of_ip-family.result c.as_slice.result.now c.family_of_ip-family.ensures c.as_slice.ensures c.place_of.ensures c.in-Some.is in
+    let here = place_is old c.args.transport c.args.ip c.args.now c.place_of.result (Some c.in-Some.place) c.from-family.result c.as_slice.result.now c.from-family.ensures c.as_slice.ensures c.place_of.ensures c.in-Some.is in
     let at = c.index-as_slice-place.is ∙ ap (λ l. get_or l c.in-Some.place a) c.as_slice-2.ensures in
     let not_past = sym c.is_past.ensures ∙ c.if-is_past.false in
     refused_by old c.args.transport c.args.ip c.args.now (Some a) (found old c.args.transport c.args.ip c.args.now c.in-Some.place a here at) NoAllocation old
@@ -50,7 +50,7 @@ pub returns-in-Ok : goal.returns-in-Ok
 returns-in-Ok c =
     let old = c.args.self.now in
     let a = c.index-as_slice-place.result in
-    let here = place_is old c.args.transport c.args.ip c.args.now c.place_of.result (Some c.in-Some.place) c.family_of_ip-family.result c.as_slice.result.now c.family_of_ip-family.ensures c.as_slice.ensures c.place_of.ensures c.in-Some.is in
+    let here = place_is old c.args.transport c.args.ip c.args.now c.place_of.result (Some c.in-Some.place) c.from-family.result c.as_slice.result.now c.from-family.ensures c.as_slice.ensures c.place_of.ensures c.in-Some.is in
     let at = c.index-as_slice-place.is ∙ ap (λ l. get_or l c.in-Some.place a) c.as_slice-2.ensures in
     let not_past = sym c.is_past.ensures ∙ c.if-is_past.false in
     let within = position-Some (is_of c.args.transport (family_of_ip c.args.ip)) old.allocations c.in-Some.place a here in
@@ -64,7 +64,7 @@ pub returns-in-Err : goal.returns-in-Err
 returns-in-Err c =
     let old = c.args.self.now in
     let a = c.index-as_slice-place.result in
-    let here = place_is old c.args.transport c.args.ip c.args.now c.place_of.result (Some c.in-Some.place) c.family_of_ip-family.result c.as_slice.result.now c.family_of_ip-family.ensures c.as_slice.ensures c.place_of.ensures c.in-Some.is in
+    let here = place_is old c.args.transport c.args.ip c.args.now c.place_of.result (Some c.in-Some.place) c.from-family.result c.as_slice.result.now c.from-family.ensures c.as_slice.ensures c.place_of.ensures c.in-Some.is in
     let at = c.index-as_slice-place.is ∙ ap (λ l. get_or l c.in-Some.place a) c.as_slice-2.ensures in
     let not_past = sym c.is_past.ensures ∙ c.if-is_past.false in
     answered_by old c.args.transport c.args.ip c.args.now (Some a) (found old c.args.transport c.args.ip c.args.now c.in-Some.place a here at) (Err NoMemory) c.ask_permission.new.self
