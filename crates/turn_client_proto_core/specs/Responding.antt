@@ -5,7 +5,8 @@ use Rattle.turn_client_proto_api.specs.Handling.{after_message}
 use Rattle.stun_types.specs.MessageClasses.{MessageClass, Error}
 use Rattle.turn_client_proto_core.specs.declared.protocol.Protocol.{Protocol}
 
--- after so many challenges that were answered without an accepted response between, the next one ends the client
+-- a client that has answered more challenges than this in a row, with no accepted response between, answers no more:
+-- the tenth ends it
 abbrev pub most_resends : ℕ
 most_resends = 8
 

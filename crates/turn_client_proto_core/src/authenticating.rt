@@ -5,9 +5,7 @@ ghost use Rattle.turn_client_proto_api.specs.Handling.{is_awaited, is_response};
 ghost use Rattle.stun_types.specs.Attributes.{kind_at};
 ghost use Rattle.stun_types.specs.Grammar.{number_at};
 ghost use Rattle.stun_types.specs.Types.{class_of};
-ghost use Rattle.turn_client_proto_request.specs.declared.request.TurnRequest.TheVariants.{
-  Allocate,
-};
+ghost use Rattle.turn_client_proto_request.specs.declared.request.TurnRequest.TheVariants.{Allocate};
 ghost use Rattle.turn_client_proto_core.specs.Asking.{asked};
 ghost use Rattle.turn_client_proto_core.specs.Authenticating.{IsAccepted, IsAllocateAnswered};
 ghost use Rattle.turn_client_proto_core.specs.Authenticating.{IsChallenged, IsErrorAnswered};

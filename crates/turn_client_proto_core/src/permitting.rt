@@ -8,9 +8,7 @@ ghost use Rattle.stun_types.specs.Grammar.{number_at};
 ghost use Rattle.turn_client_proto_permission.specs.Asking.{all_asked_again, all_renewed_again};
 ghost use Rattle.turn_client_proto_permission.specs.Asking.{asking, peer_asked, peer_renewed};
 ghost use Rattle.turn_client_proto_request.specs.ToldRequests.{IsLawfulRequest};
-ghost use Rattle.turn_client_proto_request.specs.declared.request.TurnRequest.TheVariants.{
-  CreatePermission,
-};
+ghost use Rattle.turn_client_proto_request.specs.declared.request.TurnRequest.TheVariants.{CreatePermission};
 ghost use Rattle.turn_client_proto_core.specs.Asking.{asked};
 ghost use Rattle.turn_client_proto_core.specs.Ending.{IsUnderWay};
 ghost use Rattle.turn_client_proto_core.specs.Numbering.{IsNextNumber, IsUnused, after_number};

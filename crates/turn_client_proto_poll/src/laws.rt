@@ -2,9 +2,7 @@
 //! is a law.
 
 ghost use Rattle.std.specs.Prelude.{◌<◌, ◌≤◌, ℕ, Option};
-ghost use Rattle.turn_client_proto_core.specs.Api.declared.answer.TurnPollRet.TheVariants.{
-  WaitUntil,
-};
+ghost use Rattle.turn_client_proto_core.specs.Api.declared.answer.TurnPollRet.TheVariants.{WaitUntil};
 ghost use Rattle.turn_client_proto_poll.specs.Drawing.{IsDrawn, IsStill, Sent};
 ghost use Rattle.turn_client_proto_poll.specs.Polling.{IsPolled};
 ghost use Rattle.turn_client_proto_core.specs.declared.protocol.Protocol.{Protocol};
