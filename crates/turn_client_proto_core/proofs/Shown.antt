@@ -1,6 +1,5 @@
 -- The number that a request shows.
-use Rattle.std.proofs.Common.{◌≡◌, ℕ, ◌<◌, ◌^◌, Bool, true, false, Option, Some, None, refl, ap, ◌∙◌, arith}
-use Rattle.std.specs.Prelude.{◌≢◌, is_some}
+use Rattle.std.proofs.Common.{◌≡◌, ℕ, ◌<◌, ◌^◌, None, refl, ap, ◌∙◌, arith}
 use Rattle.std.specs.FinMap as map
 use Rattle.stun_types.specs.Grammar.{number_at}
 use Rattle.stun_types.specs.Text.{header_text, message_text}

@@ -1,5 +1,4 @@
 pub mod Draws
-pub mod Losses
 pub mod Polls
 pub mod Quiet
 pub mod Usual

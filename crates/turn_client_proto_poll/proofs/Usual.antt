@@ -4,12 +4,11 @@ use Rattle.turn_client_proto_core.proofs.Allocation.Prefixes.{front_kept, whole_
 use Rattle.turn_client_proto_core.proofs.Numbers.{unused}
 use Rattle.turn_client_proto_core.proofs.Shown.{none_shown}
 use Rattle.turn_client_proto_poll.specs.Drawing.{first_allocated, first_permitted, first_refreshed, sent_at_once}
-use Rattle.turn_client_proto_poll.specs.Polling.{after_time, loses_any}
-use Rattle.turn_client_proto_poll.proofs.Losses.{nothing_told}
+use Rattle.turn_client_proto_poll.specs.Polling.{after_time}
 
-pub ruleset usual = (front_kept, whole_kept, nothing_told, unused, none_shown)
+pub ruleset usual = (front_kept, whole_kept, unused, none_shown)
 
 -- What calls make of a client, to be opened: to unfold this one is to unfold all that its line names.
 unfoldable pub opened : Type 0
-unfolding first_allocated first_permitted first_refreshed sent_at_once after_time loses_any request_refusal
+unfolding first_allocated first_permitted first_refreshed sent_at_once after_time request_refusal
 opened = Unit {0}

@@ -1,13 +1,11 @@
 -- What a client does as time goes on (RFC 8489, section 6.2.1; RFC 8656, section 8).
-use Rattle.std.specs.Prelude.{◌≡◌, ◌≢◌, ℕ, min, max, Bool, ◌||◌, true, List, [], ◌∷◌, ◌++◌, map, Option, Some, None}
+use Rattle.std.specs.Prelude.{◌≡◌, ◌≢◌, ℕ, min, max, true, List, [], ◌∷◌, ◌++◌, map, Option, Some, None}
 use Rattle.std.specs.Bool.{MatchBool}
-use Rattle.std.specs.List.{list_any}
 use Rattle.turn_client_proto_core.specs.AgentPolls.{StunAgentPollRet, TransactionTimedOut, TransactionCancelled, WaitUntil}
 use Rattle.turn_client_proto_core.specs.Least.{IsLeastOf}
 use Rattle.turn_client_proto_core.specs.Moments.{moment_after}
 use Rattle.turn_client_proto_core.specs.State as agents
 use Rattle.turn_client_proto_core.specs.Allocation.Awaited.{is_among}
-use Rattle.turn_client_proto_core.specs.Allocation.Permissions.{has_lapsed, is_over}
 use Rattle.turn_client_proto_core.specs.Allocation.Polling.{kept, nexts, polled}
 use Rattle.turn_client_proto_core.specs.Allocation.declared.allocation.Allocation.{Allocation}
 use Rattle.turn_client_proto_core.specs.Api.declared.answer.TurnPollRet.{TurnPollRet}
@@ -121,17 +119,13 @@ IsPolledBy (e ∷ events) old now ret new = Answers (answer.WaitUntil now) old r
 
 -- ---- when memory may be refused
 
--- whether a permission of an allocation goes: its request ended without a response, or it has lapsed
-unfoldable pub loses_any : Option ℕ → ℕ → Allocation → Bool
-loses_any over now a = list_any (is_over over) a.pending_permissions || list_any (has_lapsed now) a.permissions
-
 -- what is to be told where a transaction may have ended, by how far the client is: that no address is allocated, where
 -- it was an ALLOCATE; or that a permission goes, of an allocation that is left
 abbrev pub HasToTellIn : Phase → Option ℕ → Protocol → ℕ → Type 0
 HasToTellIn Initial over p now = ⊥
 HasToTellIn (InitialSent numbers) over p now = (is_among over numbers ≡ true) × (p.families ≢ [])
 HasToTellIn (Authenticating numbers) over p now = (is_among over numbers ≡ true) × (p.families ≢ [])
-HasToTellIn Authenticated over p now = list_any (loses_any over now) (left over now p) ≡ true
+HasToTellIn Authenticated over p now = permissions.all_failures over now (left over now p) ≢ []
 HasToTellIn Ended over p now = ⊥
 
 -- the agent is polled, and then something is to be told

@@ -1,8 +1,6 @@
 //! What a client does as time goes on.
 
-ghost use Rattle.std.specs.Prelude.{◌≡◌, ◌≢◌, ◌++◌, IfOk, OnErr, OnOk, max, min, true};
-ghost use Rattle.std.specs.List.{list_any};
-ghost use Rattle.turn_client_proto_core.specs.Allocation.Permissions.{has_lapsed, is_over};
+ghost use Rattle.std.specs.Prelude.{◌≡◌, ◌≢◌, [], IfOk, OnErr, max, min};
 ghost use Rattle.turn_client_proto_core.specs.Moments.{moment_after};
 ghost use Rattle.turn_client_proto_core.specs.Permission.Telling.{all_failures};
 ghost use Rattle.turn_client_proto_core.specs.Ending.{IsUnderWay};
@@ -10,7 +8,7 @@ ghost use Rattle.turn_client_proto_poll.specs.Polling.{HasToTell, HasToTellIn, I
 ghost use Rattle.turn_client_proto_poll.specs.Polling.{IsPolledBy, IsPolledIn, IsPolledSent};
 ghost use Rattle.turn_client_proto_poll.specs.Polling.{IsPolledStanding, IsTicked, answer_of};
 ghost use Rattle.turn_client_proto_poll.specs.Polling.{cadence, ended_of, left, longest_pause};
-ghost use Rattle.turn_client_proto_poll.specs.Polling.{loses_any, ready_after, wait_of};
+ghost use Rattle.turn_client_proto_poll.specs.Polling.{ready_after, wait_of};
 ghost use Rattle.turn_client_proto_poll.specs.Polling.{wait_to_send, waits_until};
 
 use std::time::Duration;
@@ -20,7 +18,6 @@ use turn_client_proto_core::Instant;
 use turn_client_proto_core::agent::StunAgentPollRet;
 use turn_client_proto_core::allocation::allocation::Allocation;
 use turn_client_proto_core::allocation::numbers::is_among;
-use turn_client_proto_core::allocation::permission::{PendingPermission, Permission};
 use turn_client_proto_core::api::answer::TurnPollRet;
 use turn_client_proto_core::permission::telling;
 use turn_client_proto_core::protocol::{Phase, Protocol};
@@ -181,55 +178,6 @@ fn follow(
     }
 }
 
-/// Whether a permission that was asked for goes: its request ended without a response.
-fn is_any_over(pending: &[PendingPermission], ended: &Option<TransactionId>) -> bool
-    ensures { result ≡ list_any (is_over ended.now) pending.now }
-{
-    pending.iter().any(|p| p.is_over(ended))
-}
-
-/// Whether a permission that stands goes: it has lapsed.
-fn has_any_lapsed(permissions: &[Permission], now: Instant) -> bool
-    ensures { result ≡ list_any (has_lapsed now) permissions.now }
-{
-    permissions.iter().any(|p| p.has_lapsed(now))
-}
-
-/// Whether a permission of an allocation goes.
-fn loses_any(a: &Allocation, ended: &Option<TransactionId>, now: Instant) -> bool
-    ensures { result ≡ loses_any ended.now now a.now }
-{
-    is_any_over(a.pending_permissions.as_slice(), ended)
-        || has_any_lapsed(a.permissions.as_slice(), now)
-}
-
-/// Whether a permission of one of the allocations goes.
-fn is_any_lost(allocations: &[Allocation], ended: &Option<TransactionId>, now: Instant) -> bool
-    ensures { result ≡ list_any (loses_any ended.now now) allocations.now }
-{
-    allocations.iter().any(|a| loses_any(a, ended, now))
-}
-
-/// Tells the permissions that go. Where none does, no memory is asked for.
-fn tell_lost(
-    protocol: &mut Protocol,
-    ended: &Option<TransactionId>,
-    now: Instant,
-) -> Result<(), NoMemory>
-    ensures ok { OnOk result (protocol.new ≡ record protocol.old {
-      events = protocol.old.events ++ all_failures ended.now now protocol.old.allocations;
-    }) }
-    ensures err { OnErr result (IsUnderWay protocol.old protocol.new) }
-    ensures memory { OnErr result
-        (list_any (loses_any ended.now now) protocol.old.allocations ≡ true) }
-{
-    let allocations = protocol.allocations.as_slice();
-    if !is_any_lost(allocations, ended, now) {
-        return Ok(());
-    }
-    telling::tell_failures(&mut protocol.events, allocations, ended, now)
-}
-
 /// Lets time come to a moment for the allocations and their permissions.
 fn poll_allocations(
     protocol: &mut Protocol,
@@ -242,14 +190,14 @@ fn poll_allocations(
     ensures named { IfOk result (λ answer. answer ≢ TurnPollRet.NoMemory) }
     ensures err { OnErr result (IsUnderWay protocol.old protocol.new) }
     ensures memory { OnErr result
-        (list_any (loses_any ended.now now) (left ended.now now protocol.old) ≡ true) }
+        (all_failures ended.now now (left ended.now now protocol.old) ≢ []) }
 {
     let ready = ready_after(protocol, now);
     let next = protocol.allocations.poll(ended, ready, now, wait);
     let allocations = protocol.allocations.as_slice();
     let earliest = telling::earliest(allocations, ended, ready, now, next);
     let answer = answer_of(allocations, ended, now, earliest);
-    tell_lost(protocol, ended, now)?;
+    telling::tell_failures(&mut protocol.events, allocations, ended, now)?;
     telling::poll(protocol.allocations.as_mut_slice(), ended, now);
     Ok(answer)
 }
