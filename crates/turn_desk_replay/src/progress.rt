@@ -297,6 +297,7 @@ fn run_one(world: &mut World, event: &Event) -> Result<Answer, NoMemory>
     let mut answers = world.run(slice::from_ref(event))?;
     match answers.pop() {
         Some(answer) => Ok(answer),
-        None => Err(NoMemory),
+        // There is one answer to one event.
+        None => unreachable!(),
     }
 }
