@@ -3,6 +3,7 @@ use Rattle.std.proofs.Common.{◌≡◌, ℕ, ◌+◌, List, [], ◌∷◌, ◌+
 use Rattle.turn_client_proto.specs.Runs.{Step, AtClient, AtDesk, given_in}
 use Rattle.turn_client_proto.specs.Kept.{Protocol}
 use Rattle.turn_client_proto_steps.specs.RunClient.{Client, numbers_between}
+use Rattle.turn_client_proto_steps.proofs.Lists.{inside}
 use Rattle.turn_desk_event.specs.declared.answer.Answer.{Answer}
 use Rattle.turn_desk_event.specs.declared.event.Event.{Event}
 use Rattle.turn_desk_event.specs.declared.event.Event.TheVariants.{Call, Draw, ToClient, ToDesk}
@@ -13,9 +14,6 @@ use Rattle.turn_desk_world.specs.Runs.{IsAtClient, IsStep}
 use Rattle.turn_desk_world.specs.Safety.{words}
 use Rattle.turn_desk_world.specs.Told.{IsCallOf, IsStepBy, IsToldBy}
 use Rattle.turn_desk_world.proofs.Determined.{at_client_once, called_once, drawn_once, fed_once}
-
-inside : {A : Type 0} {a b : A} → Some a ≡ Some b → a ≡ b
-inside p = Prim.cc p
 
 -- how many numbers were given in one step
 abbrev given_at : Step Client DeskCall → ℕ

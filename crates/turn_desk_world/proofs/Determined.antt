@@ -20,6 +20,7 @@ use Rattle.turn_client_proto.specs.Kept.{Protocol}
 use Rattle.turn_client_proto.specs.Permitting.{IsPermissionAnswered}
 use Rattle.turn_client_proto.specs.Polling.{IsPolled}
 use Rattle.turn_desk_world.specs.Copies.{IsCopy}
+use Rattle.turn_client_proto_steps.proofs.Lists.{inside}
 use Rattle.turn_client_proto_steps.proofs.Once.Calling.{delete_same, permission_same}
 use Rattle.turn_client_proto_steps.proofs.Once.Drawing.{draw_same}
 use Rattle.turn_client_proto_steps.proofs.Once.Polling.{poll_same}
@@ -184,9 +185,6 @@ called_once call.ProtocolError old now ret again new other a b = end_told old re
 called_once call.RelayedAddresses old now ret again new other a b = relayed_told old ret again new other a b
 
 -- ---- what is sent
-
-inside : {A : Type 0} {a b : A} → Some a ≡ Some b → a ≡ b
-inside p = Prim.cc p
 
 pub drawn_once : (old : Protocol) (now : ℕ) (ret again : Answer) (new other : Protocol) → IsDrawnAs ret old now new → IsDrawnAs again old now other → AreOne ret again new other
 unfolding IsDrawnAs

@@ -35,10 +35,8 @@ run_is_safe pairs old new is transport here server config seed core begins fair 
         once = promise.once;
         shown = promise.shown;
       };
-      each = λ run last account. record {
-        counted = counted words first run last account.leads account.lawful;
-        promised = promised words lawful first run last unasked account.leads account.lawful;
-      };
+      each = λ run last account.
+          (counted words first run last account.leads account.lawful, promised words lawful first run last unasked account.leads account.lawful);
     }
 
 pub account_counts : (first : Client) (old : World) (pairs : List (Event × Answer)) (new : World) (run : List (Step Client DeskCall)) (last : Client) → IsAccount first old pairs new run last → IsCounted words first run last

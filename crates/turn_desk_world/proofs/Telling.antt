@@ -11,6 +11,7 @@ use Rattle.turn_client_proto_steps.specs.RunClient.{Client}
 use Rattle.turn_client_proto_steps.specs.RunSteps.{call_of}
 use Rattle.turn_client_proto_steps.specs.Sound.{IsSound}
 use Rattle.turn_client_proto_steps.proofs.Ending.{still}
+use Rattle.turn_client_proto_steps.proofs.Lists.{inside}
 use Rattle.turn_client_proto_steps.proofs.Polling.{by_test}
 use Rattle.turn_client_proto_steps.proofs.Showing.{shows_step}
 use Rattle.turn_desk_event.specs.declared.answer.Answer.{Answer}
@@ -38,9 +39,6 @@ record IsOne (event : Event) (ret : Answer) (c : Client) (old new : World) : Typ
   sound : IsSound after
   leads : Leads c (one ∷ []) after
   lawful : IsLawful words one
-
-inside : {A : Type 0} {a b : A} → Some a ≡ Some b → a ≡ b
-inside p = Prim.cc p
 
 module _ (event : Event) (c : Client) (sound : IsSound c) (came : List (List ℕ)) (ret : Answer) where
   out_of_range : (new : Protocol) → (ret ≡ OutOfRange) × (new ≡ c.core) → IsAnswered event c came ret new

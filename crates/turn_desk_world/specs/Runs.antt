@@ -69,8 +69,8 @@ IsClientRun old pairs new = IsRun old (filter (λ pair. not (is_at_desk pair)) p
 
 -- nothing else is answered to these events from this world, and none other is left
 abbrev pub IsOnlyRun : World → List (Event × Answer) → World → Type 0
-IsOnlyRun old pairs new = (others : List (Event × Answer)) (left : World) → HaveSameEvents pairs others → IsRun old others left
-    → AreSame pairs others × (new ≡ left)
+IsOnlyRun old pairs new = (others : List (Event × Answer)) (left : World)
+    → HaveSameEvents pairs others → IsRun old others left → AreSame pairs others × (new ≡ left)
 
 -- each side is answered so by its own events alone, and not otherwise; the desk where no two of its users have the same
 -- USERHASH, for such a one may name either (RFC 8489, section 14.4)

@@ -51,7 +51,8 @@ pub record AreSafe (first : Client) (old : World) (pairs : List (Event × Answer
   pub shown : Unless words first run last (AtEach (ShowsTraced words) run)
 
 -- an account of the same
-pub record IsAccount (first : Client) (old : World) (pairs : List (Event × Answer)) (new : World) (run : List (Step Client DeskCall)) (last : Client) : Type 0 where
+pub record IsAccount (first : Client) (old : World) (pairs : List (Event × Answer)) (new : World)
+    (run : List (Step Client DeskCall)) (last : Client) : Type 0 where
   pub told : IsToldBy old pairs run new
   pub left : new.client ≡ Some last.core
   pub leads : Leads first run last
@@ -59,13 +60,10 @@ pub record IsAccount (first : Client) (old : World) (pairs : List (Event × Answ
 
 -- whichever is given, as many numbers count as drawn as the generator gave, and it promises as much: nothing depends on
 -- which is chosen
-pub record IsPromisedOf (first : Client) (run : List (Step Client DeskCall)) (last : Client) : Type 0 where
-  pub counted : IsCounted words first run last
-  pub promised : IsPromised words first run last
-
 abbrev pub IsEachPromised : (first : Client) (old : World) (pairs : List (Event × Answer)) (new : World) → Type 0
-IsEachPromised first old pairs new = (run : List (Step Client DeskCall)) (last : Client) → IsAccount first old pairs new run last
-    → IsPromisedOf first run last
+IsEachPromised first old pairs new = (run : List (Step Client DeskCall)) (last : Client)
+    → IsAccount first old pairs new run last
+    → IsCounted words first run last × IsPromised words first run last
 
 -- both, of each client that begins new in that world
 pub record ArePromised (first : Client) (old : World) (pairs : List (Event × Answer)) (new : World) : Type 0 where

@@ -67,7 +67,8 @@ shown_in happening _ = []
 -- ---- a step
 
 -- a call of the client, to which exactly these bytes came: it draws, tells, hands over and shows what the answer says
-pub record IsCallOf (happening : Event) (old new : World) (came : List (List ℕ)) (answer : Answer) (call : Call Client) : Type 0 where
+pub record IsCallOf (happening : Event) (old new : World) (came : List (List ℕ)) (answer : Answer)
+    (call : Call Client) : Type 0 where
   pub before : old.client ≡ Some call.before.core
   pub after : new.client ≡ Some call.after.core
   pub came_is : call.came ≡ came
@@ -108,7 +109,8 @@ unfoldable pub IsToldBy : World → List (Event × Answer) → List (Step Client
 IsToldBy old [] run new = (run ≡ []) × (new ≡ old)
 IsToldBy old (pair ∷ pairs) run new =
     (next : World) × (one : Step Client DeskCall) × (later : List (Step Client DeskCall))
-    × (run ≡ later ++ one ∷ []) × IsStep pair.0 old pair.1 next × IsStepBy pair.0 pair.1 old one next × IsToldBy next pairs later new
+    × (run ≡ later ++ one ∷ []) × IsStep pair.0 old pair.1 next × IsStepBy pair.0 pair.1 old one next
+    × IsToldBy next pairs later new
 
 -- ---- what is taken for granted of events
 
