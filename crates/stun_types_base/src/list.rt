@@ -2,6 +2,8 @@
 
 ghost use Rattle.std.specs.Prelude.{◌≡◌, ◌==◌, ◌<◌, List, [], ◌∷◌, ◌++◌, Some, length, remove, slice_get, OnOk, OnErr, option_to_list};
 ghost use Rattle.std.specs.Borrow.{sem};
+ghost use Rattle.std.specs.Fn.{CalledAt};
+ghost use Rattle.std.specs.List.Retain.{IsFiltered};
 ghost use Rattle.stun_types_base.specs.ListLending.{LendsElement, LendsSlice};
 
 use crate::memory::NoMemory;
@@ -104,5 +106,12 @@ impl<T: Drop> ListOf<T> {
         ensures { self.new ≡ [] }
     {
         self.items.clear();
+    }
+    /// Keeps the elements of which a test says so, in their order. It is asked once of each.
+    pub fn retain<F: FnMut(&T) -> bool>(&mut self, test: F)
+        requires { F.IsAlwaysCallable test }
+        ensures { IsFiltered (CalledAt F.FnMut) test self.old self.new }
+    {
+        self.items.retain(test);
     }
 }
