@@ -28,7 +28,9 @@ validated_code = map.code addr.the_row.coded nothing_code
 -- the code of an agent
 abbrev pub agent_code : Coded Agent
 agent_code =
-    code_by (TransportType × (SocketAddr × (Option SocketAddr × (Waits × (map.FinMap nat_cmp Transaction × map.FinMap socket_addr_cmp ⊤)))))
+    code_by
+    (TransportType × (SocketAddr × (Option SocketAddr
+    × (Waits × (map.FinMap nat_cmp Transaction × map.FinMap socket_addr_cmp ⊤)))))
     (coded× transport.the_row.coded (coded× addr.the_row.coded (coded× (coded_option addr.the_row.coded)
     (coded× waits_code (coded× outstanding_code validated_code)))))
     (λ a. (a.transport, (a.here, (a.remote, (a.waits, (a.outstanding, a.validated))))))

@@ -11,7 +11,8 @@ pub record IsLeastOf (most : ℕ) (numbers : List ℕ) (least : ℕ) : Type 0 wh
   pub reached : (least ≡ most) ⊎ Contains numbers least
 
 -- the entry of a map that passes a test, and has the least number of those that do
-pub record IsLeast {X : Type 0} (test : X → Bool) (entries : map.FinMap nat_cmp X) (number : ℕ) (value : X) : Type 0 where
+pub record IsLeast {X : Type 0} (test : X → Bool) (entries : map.FinMap nat_cmp X) (number : ℕ) (value : X)
+    : Type 0 where
   pub present : map.get entries number ≡ Some value
   pub passes : test value ≡ true
   pub least : (other : ℕ) (another : X) → map.get entries other ≡ Some another → test another ≡ true → number ≤ other

@@ -22,8 +22,10 @@ pub record WasOutstanding (old : Agent) (number : ℕ) (t : Transaction) : Type 
 
 -- no request is outstanding afterwards that wasn't before
 abbrev pub NothingNew : Agent → Agent → Type 0
-NothingNew old new = (number : ℕ) (t : Transaction) → map.get new.outstanding number ≡ Some t → WasOutstanding old number t
+NothingNew old new = (number : ℕ) (t : Transaction)
+    → map.get new.outstanding number ≡ Some t → WasOutstanding old number t
 
 -- each request that is outstanding is kept under the number that its bytes show
 abbrev pub ShowsNumbers : Agent → Type 0
-ShowsNumbers agent = (number : ℕ) (t : Transaction) → map.get agent.outstanding number ≡ Some t → number_at t.bytes ≡ number
+ShowsNumbers agent = (number : ℕ) (t : Transaction)
+    → map.get agent.outstanding number ≡ Some t → number_at t.bytes ≡ number

@@ -13,4 +13,5 @@ with_agent request left = record request { agent = record request.agent { now = 
 
 -- the agent is the last one written through the borrow; the number, the address and the algorithm stay
 abbrev pub LendsAgent : MutBor StunRequestMut → MutBor Agent → Fml
-LendsAgent request borrow = Lends (the_row (record { mir = named 1; lft = [] })) agent.the_row request borrow (with_agent request.now)
+LendsAgent request borrow =
+    Lends (the_row (record { mir = named 1; lft = [] })) agent.the_row request borrow (with_agent request.now)

@@ -70,7 +70,8 @@ is_due_of agent now t = is_due (is_tcp agent.transport) now t
 
 -- no transmission is due at a moment
 abbrev pub NoneDue : Agent → ℕ → Type 0
-NoneDue agent now = (number : ℕ) (t : Transaction) → map.get agent.outstanding number ≡ Some t → is_due_of agent now t ≡ false
+NoneDue agent now = (number : ℕ) (t : Transaction)
+    → map.get agent.outstanding number ≡ Some t → is_due_of agent now t ≡ false
 
 -- what goes out is what is due of the transaction of least number
 pub record IsDueSent (agent : Agent) (now : ℕ) (sent : Transmit (Bor (List ℕ))) : Type 0 where

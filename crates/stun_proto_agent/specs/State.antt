@@ -46,7 +46,8 @@ pub record IsEnd (old : Agent) (now number : ℕ) (over : Bool) (new : Agent) : 
 
 -- no transaction has ended at a moment
 abbrev pub NoneEnded : Agent → ℕ → Type 0
-NoneEnded agent now = (number : ℕ) (t : Transaction) → map.get agent.outstanding number ≡ Some t → is_ended now t ≡ false
+NoneEnded agent now = (number : ℕ) (t : Transaction)
+    → map.get agent.outstanding number ≡ Some t → is_ended now t ≡ false
 
 -- a moment is the least of the next ones, not earlier than now and not later than the longest wait
 pub record IsNext (agent : Agent) (now until : ℕ) : Type 0 where

@@ -18,3 +18,6 @@ first_offered left algorithm enough same = rw (one_told left enough) (rw same re
 pub other_offered : (left : List ℕ) (algorithm : IntegrityAlgorithm) → 4 ≤ length left
     → (number_told (take 4 left) == number_by algorithm) ≡ false → offers left algorithm ≡ offers (drop 4 left) algorithm
 other_offered left algorithm enough other = rw (one_told left enough) (rw other refl)
+
+-- what the bytes that are left offer
+pub ruleset offered = (nothing_offered, first_offered, other_offered)

@@ -3,7 +3,11 @@ use Rattle.std.proofs.Common.{◌≡◌, refl}
 use Rattle.std.specs.Prelude.{Option, Some, None}
 use Rattle.std.specs.Option.{option_or}
 use Rattle.stun_proto_auth.specs.Attributes.{Attr}
+use Rattle.stun_types_grammar_laws.proofs.Left.{map_numbered}
 
 pub last_step : (later own last : Option Attr) → option_or (option_or later own) last ≡ option_or later (option_or own last)
 last_step None own last = refl
 last_step (Some a) own last = refl
+
+-- one attribute more
+pub ruleset steps = (map_numbered, last_step)

@@ -11,7 +11,7 @@ use stun_proto_auth::registry::{MD5_NUMBER, SHA256_NUMBER};
 
 /// Whether the value of a PASSWORD-ALGORITHMS lists the algorithm by which the keys of an integrity
 /// algorithm are made (RFC 8489, sections 14.11 and 18.5).
-#[tactic(auto, using(crate::proofs::Entries::nothing_offered, crate::proofs::Entries::first_offered, crate::proofs::Entries::other_offered))]
+#[tactic(auto, using(crate::proofs::Entries::offered))]
 pub fn offers(value: &[u8], algorithm: IntegrityAlgorithm) -> bool
     ensures { result ≡ offers value.now algorithm }
 {

@@ -8,7 +8,7 @@ use stun_proto_auth::attribute::{AttributeType, RawAttribute};
 use stun_proto_auth::message::Message;
 
 /// The last attribute of a type that a message shows.
-#[tactic(auto, using(stun_types_grammar_laws::proofs::Left::map_numbered, crate::proofs::Lasts::last_step), unfolding(crate::specs::Claims::last_of_kind))]
+#[tactic(auto, using(crate::proofs::Lasts::steps), unfolding(crate::specs::Claims::last_of_kind))]
 pub(crate) fn last_attribute<'a>(
     message: &Message<'a>,
     atype: AttributeType,

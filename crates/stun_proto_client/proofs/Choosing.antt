@@ -22,3 +22,6 @@ sha1_is_strongest own offered not_common common = record { common = common; grea
 pub none_is_common : (own : List IntegrityAlgorithm) (offered : Option (List ℕ)) → is_common own offered Sha256 ≡ false → is_common own offered Sha1 ≡ false → HasNoneCommon own offered
 none_is_common own offered stronger weaker Sha1 = weaker
 none_is_common own offered stronger weaker Sha256 = stronger
+
+-- the choice, case by case
+pub ruleset choices = (sha256_is_strongest, sha1_is_strongest, none_is_common)

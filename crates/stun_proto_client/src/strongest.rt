@@ -10,7 +10,7 @@ use stun_proto_claim::supported::SupportedIntegrity;
 
 /// The strongest algorithm that a client supports and a server takes, where they have one in common:
 /// the server takes those that its PASSWORD-ALGORITHMS lists, or without such a list `Sha1` alone.
-#[tactic(auto, using(crate::proofs::Choosing::sha256_is_strongest, crate::proofs::Choosing::sha1_is_strongest, crate::proofs::Choosing::none_is_common))]
+#[tactic(auto, using(crate::proofs::Choosing::choices))]
 pub(crate) fn strongest(
     own: SupportedIntegrity,
     offered: Option<&[u8]>,

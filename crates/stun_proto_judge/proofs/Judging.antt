@@ -211,3 +211,6 @@ not_memory known bytes algorithm (Err e) error answer is memory = absurd (let sa
 -- the key of the realm that is known
 pub in_realm : (bytes realm own name password : List ℕ) (algorithm : IntegrityAlgorithm) → realm ≡ own → (text : List ℕ) × Validates bytes (user_key realm name password algorithm) algorithm text → (text : List ℕ) × Validates bytes (user_key own name password algorithm) algorithm text
 in_realm bytes realm own name password algorithm is valid = (valid.0, subst (λ (r : List ℕ). Validates bytes (user_key r name password algorithm) algorithm valid.0) is valid.1)
+
+-- the judgement, case by case
+pub ruleset judgements = (accepts, refuses_claim, refuses_digest)

@@ -51,7 +51,7 @@ pub fn judge_message(
 }
 
 /// The judgement, path by path: it answers as `judge_message` does.
-#[tactic(auto, using(crate::proofs::Judging::accepts, crate::proofs::Judging::refuses_claim, crate::proofs::Judging::refuses_digest))]
+#[tactic(auto, using(crate::proofs::Judging::judgements))]
 fn decide(
     alloc: Global,
     message: &Message<'_>,

@@ -133,3 +133,6 @@ all_waited w place count total wait rest is before within reached others =
           let whole = others_waited w w.most place count total wait refl is before below (reached below) in
           (let all : min (total + rest) greatest_moment ≡ min (sum (waits_behind w count)) greatest_moment = omega (arith, others, whole) in all)
     ] refl
+
+-- what is waited, wait by wait
+pub ruleset sums = (none_waited, one_more, next_wait, past_all, all_waited)

@@ -96,7 +96,7 @@ impl Waits {
     /// How many nanoseconds are waited behind the first transmissions, so many: at most the greatest
     /// moment. It takes 65 steps at most, since each wait is twice the one before, until the greatest
     /// wait is reached or the sum is past all moments.
-    #[tactic(auto, using(crate::proofs::Summing::none_waited, crate::proofs::Summing::one_more, crate::proofs::Summing::next_wait, crate::proofs::Summing::past_all, crate::proofs::Summing::all_waited))]
+    #[tactic(auto, using(crate::proofs::Summing::sums))]
     fn waited(&self, count: u32) -> u64
         ensures { result ≡ min (sum (waits_behind self.now count)) greatest_moment }
     {

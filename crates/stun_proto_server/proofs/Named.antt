@@ -76,3 +76,6 @@ wanted server from bytes found is some = record {
   name = some.name;
   accepts = accepted server from bytes some.algorithm some.name found is some.accepts;
 }
+
+-- the answer, case by case
+pub ruleset answers = (accepted, refused, wanted)

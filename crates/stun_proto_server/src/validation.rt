@@ -115,7 +115,7 @@ impl LongTermServerAuth {
 
     /// The judgement of a message that is no response, by what is kept for its address. It changes
     /// nothing.
-    #[tactic(auto, using(crate::proofs::Named::accepted, crate::proofs::Named::refused, crate::proofs::Named::wanted))]
+    #[tactic(auto, using(crate::proofs::Named::answers))]
     fn judge_sender(
         &self,
         message: &Message<'_>,

@@ -33,3 +33,6 @@ pub error_is_accepted : (e : CodeAndReason) → 300 ≤ e.code → e.code ≤ 69
 unfolding error_read_refusal
 error_is_accepted e least most short text =
     rw (value_is_accepted 9 4 (4 + longest_text) (error_value e) (omega arith) (omega arith)) (rw (code_is_accepted e least most) text)
+
+-- an error is written, and read
+pub ruleset error_values = (error_is_accepted, told_again, same_error)

@@ -275,7 +275,7 @@ impl<'a> AttributeFromRaw<'a> for ErrorCode {
         ErrorCode::from_raw_ref(alloc, &raw)
     }
 
-    #[tactic(auto, using(crate::proofs::Codes::error_is_accepted, crate::proofs::Codes::told_again, crate::proofs::Codes::same_error))]
+    #[tactic(auto, using(crate::proofs::Codes::error_values))]
     fn is_read_back(&self, _read: &ErrorCode) {
         text_is_read(self.reason(), ErrorCode::MAX_REASON_LEN);
         let _ = self.code();

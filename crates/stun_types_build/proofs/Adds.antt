@@ -8,6 +8,8 @@ use Rattle.stun_types_wire.specs.Text.{header_text, padded_text, attribute_text,
 use Rattle.stun_types_write.specs.Adding.{attr_of, after_add, IsBegun}
 use Rattle.stun_types_wire.specs.Registry.{greatest_size}
 use Rattle.stun_types_wire.specs.Covered.{with_length}
+use Rattle.stun_types_integrity.specs.Signing.{signing_refusal}
+use Rattle.stun_types_write.specs.Adding.{add_refusal, fingerprint_add_refusal}
 
 -- ---- headers
 
@@ -171,3 +173,11 @@ pushed_begun bytes pushed a begun is fits =
       header = rw (begins_more bytes (attribute_text a) long (begins_of bytes begun.header), le-ltb (length all) 20 (omega (arith, size))) refl;
       size = omega (arith, size);
     })
+
+-- The refusals of what is added, to be opened: to unfold this one is to unfold all that its line names.
+unfoldable pub refusals : Type 0
+unfolding add_refusal fingerprint_add_refusal signing_refusal
+refusals = Unit {0}
+
+-- what is added is long enough
+pub ruleset long = (long_enough)

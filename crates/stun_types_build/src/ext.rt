@@ -156,7 +156,7 @@ impl<W: MessageWrite> MessageWriteExt for W {
         header_of(self.data()).transaction_id()
     }
 
-    #[tactic(auto, unfolding(stun_types_write::specs::Adding::add_refusal), using(crate::proofs::Adds::long_enough))]
+    #[tactic(auto, using(crate::proofs::Adds::long), unfolding(crate::proofs::Adds::refusals))]
     fn add_attribute(&mut self, attribute: &dyn AttributeWrite) -> Result<(), StunWriteError> {
         let ended = self.ended();
         if ended.fingerprint {

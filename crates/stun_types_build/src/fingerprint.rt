@@ -15,7 +15,7 @@ use stun_types_wire::registry::FINGERPRINT_SIZE;
 use stun_types_write::writer::MessageWrite;
 
 /// Adds a FINGERPRINT. What it refuses stands at `MessageWriteExt::add_fingerprint`.
-#[tactic(auto, unfolding(stun_types_write::specs::Adding::fingerprint_add_refusal), using(crate::proofs::Adds::long_enough))]
+#[tactic(auto, using(crate::proofs::Adds::long), unfolding(crate::proofs::Adds::refusals))]
 pub(crate) fn mark<W: MessageWrite>(writer: &mut W) -> Result<(), StunWriteError>
     requires begun { IsBegun (W.draft writer.old).bytes }
     ensures ok { OnOk result (IsAdded (fingerprint_of (W.draft writer.old).bytes)

@@ -26,7 +26,7 @@ use stun_types_write::writer::MessageWrite;
 
 /// Adds the integrity attribute of an algorithm under a key. What it refuses stands at
 /// `MessageWriteExt::add_message_integrity_with_key`.
-#[tactic(auto, unfolding(stun_types_integrity::specs::Signing::signing_refusal), using(crate::proofs::Adds::long_enough))]
+#[tactic(auto, using(crate::proofs::Adds::long), unfolding(crate::proofs::Adds::refusals))]
 pub(crate) fn sign<W: MessageWrite>(
     writer: &mut W,
     key: &IntegrityKey<'_>,

@@ -82,9 +82,9 @@ bit_steps-add (suc n) m a =
     let e : suc n + m ≡ suc (n + m) = omega arith in
     ap (λ k. bit_steps k a) e ∙ bit_steps-add n m (bit_step a)
 
-pub bit_steps_more : (n a : ℕ) → bit_steps (n + 1) a ≡ bit_step (bit_steps n a)
+pub more_steps : (n a : ℕ) → bit_steps (n + 1) a ≡ bit_step (bit_steps n a)
 unfolding bit_steps
-bit_steps_more n a = bit_steps-add n 1 a
+more_steps n a = bit_steps-add n 1 a
 
 -- an even register is only divided
 bit_step-even : (a : ℕ) → bit_step (a * 2) ≡ a

@@ -11,6 +11,8 @@ use Rattle.stun_types_write.specs.ValueReading.{value_refusal}
 use Rattle.stun_types_write.proofs.Values.{value_is_accepted}
 use Rattle.stun_types_wire.specs.Registry.{fingerprint_mask}
 use Rattle.stun_types_fingerprint.specs.FingerprintValues.{turned_bytes}
+use Rattle.stun_types_fingerprint.specs.FingerprintValues.{crc_bytes}
+use Rattle.stun_types_wire.specs.Fingerprints.{fingerprint_value}
 
 -- the bytes of the number that four bytes tell
 pub bytes_again : (bytes : List ℕ) (n : ℕ) → length bytes ≡ 4 → ((k : ℕ) → slice_index bytes k < 256) → n ≡ big_number 4 bytes → big_bytes 4 n ≡ bytes
@@ -49,3 +51,11 @@ same_by_number value n m n_small m_small value-is =
 -- four bytes are as many as are wanted
 pub number_is_accepted : (kind n : ℕ) → value_refusal kind 4 4 (attr_of kind (turned_bytes n)) ≡ None
 number_is_accepted kind n = value_is_accepted kind 4 4 (turned_bytes n) (omega arith) (omega arith)
+
+-- The bytes of a value, to be opened: to unfold this one is to unfold both that its line names.
+unfoldable pub value_bytes : Type 0
+unfolding crc_bytes fingerprint_value
+value_bytes = Unit {0}
+
+-- a number is written, and read
+pub ruleset numbers = (number_is_accepted, same_number)

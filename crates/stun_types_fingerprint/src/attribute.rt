@@ -83,7 +83,7 @@ impl Fingerprint {
 
     /// The CRC-32 of a text, the highest byte first. The attribute that `new` makes of it has the
     /// value of the text's FINGERPRINT.
-    #[tactic(auto, unfolding(crate::specs::FingerprintValues::crc_bytes, stun_types_wire::specs::Fingerprints::fingerprint_value))]
+    #[tactic(auto, unfolding(crate::proofs::Turned::value_bytes))]
     pub fn compute(text: &[u8]) -> [u8; 4]
         ensures bytes { result ≡ crc_bytes text.now }
         ensures value { turned_bytes (big_number 4 result) ≡ fingerprint_value text.now }
@@ -189,7 +189,7 @@ impl<'a> AttributeFromRaw<'a> for Fingerprint {
         Fingerprint::from_raw_ref(alloc, &raw)
     }
 
-    #[tactic(auto, using(crate::proofs::Turned::number_is_accepted, crate::proofs::Turned::same_number))]
+    #[tactic(auto, using(crate::proofs::Turned::numbers))]
     fn is_read_back(&self, read: &Fingerprint) {
         let _ = (self.crc(), read.crc());
     }

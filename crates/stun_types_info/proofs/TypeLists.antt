@@ -65,3 +65,19 @@ same_types some others a b h = sym a ∙ ap types_told h ∙ b
 pub types_are_accepted : (value : List ℕ) → length value % 2 ≡ 0 → length value ≤ longest_value → types_read_refusal (attr_of 10 value) ≡ None
 unfolding types_read_refusal odd_refusal
 types_are_accepted value even short = rw (value_is_accepted 10 0 longest_value value (omega arith) short) (grind (arith, common_steps, even))
+
+-- a list of types is written, and read
+pub ruleset lists = (types_are_accepted, same_types)
+
+-- Refusals of a value, to be opened: to unfold this one is to unfold both that its line names.
+unfoldable pub refusals : Type 0
+unfolding types_read_refusal odd_refusal
+refusals = Unit {0}
+
+-- The types that a value tells, to be opened.
+unfoldable pub told : Type 0
+unfolding types_told
+told = Unit {0}
+
+-- a list of none
+pub ruleset none = (none_told)

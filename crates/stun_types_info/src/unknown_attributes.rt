@@ -203,7 +203,7 @@ impl<'a> AttributeFromRaw<'a> for UnknownAttributes {
         UnknownAttributes::from_raw_ref(alloc, &raw)
     }
 
-    #[tactic(auto, using(crate::proofs::TypeLists::types_are_accepted, crate::proofs::TypeLists::same_types))]
+    #[tactic(auto, using(crate::proofs::TypeLists::lists))]
     fn is_read_back(&self, read: &UnknownAttributes) {
         let _ = self.value();
         let _ = read.value();
@@ -211,7 +211,7 @@ impl<'a> AttributeFromRaw<'a> for UnknownAttributes {
 }
 
 /// The value of an UNKNOWN-ATTRIBUTES. Refused as the attribute is, but for memory.
-#[tactic(auto, unfolding(crate::specs::UnknownTypes::types_read_refusal, crate::specs::UnknownTypes::odd_refusal))]
+#[tactic(auto, unfolding(crate::proofs::TypeLists::refusals))]
 fn even_value_of<'raw>(raw: &'raw RawAttribute<'_>) -> Result<&'raw [u8], StunParseError>
     ensures { MatchResult result (λ value. (types_read_refusal raw.now ≡ None)
         × (raw.now.kind ≡ unknown_attributes_kind) × (value.now ≡ raw.now.value)
@@ -285,7 +285,7 @@ fn mark_type(index: &mut Option<TypeIndex>, atype: AttributeType)
 }
 
 /// Whether a value tells a type.
-#[tactic(auto, using(crate::proofs::TypeLists::none_told), unfolding(crate::specs::UnknownTypes::types_told))]
+#[tactic(auto, using(crate::proofs::TypeLists::none), unfolding(crate::proofs::TypeLists::told))]
 fn tells_type(bytes: &[u8], atype: AttributeType) -> bool
     ensures { result ≡ has_kind atype.0 (types_told bytes.now) }
 {

@@ -256,7 +256,7 @@ fn of_lawful(bytes: &[u8]) -> MessageIntegritySha256
 }
 
 /// The value of a MESSAGE-INTEGRITY-SHA256. Refused as the attribute is.
-#[tactic(auto, unfolding(crate::specs::Sha256Values::sha256_read_refusal, crate::specs::Sha256Values::fours_refusal))]
+#[tactic(auto, unfolding(crate::proofs::Sha256Values::refusals))]
 fn lawful_value_of<'raw>(raw: &'raw RawAttribute<'_>) -> Result<&'raw [u8], StunParseError>
     ensures { MatchResult result (λ value. (sha256_read_refusal raw.now ≡ None)
         × (raw.now.kind ≡ sha256_kind) × (value.now ≡ raw.now.value)

@@ -4,6 +4,7 @@ pub mod Shows
 pub mod Refusals
 pub mod Unknown
 pub mod Validating
+pub mod Last
 pub mod Refusing
 pub mod Listing
 pub mod Marks

@@ -13,6 +13,7 @@ use Rattle.stun_types_attribute.specs.ErrorCodes.{CodeAndOther, CodeAndReason, e
 use Rattle.stun_types_info.specs.UnknownTypes.{types_refusal, types_value}
 use Rattle.stun_types_message.specs.Objections.{error_attribute, unknown_attribute, unknown_refusal, unknown_response_attributes}
 use Rattle.stun_types_wire.specs.Registry.{error_code_kind}
+use Rattle.stun_types_attribute.specs.ErrorCodes.{error_refusal}
 
 -- ---- sizes
 
@@ -115,3 +116,11 @@ pub room_first : (limit : Option ℕ) (len code : ℕ) (reason : List ℕ) (answ
 room_first limit len code reason answer none is h =
     let size : 20 + attr_size (error_attribute code) ≡ len + (24 + padded (4 + length reason)) = rw (none, is) (omega arith) in
     ap (size_refusal limit) size ∙ h
+
+-- what there is room for
+pub ruleset room = (too_many, no_room, room_first)
+
+-- Refusals of what is added, to be opened: to unfold this one is to unfold both that its line names.
+unfoldable pub added : Type 0
+unfolding add_refusal error_refusal
+added = Unit {0}

@@ -9,6 +9,7 @@ use Rattle.stun_types_message.specs.declared.front.Front.{Front}
 use Rattle.stun_types_message.specs.declared.stage.Stage.{Stage}
 use Rattle.stun_types_message.specs.Fronts.{TellsFront}
 use Rattle.stun_types_message.specs.ShapeStages.{stage_rank}
+use Rattle.stun_types_grammar_laws.proofs.Scan.{begins, ends_all, refuses_short}
 
 -- what the shape says of a type is what it says of the type that stands there
 follows_at : (before kind : ℕ) (rest : List ℕ) (b : _) → kind ≡ kind_at rest → may_follow before (rank kind) ≡ b → may_follow before (rank (kind_at rest)) ≡ b
@@ -35,3 +36,6 @@ step_at stage next front rest after bytes so_far tells follows next-is long righ
 -- a type that doesn't continue the shape ends what is shown
 pub none_after : (stage : Stage) (front : Front) (rest : List ℕ) → TellsFront rest front → may_follow (stage_rank stage) (rank front.atype.0) ≡ false → shown_after (stage_rank stage) rest ≡ []
 none_after stage front rest tells stops = shown_stops (stage_rank stage) rest (follows_at (stage_rank stage) front.atype.0 rest false tells.kind stops)
+
+-- what one attribute more makes of a scan
+pub ruleset scanned = (refuses_short, ends_all, begins, ends_at, cut_at, wrong_at)

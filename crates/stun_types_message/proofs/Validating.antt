@@ -334,3 +334,8 @@ accepted_by bytes credentials key algorithm result last is accepts a text v =
 
 pub none_validates : (bytes key : List ℕ) (algorithm : IntegrityAlgorithm) (text : List ℕ) → last_algorithm (shown bytes) ≡ None → Validates bytes key algorithm text → ⊥
 none_validates bytes key algorithm text none v = let p = sym none ∙ validates_last bytes key algorithm text v in absurd cc
+
+-- Refusals, to be opened: to unfold this one is to unfold both that its line names.
+unfoldable pub refusals : Type 0
+unfolding refusal length_refusal
+refusals = Unit {0}

@@ -52,7 +52,7 @@ impl<'a> Message<'a> {
     /// An attribute that doesn't continue the shape of a message (ordinary ones, then
     /// MESSAGE-INTEGRITY, MESSAGE-INTEGRITY-SHA256 and FINGERPRINT, each at most once) and what
     /// follows it are not shown and not looked at.
-    #[tactic(auto, unfolding(stun_types_wire::specs::Grammar::refusal, stun_types_wire::specs::Grammar::length_refusal))]
+    #[tactic(auto, unfolding(crate::proofs::Validating::refusals))]
     pub fn from_bytes(bytes: &'a [u8]) -> Result<Message<'a>, StunParseError>
         ensures { MatchResult result (λ m. (m ≡ bytes.now) × (refusal bytes.now ≡ None))
             (λ error. refusal bytes.now ≡ Some error) }
@@ -206,7 +206,7 @@ impl<'a> TryFrom<&'a [u8]> for Message<'a> {
 }
 
 /// Where the attributes end that a message shows behind its header.
-#[tactic(auto, using(stun_types_grammar_laws::proofs::Scan::refuses_short, stun_types_grammar_laws::proofs::Scan::ends_all, stun_types_grammar_laws::proofs::Scan::begins, crate::proofs::Scanning::ends_at, crate::proofs::Scanning::cut_at, crate::proofs::Scanning::wrong_at))]
+#[tactic(auto, using(crate::proofs::Scanning::scanned))]
 fn scan(bytes: &[u8]) -> Result<usize, StunParseError>
     requires header { header_size ≤ length bytes.now }
     requires short { length bytes.now ≤ greatest_size }

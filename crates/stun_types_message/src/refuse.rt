@@ -61,7 +61,7 @@ impl<'a> Message<'a> {
     /// and ERROR-CODE, which take 48 bytes, `TooLarge` where the length field would pass 65,535,
     /// `TooSmall` where the writer has not the room for UNKNOWN-ATTRIBUTES; where memory is refused,
     /// `NoMemory`. A refusal drops the writer.
-    #[tactic(auto, using(crate::proofs::Refusing::too_many, crate::proofs::Refusing::no_room), unfolding(stun_types_attribute::specs::ErrorCodes::error_refusal))]
+    #[tactic(auto, using(crate::proofs::Refusing::room), unfolding(crate::proofs::Refusing::added))]
     pub fn unknown_attributes<W: MessageWrite + Drop>(
         alloc: Global,
         request: &Message,
@@ -112,7 +112,7 @@ pub(crate) fn room_for_types<W: MessageWrite>(
 
 /// Writes the error response to a request that shows ERROR-CODE of a code, with the reason that goes
 /// with it, and nothing else.
-#[tactic(auto, using(crate::proofs::Refusing::room_first), unfolding(stun_types_write::specs::Adding::add_refusal, stun_types_attribute::specs::ErrorCodes::error_refusal))]
+#[tactic(auto, using(crate::proofs::Refusing::room), unfolding(crate::proofs::Refusing::added))]
 fn write_error<W: MessageWrite + Drop>(
     alloc: Global,
     code: u16,

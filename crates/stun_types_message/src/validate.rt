@@ -19,7 +19,7 @@ use stun_types_wire::registry::MESSAGE_INTEGRITY;
 
 impl<'a> Message<'a> {
     /// The algorithm of the last integrity attribute that the message shows, where it shows one.
-    #[tactic(auto, using(stun_types_grammar_laws::proofs::Left::map_numbered, crate::proofs::Validating::last_step), unfolding(crate::specs::MessageValidation::last_algorithm))]
+    #[tactic(auto, using(crate::proofs::Last::steps), unfolding(crate::proofs::Last::last))]
     pub fn last_integrity(&self) -> Option<IntegrityAlgorithm>
         ensures { result ≡ last_algorithm (shown self.now) }
     {

@@ -35,3 +35,11 @@ pub algorithm_is_accepted : (a : PasswordAlgorithmValue) → algorithm_read_refu
 unfolding algorithm_read_refusal number_refusal is_known number_told
 algorithm_is_accepted MD5 = rw (value_is_accepted password_algorithm_kind 4 4 (algorithm_value MD5) (omega arith) (omega arith)) refl
 algorithm_is_accepted SHA256 = rw (value_is_accepted password_algorithm_kind 4 4 (algorithm_value SHA256) (omega arith) (omega arith)) refl
+
+-- an algorithm is written, and read
+pub ruleset algorithms = (algorithm_is_accepted, told_again, same_algorithm)
+
+-- Known numbers, to be opened: to unfold this one is to unfold both that its line names.
+unfoldable pub known : Type 0
+unfolding is_known number_refusal
+known = Unit {0}

@@ -121,3 +121,20 @@ algorithms_are_accepted (x ∷ xs) short =
     let told = numbers_again (x ∷ xs) in
     rw (value_is_accepted password_algorithms_kind 4 32 (algorithms_value (x ∷ xs)) (omega (arith, size)) (omega (arith, size, short)))
     (rw told (rw known (rw whole refl)))
+
+-- one entry more is written
+pub ruleset written = (more_written)
+
+-- how many entries there are
+pub ruleset counts = (told_count)
+
+-- a list of algorithms is written, and read
+pub ruleset lists = (algorithms_are_accepted, told_again, same_algorithms)
+
+-- what the bytes that are left tell
+pub ruleset told = (none_told, first_unknown, first_known, all_told, more_told)
+
+-- Refusals of a value, to be opened: to unfold this one is to unfold both that its line names.
+unfoldable pub refusals : Type 0
+unfolding algorithms_read_refusal entries_refusal
+refusals = Unit {0}

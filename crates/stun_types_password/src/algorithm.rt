@@ -43,7 +43,7 @@ impl PasswordAlgorithmValue {
     }
 
     /// The algorithm of a number. Refused with `InvalidAttributeData` where it is that of none.
-    #[tactic(auto, unfolding(crate::specs::PasswordAlgorithmNumbers::is_known, crate::specs::PasswordAlgorithmNumbers::number_refusal))]
+    #[tactic(auto, unfolding(crate::proofs::Algorithms::known))]
     fn of_number(number: u16) -> Result<PasswordAlgorithmValue, StunParseError>
         ensures { MatchResult result (λ algorithm. (number_of algorithm ≡ number)
             × (number_refusal number ≡ None)) (IsNamed (number_refusal number)) }

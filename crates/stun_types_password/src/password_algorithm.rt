@@ -130,7 +130,7 @@ impl<'a> AttributeFromRaw<'a> for PasswordAlgorithm {
         PasswordAlgorithm::from_raw_ref(alloc, &raw)
     }
 
-    #[tactic(auto, using(crate::proofs::Algorithms::algorithm_is_accepted, crate::proofs::Algorithms::told_again, crate::proofs::Algorithms::same_algorithm))]
+    #[tactic(auto, using(crate::proofs::Algorithms::algorithms))]
     fn is_read_back(&self, _read: &PasswordAlgorithm) {}
 }
 

@@ -101,7 +101,7 @@ impl PasswordAlgorithms {
 }
 
 /// Writes what tells some algorithms to the front of bytes that are enough.
-#[tactic(auto, using(crate::proofs::Lists::more_written), unfolding(crate::specs::Entries::entries))]
+#[tactic(auto, using(crate::proofs::Lists::written), unfolding(crate::specs::Entries::entries))]
 fn write_entries(algorithms: &[PasswordAlgorithmValue], dest: &mut [u8])
     requires { 4 * length algorithms.now ≤ length dest.old }
     ensures { dest.new ≡ algorithms_value algorithms.now
@@ -181,7 +181,7 @@ impl<'a> AttributeFromRaw<'a> for PasswordAlgorithms {
         PasswordAlgorithms::from_raw_ref(alloc, &raw)
     }
 
-    #[tactic(auto, using(crate::proofs::Lists::algorithms_are_accepted, crate::proofs::Lists::told_again, crate::proofs::Lists::same_algorithms))]
+    #[tactic(auto, using(crate::proofs::Lists::lists))]
     fn is_read_back(&self, _read: &PasswordAlgorithms) {
         let _ = self.algorithms();
     }
@@ -190,7 +190,7 @@ impl<'a> AttributeFromRaw<'a> for PasswordAlgorithms {
 impl PasswordAlgorithms {
     /// The value of an attribute that is a PASSWORD-ALGORITHMS: four bytes for each algorithm, at least
     /// one and at most eight, each of them known. Takes no memory. Refused as reading the attribute is.
-    #[tactic(auto, using(crate::proofs::Lists::told_count), unfolding(crate::specs::Entries::algorithms_read_refusal, crate::specs::Entries::entries_refusal))]
+    #[tactic(auto, using(crate::proofs::Lists::counts), unfolding(crate::proofs::Lists::refusals))]
     pub fn entries_of<'raw>(raw: &'raw RawAttribute<'_>) -> Result<&'raw [u8], StunParseError>
         ensures { MatchResult result (λ value. (algorithms_read_refusal raw.now ≡ None)
             × (raw.now.kind ≡ password_algorithms_kind) × (value.now ≡ raw.now.value)
@@ -212,7 +212,7 @@ impl PasswordAlgorithms {
 }
 
 /// Whether each entry tells a known algorithm.
-#[tactic(auto, using(crate::proofs::Lists::none_told, crate::proofs::Lists::first_unknown, crate::proofs::Lists::first_known))]
+#[tactic(auto, using(crate::proofs::Lists::told))]
 fn tell_known(value: &[u8]) -> bool
     ensures { result ≡ list_all is_known (numbers_told value.now) }
 {
@@ -227,7 +227,7 @@ fn tell_known(value: &[u8]) -> bool
 }
 
 /// The algorithms that entries tell, each of which is known. Where memory is refused, `NoMemory`.
-#[tactic(auto, using(crate::proofs::Lists::all_told, crate::proofs::Lists::first_unknown, crate::proofs::Lists::first_known, crate::proofs::Lists::more_told))]
+#[tactic(auto, using(crate::proofs::Lists::told))]
 fn algorithms_of(alloc: Global, value: &[u8]) -> Result<Vec<PasswordAlgorithmValue>, StunParseError>
     requires { list_all is_known (numbers_told value.now) ≡ true }
     ensures told { IfOk result (λ algorithms. map number_of algorithms.items

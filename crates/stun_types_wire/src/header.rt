@@ -52,7 +52,7 @@ impl MessageHeader {
     /// The header in the first twenty bytes; what follows them is not looked at. Refused, in this
     /// order: `NotStun` where no continuation of the bytes is a header, `Truncated` where there are
     /// fewer than twenty.
-    #[tactic(auto, unfolding(crate::specs::Grammar::header_refusal, crate::specs::Grammar::number_at))]
+    #[tactic(auto, unfolding(crate::proofs::Headers::headers))]
     pub fn from_bytes(bytes: &[u8]) -> Result<MessageHeader, StunParseError>
         ensures { MatchResult result (λ header. (header_refusal bytes.now ≡ None)
             × (header ≡ header_at bytes.now)) (λ error. header_refusal bytes.now ≡ Some error) }

@@ -29,7 +29,7 @@ impl Model for TransactionId {
 
 impl TransactionId {
     /// A number of three words of 32 bits that are drawn from a generator, the first of them highest.
-    #[tactic(auto, unfolding(stun_types_base::specs::GeneratorWords::words_of, crate::specs::Generated::drawn_number))]
+    #[tactic(auto, unfolding(crate::proofs::Headers::drawn))]
     pub fn generate<R: Rng>(rng: &mut R) -> TransactionId
         ensures number { result ≡ drawn_number (R.stream rng.old) }
         ensures stream { R.stream rng.new ≡ stream_after number_words (R.stream rng.old) }

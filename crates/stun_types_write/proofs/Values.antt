@@ -52,3 +52,9 @@ not_utf8_is_refused bs h = rw (not_utf8 bs h) refl
 pub text_is_accepted : (kind most : ℕ) (bs : List ℕ) → length bs ≤ most → utf8_refusal bs ≡ None → text_read_refusal kind most (attr_of kind bs) ≡ None
 unfolding text_read_refusal
 text_is_accepted kind most bs short text = rw (value_is_accepted kind 0 most bs (omega arith) short) text
+
+-- what a value is refused for
+pub ruleset told = (kind_told, least_told, most_told, never_memory)
+
+-- whether a text is UTF-8
+pub ruleset texts = (utf8_is_accepted, not_utf8_is_refused)

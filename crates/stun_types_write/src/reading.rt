@@ -11,7 +11,7 @@ use stun_types_grammar_laws::error::StunParseError;
 /// The value of an attribute of this type, with a length from the least to the greatest. Refused, in
 /// this order: `WrongAttributeImplementation` where it has another type, `Truncated` with the least
 /// length where it is shorter, `TooLarge` with the greatest where it is longer.
-#[tactic(auto, using(crate::proofs::Values::kind_told, crate::proofs::Values::least_told, crate::proofs::Values::most_told, crate::proofs::Values::never_memory))]
+#[tactic(auto, using(crate::proofs::Values::told))]
 pub fn value_of<'raw>(
     raw: &'raw RawAttribute<'_>,
     atype: AttributeType,
@@ -46,7 +46,7 @@ pub fn text_of<'raw>(
 }
 
 /// The text of some bytes. Refused with `InvalidAttributeData` where they are not UTF-8.
-#[tactic(auto, using(crate::proofs::Values::utf8_is_accepted, crate::proofs::Values::not_utf8_is_refused))]
+#[tactic(auto, using(crate::proofs::Values::texts))]
 pub fn read_text(bytes: &[u8]) -> Result<&str, StunParseError>
     ensures { MatchResult result (λ text. (utf8_refusal bytes.now ≡ None) × (text.now ≡ bytes.now))
         (IsNamed (utf8_refusal bytes.now)) }

@@ -97,3 +97,6 @@ pub narrow_above : (wide least most : ℕ) (word : List ℕ) (n : ℕ) → numbe
 narrow_above wide least most word n found outside =
     let parts = number_within_is 0 wide word n found in
     number_within_no least most word (λ q. omega arith)
+
+-- a number as it is written
+pub ruleset read_numbers = (parse_number, plus_number)

@@ -94,7 +94,8 @@ IsRto (initial ∷ most ∷ rest) setup = IsRtoWith initial most rest setup
 IsRto words setup = ⊥
 
 -- the words spell the settings of a client at those addresses
-pub record IsClientOf (local remote families algorithms anonymity name password seed : List ℕ) (client : ClientSetup) : Type 0 where
+pub record IsClientOf (local remote families algorithms anonymity name password seed : List ℕ)
+    (client : ClientSetup) : Type 0 where
   pub here : IsSocketText local client.local
   pub server : IsSocketText remote client.remote
   pub asked : families ≡ families_word client.families

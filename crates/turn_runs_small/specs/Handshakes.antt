@@ -92,7 +92,11 @@ module _ (a : Addresses) where
   told_at zero =
       record { notice = AllocationCreated Tcp a.relayed; held = Allocation Tcp a.relayed; number = 0 } ∷ []
   told_at (suc zero) =
-      record { notice = PermissionCreated Tcp (socket_ip a.peer); held = Permission Tcp (socket_ip a.peer); number = 1 } ∷ []
+      record {
+        notice = PermissionCreated Tcp (socket_ip a.peer);
+        held = Permission Tcp (socket_ip a.peer);
+        number = 1;
+      } ∷ []
   told_at (suc (suc zero)) =
       record { notice = PermissionCreated Tcp (socket_ip a.peer); held = Permission Tcp (socket_ip a.peer); number = 2 }
       ∷ record { notice = ChannelCreated Tcp a.peer; held = Channel 0x4000 a.peer; number = 2 } ∷ []

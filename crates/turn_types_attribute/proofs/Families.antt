@@ -29,3 +29,6 @@ pub family_is_accepted : (kind : ℕ) (a : AddressFamily) → family_read_refusa
 unfolding family_read_refusal family_refusal
 family_is_accepted kind IPV4 = rw (value_is_accepted kind 4 4 (family_value IPV4) (omega arith) (omega arith)) refl
 family_is_accepted kind IPV6 = rw (value_is_accepted kind 4 4 (family_value IPV6) (omega arith) (omega arith)) refl
+
+-- a family is written, and read
+pub ruleset families = (family_is_accepted, same_family)

@@ -23,3 +23,6 @@ same_number m n m_small n_small h =
 -- four bytes are as many as are wanted
 pub number_is_accepted : (kind n : ℕ) → value_refusal kind 4 4 (attr_of kind (big_bytes 4 n)) ≡ None
 number_is_accepted kind n = value_is_accepted kind 4 4 (big_bytes 4 n) (omega arith) (omega arith)
+
+-- a number is written, and read
+pub ruleset numbers = (number_is_accepted, same_number)

@@ -130,6 +130,6 @@ impl<'a> AttributeFromRaw<'a> for AdditionalAddressFamily {
         AdditionalAddressFamily::from_raw_ref(alloc, &raw)
     }
 
-    #[tactic(auto, using(crate::proofs::Families::family_is_accepted, crate::proofs::Families::same_family))]
+    #[tactic(auto, using(crate::proofs::Families::families))]
     fn is_read_back(&self, _read: &AdditionalAddressFamily) {}
 }

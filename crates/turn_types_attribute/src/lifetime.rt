@@ -119,7 +119,7 @@ impl<'a> AttributeFromRaw<'a> for Lifetime {
         Lifetime::from_raw_ref(alloc, &raw)
     }
 
-    #[tactic(auto, using(crate::proofs::Numbers::number_is_accepted, crate::proofs::Numbers::same_number))]
+    #[tactic(auto, using(crate::proofs::Numbers::numbers))]
     fn is_read_back(&self, read: &Lifetime) {
         let _ = (self.seconds(), read.seconds());
     }

@@ -9,6 +9,7 @@ use Rattle.turn_types_frame.specs.StreamFronts.{front}
 use Rattle.turn_types_frame.specs.Streams.{Fed, alive, one_more, fed_within, fed}
 use Rattle.turn_types_frame.proofs.Fronts.{message, channel, short_message, short_channel, broken, front_cases, broken_grows, message_at, channel_at, front_is_message, front_is_channel}
 use Rattle.turn_types_frame.proofs.Feeding.{takes, takes_channel, waits, ends}
+use Rattle.turn_types_frame.specs.ChannelFrames.{channel_header_refusal, channel_refusal}
 
 -- ---- what begins no frame
 
@@ -106,3 +107,8 @@ one_way bytes one other rest left g h =
     let n : ℕ = suc (length bytes) in
     let same : one ≡ other = sym (gives n bytes one rest (omega arith) g) ∙ gives n bytes other left (omega arith) h in
     (same, append_cancel_left (concat one) rest left (sym g.joined ∙ h.joined ∙ ap (λ fs. concat fs ++ left) (sym same)))
+
+-- Refusals of a frame, to be opened: to unfold this one is to unfold both that its line names.
+unfoldable pub refusals : Type 0
+unfolding channel_refusal channel_header_refusal
+refusals = Unit {0}

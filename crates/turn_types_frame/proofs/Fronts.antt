@@ -230,3 +230,6 @@ given_fits bytes =
       | short_channel _ _ is ↦ rw is (omega arith)
       | broken _ _ is ↦ rw is (omega arith)
     ]
+
+-- what comes first, case by case
+pub ruleset told = (told_wrong, told_short, told_partial, told_message)

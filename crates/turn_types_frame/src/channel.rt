@@ -79,7 +79,7 @@ impl<'a> ChannelData<'a> {
 
     /// The channel frame at the front; what follows its data, padding too, is not looked at. Refused
     /// as `parse_header` is, and then with `Truncated` where the data is not there whole.
-    #[tactic(auto, unfolding(crate::specs::ChannelFrames::channel_refusal, crate::specs::ChannelFrames::channel_header_refusal))]
+    #[tactic(auto, unfolding(crate::proofs::Framing::refusals))]
     pub fn parse(bytes: &'a [u8]) -> Result<ChannelData<'a>, StunParseError>
         ensures { MatchResult result (λ channel. (channel_refusal bytes.now ≡ None)
             × (channel ≡ frame_at bytes.now)) (λ error. channel_refusal bytes.now ≡ Some error) }

@@ -48,7 +48,7 @@ fn channel_at(bytes: &[u8]) -> Front
 }
 
 /// The message that begins here, if it is whole.
-#[tactic(auto, using(crate::proofs::Fronts::told_wrong, crate::proofs::Fronts::told_short, crate::proofs::Fronts::told_partial, crate::proofs::Fronts::told_message))]
+#[tactic(auto, using(crate::proofs::Fronts::told))]
 fn message_at(bytes: &[u8]) -> Front
     requires { is_channel_top bytes.now ≡ false }
     ensures { result ≡ front bytes.now }

@@ -38,3 +38,9 @@ same_report q r q_small r_small h =
 -- what is written is not refused
 pub report_is_accepted : (kind : ℕ) (r : IcmpReport) → value_refusal kind 8 8 (attr_of kind (icmp_value r)) ≡ None
 report_is_accepted kind r = value_is_accepted kind 8 8 (icmp_value r) (omega arith) (omega arith)
+
+-- a report is written, and read
+pub ruleset reports = (report_is_accepted, report_again, same_report)
+
+-- a channel number is written, and read
+pub ruleset channels = (channel_is_accepted, channel_again, same_channel)

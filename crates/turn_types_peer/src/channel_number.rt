@@ -135,7 +135,7 @@ impl<'a> AttributeFromRaw<'a> for ChannelNumber {
         ChannelNumber::from_raw_ref(alloc, &raw)
     }
 
-    #[tactic(auto, using(crate::proofs::Peers::channel_is_accepted, crate::proofs::Peers::channel_again, crate::proofs::Peers::same_channel))]
+    #[tactic(auto, using(crate::proofs::Peers::channels))]
     fn is_read_back(&self, read: &ChannelNumber) {
         let _ = (self.channel(), read.channel());
     }

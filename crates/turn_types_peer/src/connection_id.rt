@@ -121,7 +121,7 @@ impl<'a> AttributeFromRaw<'a> for ConnectionId {
         ConnectionId::from_raw_ref(alloc, &raw)
     }
 
-    #[tactic(auto, using(turn_types_attribute::proofs::Numbers::number_is_accepted, turn_types_attribute::proofs::Numbers::same_number))]
+    #[tactic(auto, using(turn_types_attribute::proofs::Numbers::numbers))]
     fn is_read_back(&self, read: &ConnectionId) {
         let _ = (self.id(), read.id());
     }

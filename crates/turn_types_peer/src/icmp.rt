@@ -147,7 +147,7 @@ impl<'a> AttributeFromRaw<'a> for Icmp {
         read_report(&raw)
     }
 
-    #[tactic(auto, using(crate::proofs::Peers::report_is_accepted, crate::proofs::Peers::report_again, crate::proofs::Peers::same_report))]
+    #[tactic(auto, using(crate::proofs::Peers::reports))]
     fn is_read_back(&self, read: &Icmp) {
         let _ = (self.data(), read.data());
     }

@@ -20,7 +20,7 @@ fn after_bit(register: u32) -> u32
 }
 
 /// The register after one more byte.
-#[tactic(auto, using(crate::proofs::Register::bit_steps_more), unfolding(crate::specs::Crc::bit_steps))]
+#[tactic(auto, using(crate::proofs::Register::more_steps), unfolding(crate::specs::Crc::bit_steps))]
 fn after_byte(register: u32, byte: u8) -> u32
     ensures { result ≡ byte_step register byte }
 {
