@@ -22,8 +22,10 @@ IsHandledAs came false answer = answer ≡ Ignored came
 
 -- a message came, and the client is this afterwards; or the client had to grow by it and was refused memory, and has
 -- failed
-pub data IsMessageTaken {T : Type 0} (old : Protocol) (bytes : List ℕ) (came : Transmit T) (now : ℕ) (answer : TurnRecvRet T) (new : Protocol) : Type 0 where
-  Heard : (handled : Bool) → IsHeard old bytes now handled new → IsHandledAs came handled answer → IsMessageTaken old bytes came now answer new
+pub data IsMessageTaken {T : Type 0} (old : Protocol) (bytes : List ℕ) (came : Transmit T) (now : ℕ)
+    (answer : TurnRecvRet T) (new : Protocol) : Type 0 where
+  Heard : (handled : Bool) → IsHeard old bytes now handled new → IsHandledAs came handled answer
+      → IsMessageTaken old bytes came now answer new
   Lost : answer ≡ NoMemory came → MayGrow old bytes → HasFailed old new → IsMessageTaken old bytes came now answer new
 
 -- nothing is made of it
@@ -31,11 +33,14 @@ abbrev pub IsGivenBack : {T : Type 0} → Protocol → Transmit T → TurnRecvRe
 IsGivenBack old came answer new = (answer ≡ Ignored came) × (new ≡ old)
 
 -- by whether the bytes are a message
-abbrev pub IsRead : {T : Type 0} → Option StunParseError → Protocol → List ℕ → Transmit T → ℕ → TurnRecvRet T → Protocol → Type 0
+abbrev pub IsRead : {T : Type 0} → Option StunParseError → Protocol → List ℕ → Transmit T → ℕ → TurnRecvRet T
+    → Protocol → Type 0
 IsRead None old bytes came now answer new = IsMessageTaken old bytes came now answer new
 IsRead (Some error) old bytes came now answer new = IsGivenBack old came answer new
 
 -- a datagram came at a moment: what isn't the server's, or is no message, is given back
-pub data IsReceived {T : Type 0} (items : T → List ℕ) (old : Protocol) (came : Transmit T) (now : ℕ) (answer : TurnRecvRet T) (new : Protocol) : Type 0 where
-  Own : IsOfServer old came → IsRead (refusal (items came.bytes)) old (items came.bytes) came now answer new → IsReceived items old came now answer new
+pub data IsReceived {T : Type 0} (items : T → List ℕ) (old : Protocol) (came : Transmit T) (now : ℕ)
+    (answer : TurnRecvRet T) (new : Protocol) : Type 0 where
+  Own : IsOfServer old came → IsRead (refusal (items came.bytes)) old (items came.bytes) came now answer new
+      → IsReceived items old came now answer new
   Foreign : (IsOfServer old came → ⊥) → IsGivenBack old came answer new → IsReceived items old came now answer new

@@ -7,3 +7,6 @@ front_kept front behind = take-append_seam front behind
 
 pub whole_kept : {X : Type 0} (all : List X) → take (length all) all ≡ all
 whole_kept all = take-length all
+
+-- what stood first still does
+pub ruleset kept = (front_kept, whole_kept)

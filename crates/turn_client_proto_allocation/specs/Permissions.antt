@@ -42,7 +42,8 @@ polled_permission ended p = if is_among ended p.renewals then record p { renewal
 
 -- a permission after the request of a number was granted, which was to renew it
 unfoldable pub renewed_permission : (number expiry : ℕ) → Permission → Permission
-renewed_permission number expiry p = if renews_permission number p then record p { expiry = expiry; renewals = [] } else p
+renewed_permission number expiry p =
+    if renews_permission number p then record p { expiry = expiry; renewals = [] } else p
 
 -- a permission that the request of a number is to renew, too
 abbrev pub awaiting : ℕ → Permission → Permission

@@ -1,5 +1,5 @@
 -- What becomes of allocations as time goes on (RFC 8656, section 8).
-use Rattle.std.specs.Prelude.{ℕ, nat_lt, min, max, Bool, false, not, ◌||◌, ◌&&◌, List, [], ◌∷◌, filter, Option, Some, None, if◌then◌else◌}
+use Rattle.std.specs.Prelude.{ℕ, nat_lt, min, max, Bool, false, not, ◌||◌, ◌&&◌, List, [], filter, Option, Some, None, if◌then◌else◌}
 use Rattle.std.specs.List.{filter_map, list_any}
 use Rattle.turn_client_proto_allocation.specs.Awaited.{is_refresh}
 use Rattle.turn_client_proto_allocation.specs.Refreshing.{is_settled, renewal}

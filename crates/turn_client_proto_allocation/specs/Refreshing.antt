@@ -92,7 +92,8 @@ is_settled (r ∷ rs) = false
 
 -- an allocation is to be renewed at this moment
 unfoldable pub wants_refresh : ℕ → Allocation → Bool
-wants_refresh now a = not a.is_expired && (nat_le now a.expiry && (is_settled a.pending_refreshes && nat_le (renewal a) now))
+wants_refresh now a =
+    not a.is_expired && (nat_le now a.expiry && (is_settled a.pending_refreshes && nat_le (renewal a) now))
 
 -- an allocation for which a REFRESH of this number and lifetime was sent
 abbrev pub refreshing : PendingRefresh → Allocation → Allocation

@@ -3,7 +3,6 @@
 ghost use Rattle.std.specs.Prelude.{◌≡◌, OnOk, OnErr, Option, Some, None};
 ghost use Rattle.std.specs.Duration.{as_nanos};
 ghost use Rattle.turn_client_proto_allocation.specs.Awaited.{is_awaited};
-ghost use Rattle.turn_client_proto_allocation.specs.Listed.{awaits_refresh};
 ghost use Rattle.turn_client_proto_allocation.specs.declared.allocation.Allocation.{Allocation};
 ghost use Rattle.turn_client_proto_allocation.specs.declared.refresh.PendingRefresh.{PendingRefresh};
 ghost use Rattle.turn_client_proto_allocation.specs.Polling.{has_ended, next_of, polled, stays};
@@ -13,8 +12,7 @@ use crate::channel::{self, Channel, LapsedChannel, PendingChannel};
 use crate::connection::{
     Connecting, Connection, Waiting, is_any_attempt, is_any_binding, is_any_connecting,
 };
-use crate::permission;
-use crate::permissions::{PendingPermissions, Permissions};
+use crate::permission::{self, PendingPermission, Permission};
 use crate::refresh::{PendingRefresh, is_any_refresh, lifetime_asked};
 use std::alloc::Global;
 use std::net::SocketAddr;
@@ -50,11 +48,11 @@ pub struct Allocation {
     /// Whether a call found that it has ended, or its end was asked for.
     pub is_expired: bool,
     /// The permissions that stand.
-    pub permissions: Permissions,
+    pub permissions: ListOf<Permission>,
     /// The channels that stand.
     pub channels: ListOf<Channel>,
     /// The permissions that were asked for.
-    pub pending_permissions: PendingPermissions,
+    pub pending_permissions: ListOf<PendingPermission>,
     /// The channels that were asked for.
     pub pending_channels: ListOf<PendingChannel>,
     /// The REFRESH requests that are not answered.
@@ -87,9 +85,9 @@ impl Allocation {
             first_lifetime: lifetime,
             expiry: now.saturating_add(Duration::from_secs(u64::from(lifetime))),
             is_expired: false,
-            permissions: Permissions::new(alloc),
+            permissions: ListOf::new(alloc),
             channels: ListOf::new(alloc),
-            pending_permissions: PendingPermissions::new(alloc),
+            pending_permissions: ListOf::new(alloc),
             pending_channels: ListOf::new(alloc),
             pending_refreshes: ListOf::new(alloc),
             lapsed_channels: ListOf::new(alloc),
@@ -210,13 +208,6 @@ impl Allocation {
         self.channels.clear();
         self.expiry = now;
         self.is_expired = true;
-    }
-
-    /// Whether a REFRESH of this number is awaited.
-    pub fn awaits_refresh(&self, number: TransactionId) -> bool
-        ensures { result ≡ awaits_refresh number self.now }
-    {
-        is_any_refresh(self.pending_refreshes.as_slice(), number)
     }
 
     /// Whether it is kept at a moment, where the transaction of this number has ended: its time

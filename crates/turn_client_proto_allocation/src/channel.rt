@@ -1,20 +1,62 @@
 //! Channels (RFC 8656, section 12).
 
-ghost use Rattle.std.specs.Prelude.{◌≡◌};
+ghost use Rattle.std.specs.Prelude.{◌≡◌, ◌≤◌};
 ghost use Rattle.std.specs.List.{list_any};
+ghost use Rattle.turn_types.specs.TurnRegistry.{greatest_channel, least_channel};
 ghost use Rattle.turn_client_proto_allocation.specs.Awaited.{asks_for_channel, has_number, renews_channel};
 
 use crate::numbers::has_number;
+use std::marker::Model;
 use std::net::SocketAddr;
 use stun_proto::Instant;
 use stun_types::ListOf;
 use stun_types::message::TransactionId;
 
+/// The number of a channel, 0x4000 to 0x7FFF (RFC 8656, section 12). Contracts see the number.
+#[derive(Clone, Copy, Debug, PartialEq, Eq)]
+pub struct ChannelId {
+    id: u16,
+}
+
+impl Model for ChannelId {
+    ghost use Rattle.std.specs.Prelude.{ℕ, ◌≤◌};
+    ghost use Rattle.turn_types.specs.TurnRegistry.{greatest_channel, least_channel};
+
+    ghost Value = { ℕ };
+
+    ghost view = { λ channel. channel.id };
+
+    ghost invariant = { λ channel. (least_channel ≤ channel.id)
+        × (channel.id ≤ greatest_channel) };
+
+    ghost inverse = { λ id. record { id = id } };
+}
+
+impl ChannelId {
+    /// The channel of a number in the range.
+    pub fn new(id: u16) -> ChannelId
+        requires least { least_channel ≤ id }
+        requires most { id ≤ greatest_channel }
+        ensures { result ≡ id }
+    {
+        ChannelId { id }
+    }
+
+    /// The number.
+    pub fn number(self) -> u16
+        ensures number { result ≡ self }
+        ensures least { least_channel ≤ result }
+        ensures most { result ≤ greatest_channel }
+    {
+        self.id
+    }
+}
+
 /// A channel that stands.
 #[derive(Debug, Drop)]
 pub struct Channel {
-    /// The number of the channel, 0x4000 to 0x7FFF.
-    pub number: u16,
+    /// The number of the channel.
+    pub number: ChannelId,
     /// The peer's address.
     pub peer: SocketAddr,
     /// The moment at which it lapses.
@@ -26,8 +68,8 @@ pub struct Channel {
 /// A channel that was asked for.
 #[derive(Debug, Drop)]
 pub struct PendingChannel {
-    /// The number of the channel, 0x4000 to 0x7FFF.
-    pub channel: u16,
+    /// The number of the channel.
+    pub channel: ChannelId,
     /// The peer's address.
     pub peer: SocketAddr,
     /// The numbers of the requests that ask for it.
@@ -39,7 +81,7 @@ pub struct PendingChannel {
 #[derive(Clone, Copy, Debug)]
 pub struct LapsedChannel {
     /// The number of the channel.
-    pub number: u16,
+    pub number: ChannelId,
     /// The peer's address.
     pub peer: SocketAddr,
     /// The moment at which it lapsed.

@@ -1,11 +1,11 @@
 //! The allocations of a client.
 
-ghost use Rattle.std.specs.Prelude.{◌≡◌, ◌++◌, ◌∷◌, [], List, OnOk, OnErr, None, Some, map, position};
+ghost use Rattle.std.specs.Prelude.{◌≡◌, ◌++◌, ◌∷◌, [], List, OnOk, OnErr, map};
 ghost use Rattle.std.specs.Borrow.{sem};
 ghost use Rattle.std.specs.List.{list_any};
 ghost use Rattle.stun_proto.specs.Least.{IsLeastOf};
 ghost use Rattle.turn_client_proto_allocation.specs.Lending.{LendsAllocations};
-ghost use Rattle.turn_client_proto_allocation.specs.Listed.{awaits_refresh, is_any_awaited, refresh_asked, refreshed_again};
+ghost use Rattle.turn_client_proto_allocation.specs.Listed.{is_any_awaited};
 ghost use Rattle.turn_client_proto_allocation.specs.Polling.{earlier, kept, nexts, polled};
 ghost use Rattle.turn_client_proto_allocation.specs.declared.allocation.Allocation.{Allocation};
 ghost use Rattle.turn_client_proto_allocation.specs.declared.refresh.PendingRefresh.{PendingRefresh};
@@ -83,34 +83,6 @@ impl Allocations {
         self.items.iter().any(|a| a.is_awaited(number))
     }
 
-    /// The lifetime in seconds that the REFRESH of this number asks for, where one of them awaits
-    /// it.
-    #[tactic(auto, using(crate::proofs::Changes::first_by_place))]
-    pub fn refresh_asked(&self, number: TransactionId) -> Option<u32>
-        ensures { result ≡ refresh_asked number self.now }
-    {
-        let allocations = self.items.as_slice();
-        let place = place_awaiting(allocations, number)?;
-        allocations[place].lifetime_asked(number)
-    }
-
-    /// The first one that awaits the REFRESH of this number awaits another one, too. Where memory
-    /// is refused, nothing changes.
-    #[tactic(auto, using(crate::proofs::Changes::first_by_place))]
-    pub fn refresh_again(
-        &mut self,
-        number: TransactionId,
-        refresh: &PendingRefresh,
-    ) -> Result<(), NoMemory>
-        ensures ok { OnOk result (self.new ≡ refreshed_again number refresh.now self.old) }
-        ensures err { OnErr result (self.new ≡ self.old) }
-    {
-        let Some(place) = place_awaiting(self.items.as_slice(), number) else {
-            return Ok(());
-        };
-        self.items[place].await_refresh(refresh.number, refresh.lifetime)
-    }
-
     /// Each of them awaits a REFRESH. Where memory is refused, nothing changes.
     pub fn await_refresh(&mut self, refresh: &PendingRefresh) -> Result<(), NoMemory>
         ensures ok { OnOk result (self.new ≡ map (refreshing refresh.now) self.old) }
@@ -174,13 +146,6 @@ impl Allocations {
         }
         next
     }
-}
-
-/// The place of the first allocation that awaits the REFRESH of this number.
-fn place_awaiting(allocations: &[Allocation], number: TransactionId) -> Option<usize>
-    ensures { result ≡ position (awaits_refresh number) allocations.now }
-{
-    allocations.iter().position(|a| a.awaits_refresh(number))
 }
 
 /// Each allocation awaits a REFRESH. Where memory is refused, nothing changes.

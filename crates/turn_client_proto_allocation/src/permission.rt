@@ -1,9 +1,9 @@
 //! Permissions (RFC 8656, section 9).
 
-ghost use Rattle.std.specs.Prelude.{◌≡◌, [], ◌∷◌, IfOk, OnOk, OnErr};
+ghost use Rattle.std.specs.Prelude.{◌≡◌, [], ◌∷◌, IfOk};
 ghost use Rattle.std.specs.List.{list_any};
 ghost use Rattle.turn_client_proto_allocation.specs.Awaited.{asks_for_permission, has_number, renews_permission};
-ghost use Rattle.turn_client_proto_allocation.specs.Permissions.{awaiting, has_lapsed, is_over, next_of_permission, permission_renewal, polled_permission, renewed_permission, wants_renewal, with_number};
+ghost use Rattle.turn_client_proto_allocation.specs.Permissions.{has_lapsed, is_over, next_of_permission, permission_renewal, polled_permission, renewed_permission, wants_renewal};
 
 use crate::numbers::{has_number, is_among};
 use std::alloc::Global;
@@ -95,14 +95,6 @@ impl Permission {
             self.renewals.clear();
         }
     }
-
-    /// The request of this number is to renew it, too. Where memory is refused, nothing changes.
-    pub(crate) fn await_renewal(&mut self, number: TransactionId) -> Result<(), NoMemory>
-        ensures ok { OnOk result (self.new ≡ awaiting number self.old) }
-        ensures err { OnErr result (self.new ≡ self.old) }
-    {
-        self.renewals.push(number)
-    }
 }
 
 /// A permission that was asked for.
@@ -142,14 +134,6 @@ impl PendingPermission {
         ensures { result ≡ is_over ended.now self.now }
     {
         is_among(ended, self.numbers.as_slice())
-    }
-
-    /// The request of this number asks for it, too. Where memory is refused, nothing changes.
-    pub(crate) fn ask_again(&mut self, number: TransactionId) -> Result<(), NoMemory>
-        ensures ok { OnOk result (self.new ≡ with_number number self.old) }
-        ensures err { OnErr result (self.new ≡ self.old) }
-    {
-        self.numbers.push(number)
     }
 }
 

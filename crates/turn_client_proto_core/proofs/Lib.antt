@@ -2,6 +2,7 @@ pub mod Deleting
 pub mod Granting
 pub mod Numbers
 pub mod Results
+pub mod Sendable
 pub mod Shown
 pub mod UnderWay
 pub mod Usual

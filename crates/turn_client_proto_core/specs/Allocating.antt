@@ -32,7 +32,8 @@ brought p bytes lifetime now = allocations_of p.families p.allocates lifetime no
 -- a success response without a lifetime ends the client
 abbrev pub IsAllocatedFor : Option ℕ → Protocol → List ℕ → ℕ → Bool → Protocol → Type 0
 IsAllocatedFor None p bytes now handled new = IsHandled (ended p) handled new
-IsAllocatedFor (Some lifetime) p bytes now handled new = IsHandled (allocated (brought p bytes lifetime now) p) handled new
+IsAllocatedFor (Some lifetime) p bytes now handled new =
+    IsHandled (allocated (brought p bytes lifetime now) p) handled new
 
 abbrev pub IsAllocated : Protocol → List ℕ → ℕ → Bool → Protocol → Type 0
 IsAllocated p bytes now handled new = IsAllocatedFor (lifetime_told bytes) p bytes now handled new

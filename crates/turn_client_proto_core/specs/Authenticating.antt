@@ -41,7 +41,8 @@ allocates_again number now p =
 
 -- a challenge is answered by the request signed anew, where its number is outstanding; but after too many of them the
 -- client ends
-pub record IsAllocatingAgain (p : Protocol) (bytes : List ℕ) (now : ℕ) (handled : Bool) (new : Protocol) : Type 0 where
+pub record IsAllocatingAgain (p : Protocol) (bytes : List ℕ) (now : ℕ) (handled : Bool) (new : Protocol)
+    : Type 0 where
   pub number : ℕ
   pub is_next : IsNextNumber p number
   pub outcome : IsHandled (challenged bytes (allocates_again number now p)) handled new
@@ -60,7 +61,8 @@ IsTurnedAway p bytes handled new = MatchBool (is_awaited p.agent bytes)
     (IsIgnored p handled new)
 
 -- by the verdict on a response, where no ALLOCATE was signed
-abbrev pub IsFirstJudged : Result LongTermClientValidation LongTermClientAuthError → Protocol → List ℕ → ℕ → Bool → Protocol → Type 0
+abbrev pub IsFirstJudged : Result LongTermClientValidation LongTermClientAuthError
+    → Protocol → List ℕ → ℕ → Bool → Protocol → Type 0
 IsFirstJudged (Ok (ResendRequest choice)) p bytes now handled new = IsChallenged p bytes now handled new
 IsFirstJudged (Ok (Validated algorithm)) p bytes now handled new = IsIgnored (ended p) handled new
 IsFirstJudged (Err NoMemory) p bytes now handled new = ⊥
@@ -88,7 +90,8 @@ allocates_other family number now p =
     } in
     record (asked narrowed (Allocate p.allocates (family ∷ [])) number now) { phase = Authenticating (number ∷ []) }
 
-pub record IsAskingForOther (p : Protocol) (family : AddressFamily) (now : ℕ) (handled : Bool) (new : Protocol) : Type 0 where
+pub record IsAskingForOther (p : Protocol) (family : AddressFamily) (now : ℕ) (handled : Bool) (new : Protocol)
+    : Type 0 where
   pub number : ℕ
   pub is_next : IsNextNumber p number
   pub outcome : IsHandled (allocates_other family number now p) handled new
@@ -110,7 +113,8 @@ IsAccepted p bytes now handled new = MatchBool (is_awaited p.agent bytes)
     (IsHandled p handled new)
 
 -- by the verdict on a response to one of the ALLOCATEs
-abbrev pub IsSignedJudged : Result LongTermClientValidation LongTermClientAuthError → Protocol → List ℕ → ℕ → Bool → Protocol → Type 0
+abbrev pub IsSignedJudged : Result LongTermClientValidation LongTermClientAuthError
+    → Protocol → List ℕ → ℕ → Bool → Protocol → Type 0
 IsSignedJudged (Ok (ResendRequest choice)) p bytes now handled new = IsChallenged p bytes now handled new
 IsSignedJudged (Ok (Validated algorithm)) p bytes now handled new = IsAccepted p bytes now handled new
 IsSignedJudged (Err (IntegrityFailed algorithm)) p bytes now handled new = IsHandled (ended p) handled new

@@ -10,7 +10,8 @@ use Rattle.turn_client_proto_core.specs.declared.protocol.Phase.TheVariants.{Ini
 use Rattle.turn_client_proto_core.specs.declared.protocol.Protocol.{Protocol}
 
 -- a client with these settings, by a transport, from an own address to the server's
-pub record IsNew (transport : TransportType) (here server : SocketAddr) (config : Config) (seed : List ℕ) (p : Protocol) : Type 0 where
+pub record IsNew (transport : TransportType) (here server : SocketAddr) (config : Config) (seed : List ℕ) (p : Protocol)
+    : Type 0 where
   pub server_is : p.server ≡ server
   pub allocates : p.allocates ≡ config.transport
   pub families : p.families ≡ config.families

@@ -36,7 +36,8 @@ pub record IsDeleted (old : Protocol) (now : ℕ) (new : Protocol) : Type 0 wher
 
 -- a deletion, as it is answered: refused, and nothing changed; asked for; or memory was refused, and nothing changed but
 -- the words that were drawn
-pub record IsDeleteAnswered (old : Protocol) (now : ℕ) (answer : Result (Unit {0}) DeleteError) (new : Protocol) : Type 0 where
+pub record IsDeleteAnswered (old : Protocol) (now : ℕ) (answer : Result (Unit {0}) DeleteError) (new : Protocol)
+    : Type 0 where
   pub refused : IfSome (delete_refusal old) (λ error. (answer ≡ Err error) × (new ≡ old))
   pub asked : IfNone (delete_refusal old) (MatchResult answer (λ _. IsDeleted old now new)
       (λ error. (error ≡ NoMemory) × (new ≡ after_number old)))

@@ -12,15 +12,18 @@ use Rattle.turn_client_proto_allocation.specs.declared.allocation.Allocation.{Al
 use Rattle.turn_client_proto_api.specs.declared.error.CreatePermissionError.{CreatePermissionError}
 use Rattle.turn_client_proto_api.specs.declared.error.CreatePermissionError.TheVariants.{AlreadyExists, NoAllocation, NoMemory}
 use Rattle.turn_client_proto_api.specs.declared.event.TurnEvent.TheVariants.{PermissionCreated, PermissionCreateFailed}
-use Rattle.turn_client_proto_permission.specs.Asking.{all_asked_again, all_renewed_again, asking, is_of, is_past, knows, marked, peer_asked, peer_renewed}
+use Rattle.turn_client_proto_permission.specs.Asking.{asking, is_of, is_past, knows, marked}
+use Rattle.turn_client_proto_permission.specs.Awaited.{asked_by}
 use Rattle.turn_client_proto_permission.specs.Granted.{all_permitted, renewed, turned_down}
+use Rattle.turn_client_proto_permission.specs.declared.awaited.Asked.{Asked}
+use Rattle.turn_client_proto_permission.specs.declared.awaited.Asked.TheVariants.{Lifetime, NewPermission, Renewal}
 use Rattle.turn_client_proto_request.specs.ToldRequests.{IsLawfulRequest}
 use Rattle.turn_client_proto_request.specs.declared.request.TurnRequest.TheVariants.{CreatePermission}
 use Rattle.turn_client_proto_core.specs.Asking.{asked}
 use Rattle.turn_client_proto_core.specs.Deleting.{is_authenticated}
 use Rattle.turn_client_proto_core.specs.Numbering.{IsNextNumber, after_number}
 use Rattle.turn_client_proto_core.specs.Outcomes.{IsHandled, IsIgnored}
-use Rattle.turn_client_proto_core.specs.Responding.{challenged, is_error_class}
+use Rattle.turn_client_proto_core.specs.Responding.{is_error_class}
 use Rattle.turn_client_proto_core.specs.declared.protocol.Phase.{Phase}
 use Rattle.turn_client_proto_core.specs.declared.protocol.Protocol.{Protocol}
 
@@ -58,7 +61,8 @@ after_asking transport ip number now p = record (asked (after_number p) (CreateP
 }
 
 -- a permission was asked for, by a request of the next number
-pub record IsPermissionAsked (old : Protocol) (transport : TransportType) (ip : IpAddr) (now : ℕ) (new : Protocol) : Type 0 where
+pub record IsPermissionAsked (old : Protocol) (transport : TransportType) (ip : IpAddr) (now : ℕ) (new : Protocol)
+    : Type 0 where
   pub number : ℕ
   pub is_next : IsNextNumber old number
   pub lawful : IsLawfulRequest (CreatePermission ip)
@@ -66,46 +70,21 @@ pub record IsPermissionAsked (old : Protocol) (transport : TransportType) (ip : 
 
 -- a call that asks for a permission, as it is answered: refused; asked for; or memory was refused, and nothing changed
 -- but the words that were drawn
-pub record IsPermissionAnswered (old : Protocol) (transport : TransportType) (ip : IpAddr) (now : ℕ) (answer : Result (Unit {0}) CreatePermissionError) (new : Protocol) : Type 0 where
+pub record IsPermissionAnswered (old : Protocol) (transport : TransportType) (ip : IpAddr) (now : ℕ)
+    (answer : Result (Unit {0}) CreatePermissionError) (new : Protocol) : Type 0 where
   pub refused : IfSome (permission_refusal old transport ip now) (λ error.
       (answer ≡ Err error) × (new ≡ refused_in (allocation_for transport ip old) transport ip now old))
   pub asked : IfNone (permission_refusal old transport ip now) (MatchResult answer
       (λ _. IsPermissionAsked old transport ip now new)
       (λ error. (error ≡ NoMemory) × (new ≡ after_number old)))
 
--- ---- a challenge
-
--- a client that sends a CREATE_PERMISSION for an address again, under another number
-unfoldable pub permits_again : (List Allocation → List Allocation) → IpAddr → (number now : ℕ) → Protocol → Protocol
-permits_again change ip number now p =
-    record (asked (after_number p) (CreatePermission ip) number now) { allocations = change p.allocations }
-
--- a challenge is answered by the CREATE_PERMISSION signed anew, and the number is kept with the old one
-pub record IsPermittingAgain (change : ℕ → List Allocation → List Allocation) (p : Protocol) (bytes : List ℕ) (ip : IpAddr) (now : ℕ) (handled : Bool) (new : Protocol) : Type 0 where
-  pub number : ℕ
-  pub is_next : IsNextNumber p number
-  pub lawful : IsLawfulRequest (CreatePermission ip)
-  pub outcome : IsHandled (challenged bytes (permits_again (change number) ip number now p)) handled new
-
--- by the permission that the request of the old number was to renew
-abbrev pub IsRenewingAgain : Option (TransportType × IpAddr) → Protocol → List ℕ → ℕ → Bool → Protocol → Type 0
-IsRenewingAgain None p bytes now handled new = IsIgnored p handled new
-IsRenewingAgain (Some peer) p bytes now handled new =
-    IsPermittingAgain (all_renewed_again (number_at bytes)) p bytes peer.1 now handled new
-
--- by the permission that the request of the old number asks for
-abbrev pub IsAskingAgain : Option (TransportType × IpAddr) → Protocol → List ℕ → ℕ → Bool → Protocol → Type 0
-IsAskingAgain None p bytes now handled new = IsRenewingAgain (peer_renewed (number_at bytes) p.allocations) p bytes now handled new
-IsAskingAgain (Some peer) p bytes now handled new =
-    IsPermittingAgain (all_asked_again (number_at bytes)) p bytes peer.1 now handled new
-
 -- ---- a response
 
--- a client in which the first permission that the request of a number asks for was granted: that is told
-unfoldable pub granted : TransportType × IpAddr → (number now : ℕ) → Protocol → Protocol
-granted peer number now p = record p {
-  allocations = all_permitted number now p.allocations;
-  events = p.events ++ PermissionCreated peer.0 peer.1 ∷ [];
+-- a client in which a permission for an address was granted, for which the request of a number asks: that is told
+unfoldable pub granted : TransportType → IpAddr → (number now : ℕ) → Protocol → Protocol
+granted transport ip number now p = record p {
+  allocations = all_permitted ip number now p.allocations;
+  events = p.events ++ PermissionCreated transport ip ∷ [];
 }
 
 -- a client in which the permissions that the request of a number was to renew stand on
@@ -113,34 +92,30 @@ unfoldable pub renews : (number now : ℕ) → Protocol → Protocol
 renews number now p = record p { allocations = map (renewed number now) p.allocations }
 
 -- a client in which the permissions that the request of a number asks for, or was to renew, are gone: the first is told
-unfoldable pub refused : TransportType × IpAddr → ℕ → Protocol → Protocol
-refused peer number p = record p {
+unfoldable pub refused : TransportType → IpAddr → ℕ → Protocol → Protocol
+refused transport ip number p = record p {
   allocations = map (turned_down number) p.allocations;
-  events = p.events ++ PermissionCreateFailed peer.0 peer.1 ∷ [];
+  events = p.events ++ PermissionCreateFailed transport ip ∷ [];
 }
 
--- by the permission that the request of a number was to renew
-abbrev pub IsRenewalGranted : Option (TransportType × IpAddr) → Protocol → (number now : ℕ) → Bool → Protocol → Type 0
-IsRenewalGranted None p number now handled new = IsIgnored p handled new
-IsRenewalGranted (Some peer) p number now handled new = IsHandled (renews number now p) handled new
+-- the request of a number was granted, by what it asks for
+abbrev pub IsGrantedFor : Option Asked → Protocol → (number now : ℕ) → Bool → Protocol → Type 0
+IsGrantedFor (Some (NewPermission transport ip)) p number now handled new =
+    IsHandled (granted transport ip number now p) handled new
+IsGrantedFor (Some (Renewal transport ip)) p number now handled new = IsHandled (renews number now p) handled new
+IsGrantedFor (Some (Lifetime lifetime)) p number now handled new = IsIgnored p handled new
+IsGrantedFor None p number now handled new = IsIgnored p handled new
 
--- by the permission that the request of a number asks for
-abbrev pub IsGrantedFor : Option (TransportType × IpAddr) → Protocol → (number now : ℕ) → Bool → Protocol → Type 0
-IsGrantedFor None p number now handled new = IsRenewalGranted (peer_renewed number p.allocations) p number now handled new
-IsGrantedFor (Some peer) p number now handled new = IsHandled (granted peer number now p) handled new
-
--- by the permission that the request of a number was to renew
-abbrev pub IsRenewalRefused : Option (TransportType × IpAddr) → Protocol → ℕ → Bool → Protocol → Type 0
-IsRenewalRefused None p number handled new = IsIgnored p handled new
-IsRenewalRefused (Some peer) p number handled new = IsHandled (refused peer number p) handled new
-
--- by the permission that the request of a number asks for
-abbrev pub IsRefusedFor : Option (TransportType × IpAddr) → Protocol → ℕ → Bool → Protocol → Type 0
-IsRefusedFor None p number handled new = IsRenewalRefused (peer_renewed number p.allocations) p number handled new
-IsRefusedFor (Some peer) p number handled new = IsHandled (refused peer number p) handled new
+-- the request of a number was refused, by what it asks for
+abbrev pub IsRefusedFor : Option Asked → Protocol → ℕ → Bool → Protocol → Type 0
+IsRefusedFor (Some (NewPermission transport ip)) p number handled new =
+    IsHandled (refused transport ip number p) handled new
+IsRefusedFor (Some (Renewal transport ip)) p number handled new = IsHandled (refused transport ip number p) handled new
+IsRefusedFor (Some (Lifetime lifetime)) p number handled new = IsIgnored p handled new
+IsRefusedFor None p number handled new = IsIgnored p handled new
 
 -- the response to a CREATE_PERMISSION, by its class
 abbrev pub IsPermissionResponded : Protocol → List ℕ → ℕ → Bool → Protocol → Type 0
 IsPermissionResponded p bytes now handled new = MatchBool (is_error_class (class_of (kind_at bytes)))
-    (IsRefusedFor (peer_asked (number_at bytes) p.allocations) p (number_at bytes) handled new)
-    (IsGrantedFor (peer_asked (number_at bytes) p.allocations) p (number_at bytes) now handled new)
+    (IsRefusedFor (asked_by (number_at bytes) p.allocations) p (number_at bytes) handled new)
+    (IsGrantedFor (asked_by (number_at bytes) p.allocations) p (number_at bytes) now handled new)

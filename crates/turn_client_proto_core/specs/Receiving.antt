@@ -24,7 +24,8 @@ abbrev pub Follows : Type 1
 Follows = Result LongTermClientValidation LongTermClientAuthError → Protocol → List ℕ → ℕ → Bool → Protocol → Type 0
 
 -- a message was judged, and this followed
-pub record IsFollowed (follows : Follows) (old : Protocol) (bytes : List ℕ) (now : ℕ) (handled : Bool) (new : Protocol) : Type 0 where
+pub record IsFollowed (follows : Follows) (old : Protocol) (bytes : List ℕ) (now : ℕ) (handled : Bool)
+    (new : Protocol) : Type 0 where
   pub verdict : Result LongTermClientValidation LongTermClientAuthError
   pub auth : auth.Client
   pub is_judged : IsJudged old.auth bytes verdict auth

@@ -10,52 +10,64 @@ use Rattle.stun_types.specs.Grammar.{number_at}
 use Rattle.stun_types.specs.Registry.{allocation_mismatch_code}
 use Rattle.stun_types.specs.Types.{class_of, method_of}
 use Rattle.turn_types.specs.TurnRegistry.{create_permission_method, refresh_method}
-use Rattle.turn_client_proto_allocation.specs.Listed.{refresh_asked, refreshed_again}
 use Rattle.turn_client_proto_allocation.specs.Refreshing.{ends_by, renewed}
-use Rattle.turn_client_proto_permission.specs.Asking.{peer_asked}
-use Rattle.turn_client_proto_request.specs.declared.request.TurnRequest.TheVariants.{Refresh}
+use Rattle.turn_client_proto_permission.specs.Awaited.{all_asked_too, asked_by}
+use Rattle.turn_client_proto_permission.specs.declared.awaited.Asked.{Asked}
+use Rattle.turn_client_proto_permission.specs.declared.awaited.Asked.TheVariants.{Lifetime, NewPermission, Renewal}
+use Rattle.turn_client_proto_request.specs.ToldRequests.{IsLawfulRequest}
+use Rattle.turn_client_proto_request.specs.declared.request.TurnRequest.{TurnRequest}
+use Rattle.turn_client_proto_request.specs.declared.request.TurnRequest.TheVariants.{CreatePermission, Refresh}
 use Rattle.turn_client_proto_response.specs.Told.{first_code, is_code, lifetime_told}
 use Rattle.turn_client_proto_core.specs.Asking.{asked}
 use Rattle.turn_client_proto_core.specs.Ending.{ended}
 use Rattle.turn_client_proto_core.specs.Numbering.{IsNextNumber, after_number}
 use Rattle.turn_client_proto_core.specs.Outcomes.{IsHandled, IsIgnored}
-use Rattle.turn_client_proto_core.specs.Permitting.{IsAskingAgain, IsPermissionResponded}
+use Rattle.turn_client_proto_core.specs.Permitting.{IsPermissionResponded}
 use Rattle.turn_client_proto_core.specs.Responding.{accepted, challenged, is_error_class, is_tired}
 use Rattle.turn_client_proto_core.specs.declared.protocol.Phase.TheVariants.{Ended}
 use Rattle.turn_client_proto_core.specs.declared.protocol.Protocol.{Protocol}
 
 -- ---- a challenge
 
--- a client that sends a REFRESH of this lifetime again, under another number, for the allocation that awaits the one of
--- the old number
-unfoldable pub refreshes_again : (old number lifetime now : ℕ) → Protocol → Protocol
-refreshes_again old number lifetime now p = record (asked (after_number p) (Refresh lifetime) number now) {
-  allocations = refreshed_again old (record { number = number; lifetime = lifetime }) p.allocations;
+-- the request by which something is asked for
+abbrev pub request_for : Asked → TurnRequest
+request_for (Lifetime lifetime) = Refresh lifetime
+request_for (NewPermission transport ip) = CreatePermission ip
+request_for (Renewal transport ip) = CreatePermission ip
+
+-- a client that asks for the same once more, by the request of another number
+unfoldable pub asks_again : Asked → (old number now : ℕ) → Protocol → Protocol
+asks_again what old number now p = record (asked (after_number p) (request_for what) number now) {
+  allocations = all_asked_too what old number p.allocations;
 }
 
-pub record IsRefreshingAgain (p : Protocol) (bytes : List ℕ) (lifetime now : ℕ) (handled : Bool) (new : Protocol) : Type 0 where
+-- a challenge is answered by the request signed anew, and its number is kept with the old one
+pub record IsSentAgain (what : Asked) (p : Protocol) (bytes : List ℕ) (now : ℕ) (handled : Bool) (new : Protocol)
+    : Type 0 where
   pub number : ℕ
   pub is_next : IsNextNumber p number
-  pub outcome : IsHandled (challenged bytes (refreshes_again (number_at bytes) number lifetime now p)) handled new
+  pub lawful : IsLawfulRequest (request_for what)
+  pub outcome : IsHandled (challenged bytes (asks_again what (number_at bytes) number now p)) handled new
 
--- a challenge is answered by the REFRESH signed anew, where one of its number is awaited; else by the CREATE_PERMISSION
-abbrev pub IsAskedAgain : Option ℕ → Protocol → List ℕ → ℕ → Bool → Protocol → Type 0
-IsAskedAgain None p bytes now handled new = IsAskingAgain (peer_asked (number_at bytes) p.allocations) p bytes now handled new
-IsAskedAgain (Some lifetime) p bytes now handled new = IsRefreshingAgain p bytes lifetime now handled new
+-- a challenge is answered where its request asks for something that an allocation awaits
+abbrev pub IsAskedAgain : Option Asked → Protocol → List ℕ → ℕ → Bool → Protocol → Type 0
+IsAskedAgain None p bytes now handled new = IsIgnored p handled new
+IsAskedAgain (Some what) p bytes now handled new = IsSentAgain what p bytes now handled new
 
 -- after too many challenges the client ends; else one counts where its number is outstanding
 abbrev pub IsRechallenged : Protocol → List ℕ → ℕ → Bool → Protocol → Type 0
 IsRechallenged p bytes now handled new = MatchBool (is_tired p)
     (IsHandled (ended p) handled new)
     (MatchBool (is_awaited p.agent bytes)
-    (IsAskedAgain (refresh_asked (number_at bytes) p.allocations) p bytes now handled new)
+    (IsAskedAgain (asked_by (number_at bytes) p.allocations) p bytes now handled new)
     (IsIgnored p handled new))
 
 -- ---- the response to a REFRESH
 
 -- a REFRESH is granted by a success, or by the error that there is no allocation (RFC 8656, section 8.3)
 abbrev pub is_refreshed : List ℕ → Bool
-is_refreshed bytes = if is_error_class (class_of (kind_at bytes)) then is_code allocation_mismatch_code (first_code bytes) else true
+is_refreshed bytes =
+    if is_error_class (class_of (kind_at bytes)) then is_code allocation_mismatch_code (first_code bytes) else true
 
 -- a client without allocations
 unfoldable pub deallocated : Protocol → Protocol
@@ -88,7 +100,8 @@ IsTakenUp p bytes now handled new = MatchBool (is_response bytes && is_awaited p
     (IsIgnored p handled new)
 
 -- by the verdict on a request or a response
-abbrev pub IsJudgedStanding : Result LongTermClientValidation LongTermClientAuthError → Protocol → List ℕ → ℕ → Bool → Protocol → Type 0
+abbrev pub IsJudgedStanding : Result LongTermClientValidation LongTermClientAuthError
+    → Protocol → List ℕ → ℕ → Bool → Protocol → Type 0
 IsJudgedStanding (Ok (ResendRequest choice)) p bytes now handled new = IsRechallenged p bytes now handled new
 IsJudgedStanding (Ok (Validated algorithm)) p bytes now handled new = IsTakenUp p bytes now handled new
 IsJudgedStanding (Err NoMemory) p bytes now handled new = ⊥

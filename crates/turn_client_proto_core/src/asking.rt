@@ -33,14 +33,14 @@ impl Protocol {
         };
         match self.agent.send_request(last.bytes(), self.server, now) {
             Ok(_) => Ok(()),
-            // No request of the number is outstanding.
-            Err(StunError::AlreadyInProgress) => unreachable!(),
-            // Memory is refused, or the text is no message: the signer writes none such, but no
-            // clause of it says so.
-            Err(_) => {
-                self.queue.pop_back();
-                Err(NoMemory)
-            }
+            Err(e) => match e {
+                StunError::NoMemory => {
+                    self.queue.pop_back();
+                    Err(NoMemory)
+                }
+                // It is a request, and none of its number is outstanding.
+                _ => unreachable!(),
+            },
         }
     }
 }

@@ -1,23 +1,17 @@
 //! Permissions that a client is asked for, and the responses to its requests for them (RFC 8656,
 //! section 10).
 
-ghost use Rattle.std.specs.Prelude.{◌≡◌, ◌<◌, ℕ, ◌∷◌, [], List, IfOk, IfSome, OnErr, OnOk, false};
+ghost use Rattle.std.specs.Prelude.{◌≡◌, ◌<◌, ℕ, ◌∷◌, [], List, IfOk, IfSome, OnErr, OnOk};
 ghost use Rattle.std.specs.Prelude.{length, slice_get, slice_set};
-ghost use Rattle.turn_client_proto_api.specs.Handling.{is_awaited};
-ghost use Rattle.stun_types.specs.Grammar.{number_at};
-ghost use Rattle.turn_client_proto_permission.specs.Asking.{all_asked_again, all_renewed_again};
-ghost use Rattle.turn_client_proto_permission.specs.Asking.{asking, peer_asked, peer_renewed};
+ghost use Rattle.turn_client_proto_permission.specs.Asking.{asking};
+ghost use Rattle.turn_client_proto_permission.specs.Awaited.{asked_by};
 ghost use Rattle.turn_client_proto_request.specs.ToldRequests.{IsLawfulRequest};
 ghost use Rattle.turn_client_proto_request.specs.declared.request.TurnRequest.TheVariants.{CreatePermission};
 ghost use Rattle.turn_client_proto_core.specs.Asking.{asked};
 ghost use Rattle.turn_client_proto_core.specs.Ending.{IsUnderWay};
 ghost use Rattle.turn_client_proto_core.specs.Numbering.{IsNextNumber, IsUnused, after_number};
-ghost use Rattle.turn_client_proto_core.specs.Permitting.{IsAskingAgain, IsGrantedFor};
-ghost use Rattle.turn_client_proto_core.specs.Permitting.{IsPermissionAnswered};
-ghost use Rattle.turn_client_proto_core.specs.Permitting.{IsPermissionResponded, IsPermittingAgain};
-ghost use Rattle.turn_client_proto_core.specs.Permitting.{IsRefusedFor, IsRenewingAgain};
-ghost use Rattle.turn_client_proto_core.specs.Permitting.{permits_again};
-ghost use Rattle.turn_client_proto_core.specs.Responding.{is_tired};
+ghost use Rattle.turn_client_proto_core.specs.Permitting.{IsGrantedFor, IsPermissionAnswered};
+ghost use Rattle.turn_client_proto_core.specs.Permitting.{IsPermissionResponded, IsRefusedFor};
 
 use crate::protocol::Protocol;
 use std::net::IpAddr;
@@ -27,6 +21,7 @@ use turn_client_proto_allocation::permission::PendingPermission;
 use turn_client_proto_api::Instant;
 use turn_client_proto_api::error::CreatePermissionError;
 use turn_client_proto_api::event::TurnEvent;
+use turn_client_proto_permission::awaited::{Asked, asked_by};
 use turn_client_proto_permission::{asking, granted, one};
 use turn_client_proto_request::laws::requests_are_lawful;
 use turn_client_proto_request::request::TurnRequest;
@@ -52,7 +47,7 @@ impl Protocol {
         };
         let allocation = &self.allocations.as_slice()[place];
         if one::is_past(allocation, now) {
-            asking::mark_at(&mut self.allocations, place);
+            asking::mark(&mut self.allocations, place);
             return Err(CreatePermissionError::NoAllocation);
         }
         if one::knows(allocation, ip) {
@@ -105,68 +100,14 @@ impl Protocol {
         let request = TurnRequest::CreatePermission(ip);
         requests_are_lawful(&request);
         let pending = PendingPermission::new(self.alloc, ip, number)?;
-        asking::ask_at(&mut self.allocations, place, pending)?;
+        asking::ask(&mut self.allocations, place, pending)?;
         match self.ask(number, request, now) {
             Ok(()) => Ok(()),
             Err(e) => {
-                asking::forget_at(&mut self.allocations, place);
+                asking::forget(&mut self.allocations, place);
                 Err(e)
             }
         }
-    }
-
-    /// A challenge came to a request that asks for a permission, or was to renew one.
-    pub(crate) fn permit_again(
-        &mut self,
-        message: &Message<'_>,
-        now: Instant,
-    ) -> Result<bool, NoMemory>
-        requires { is_tired self.old ≡ false }
-        ensures ok { IfOk result (λ handled. IsAskingAgain
-            (peer_asked (number_at message.now) self.old.allocations) self.old message.now now
-            handled self.new) }
-        ensures err { OnErr result (IsUnderWay self.old self.new) }
-    {
-        let old = message.transaction_id();
-        let Some((_, ip)) = asking::peer_asked(self.allocations.as_slice(), old) else {
-            return self.renew_again(message, now);
-        };
-        let number = self.ask_for(ip, now)?;
-        asking::ask_again(self.allocations.as_mut_slice(), old, number)?;
-        self.count_challenge(message)?;
-        Ok(true)
-    }
-
-    /// A challenge came to a request that was to renew a permission.
-    fn renew_again(&mut self, message: &Message<'_>, now: Instant) -> Result<bool, NoMemory>
-        requires { is_tired self.old ≡ false }
-        ensures ok { IfOk result (λ handled. IsRenewingAgain
-            (peer_renewed (number_at message.now) self.old.allocations) self.old message.now now
-            handled self.new) }
-        ensures err { OnErr result (IsUnderWay self.old self.new) }
-    {
-        let old = message.transaction_id();
-        let Some((_, ip)) = asking::peer_renewed(self.allocations.as_slice(), old) else {
-            return Ok(false);
-        };
-        let number = self.ask_for(ip, now)?;
-        asking::renew_again(self.allocations.as_mut_slice(), old, number)?;
-        self.count_challenge(message)?;
-        Ok(true)
-    }
-
-    /// Makes a CREATE_PERMISSION for an address, of the next number.
-    fn ask_for(&mut self, ip: IpAddr, now: Instant) -> Result<TransactionId, NoMemory>
-        ensures ok { IfOk result (λ number. IsNextNumber self.old number
-            × IsLawfulRequest (CreatePermission ip)
-            × (self.new ≡ asked (after_number self.old) (CreatePermission ip) number now)) }
-        ensures err { OnErr result (IsUnderWay self.old self.new) }
-    {
-        let number = self.draw_number()?;
-        let request = TurnRequest::CreatePermission(ip);
-        requests_are_lawful(&request);
-        self.ask(number, request, now)?;
-        Ok(number)
     }
 
     /// The response to a CREATE_PERMISSION was accepted.
@@ -192,37 +133,46 @@ impl Protocol {
     /// told; or those that it was to renew stand on.
     fn grant_permission(&mut self, number: TransactionId, now: Instant) -> Result<bool, NoMemory>
         ensures ok { IfOk result (λ handled. IsGrantedFor
-            (peer_asked number self.old.allocations) self.old number now handled self.new) }
+            (asked_by number self.old.allocations) self.old number now handled self.new) }
         ensures err { OnErr result (IsUnderWay self.old self.new) }
     {
-        if let Some((transport, ip)) = asking::peer_asked(self.allocations.as_slice(), number) {
-            self.events
-                .push_back(TurnEvent::PermissionCreated(transport, ip))?;
-            granted::permit(self.alloc, self.allocations.as_mut_slice(), number, now)?;
-            return Ok(true);
-        }
-        if asking::peer_renewed(self.allocations.as_slice(), number).is_none() {
+        let Some((place, asked)) = asked_by(self.allocations.as_slice(), number) else {
             return Ok(false);
+        };
+        match asked {
+            Asked::Lifetime(_) => Ok(false),
+            Asked::NewPermission(transport, ip) => {
+                self.events
+                    .push_back(TurnEvent::PermissionCreated(transport, ip))?;
+                let allocations = self.allocations.as_mut_slice();
+                granted::permit(self.alloc, allocations, place, ip, number, now)?;
+                Ok(true)
+            }
+            Asked::Renewal(_, _) => {
+                granted::renew(self.allocations.as_mut_slice(), number, now);
+                Ok(true)
+            }
         }
-        granted::renew(self.allocations.as_mut_slice(), number, now);
-        Ok(true)
     }
 
     /// The request of this number was refused: the permissions that it asked for, or was to renew,
     /// go, and the first of them is told.
     fn refuse_permission(&mut self, number: TransactionId) -> Result<bool, NoMemory>
         ensures ok { IfOk result (λ handled. IsRefusedFor
-            (peer_asked number self.old.allocations) self.old number handled self.new) }
+            (asked_by number self.old.allocations) self.old number handled self.new) }
         ensures err { OnErr result (IsUnderWay self.old self.new) }
     {
-        let asked = asking::peer_asked(self.allocations.as_slice(), number);
-        let renewed = asking::peer_renewed(self.allocations.as_slice(), number);
-        let Some((transport, ip)) = asked.or(renewed) else {
+        let Some((_, asked)) = asked_by(self.allocations.as_slice(), number) else {
             return Ok(false);
         };
-        self.events
-            .push_back(TurnEvent::PermissionCreateFailed(transport, ip))?;
-        granted::turn_down(self.allocations.as_mut_slice(), number);
-        Ok(true)
+        match asked {
+            Asked::Lifetime(_) => Ok(false),
+            Asked::NewPermission(transport, ip) | Asked::Renewal(transport, ip) => {
+                self.events
+                    .push_back(TurnEvent::PermissionCreateFailed(transport, ip))?;
+                granted::turn_down(self.allocations.as_mut_slice(), number);
+                Ok(true)
+            }
+        }
     }
 }

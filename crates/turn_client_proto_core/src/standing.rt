@@ -1,22 +1,25 @@
 //! What a client that has allocated makes of a message (RFC 8656, section 8.3).
 
-ghost use Rattle.std.specs.Prelude.{◌≡◌, ◌&&◌, ℕ, IfOk, OnOk, OnErr, true};
+ghost use Rattle.std.specs.Prelude.{◌≡◌, ◌&&◌, ℕ, IfOk, OnOk, OnErr, Some, position, true};
 ghost use Rattle.stun_types.specs.Grammar.{number_at};
 ghost use Rattle.turn_client_proto_api.specs.Handling.{is_awaited, is_response};
 ghost use Rattle.turn_client_proto_core.specs.Ending.{IsUnderWay};
 ghost use Rattle.turn_client_proto_core.specs.Numbering.{IsNextNumber};
 ghost use Rattle.turn_client_proto_core.specs.Receiving.{GrowsBy, GrowsStanding, IsFollowed};
 ghost use Rattle.turn_client_proto_core.specs.Standing.{IsJudgedStanding, IsRechallenged};
-ghost use Rattle.turn_client_proto_core.specs.Standing.{IsTakenUp, after_refresh, deallocated};
-ghost use Rattle.turn_client_proto_core.specs.Standing.{is_refreshed, refreshed, refreshes_again};
+ghost use Rattle.turn_client_proto_core.specs.Standing.{IsTakenUp, after_refresh, asks_again};
+ghost use Rattle.turn_client_proto_core.specs.Standing.{deallocated, is_refreshed, refreshed, request_for};
+ghost use Rattle.turn_client_proto_permission.specs.Awaited.{awaits_reply};
+ghost use Rattle.turn_client_proto_request.specs.ToldRequests.{IsLawfulRequest};
 
 use crate::protocol::{Phase, Protocol};
 use stun_types::NoMemory;
 use stun_types::message::{Message, MessageClass, TransactionId};
 use stun_types::registry::ALLOCATION_MISMATCH;
-use turn_client_proto_allocation::refresh::PendingRefresh;
 use turn_client_proto_api::Instant;
 use turn_client_proto_api::auth::{LongTermClientAuthError, LongTermClientValidation};
+use turn_client_proto_permission::awaited::{Asked, ask_too, asked_by};
+use turn_client_proto_request::laws::requests_are_lawful;
 use turn_client_proto_request::request::TurnRequest;
 use turn_client_proto_response::told::{first_code, lifetime_told};
 use turn_types::message::{CREATE_PERMISSION, REFRESH};
@@ -29,6 +32,16 @@ fn is_refreshed(message: &Message<'_>) -> bool
     match message.class() {
         MessageClass::Error => first_code(message) == Some(ALLOCATION_MISMATCH),
         MessageClass::Success | MessageClass::Request | MessageClass::Indication => true,
+    }
+}
+
+/// The request by which something is asked for.
+fn request_for(asked: Asked) -> TurnRequest
+    ensures { result ≡ request_for asked }
+{
+    match asked {
+        Asked::Lifetime(lifetime) => TurnRequest::Refresh(lifetime),
+        Asked::NewPermission(_, ip) | Asked::Renewal(_, ip) => TurnRequest::CreatePermission(ip),
     }
 }
 
@@ -65,31 +78,35 @@ impl Protocol {
         if !self.is_awaited(message) {
             return Ok(false);
         }
-        let number = message.transaction_id();
-        let Some(lifetime) = self.allocations.refresh_asked(number) else {
-            return self.permit_again(message, now);
+        let old = message.transaction_id();
+        let Some((place, asked)) = asked_by(self.allocations.as_slice(), old) else {
+            return Ok(false);
         };
-        self.refresh_again(number, lifetime, now)?;
+        self.send_again(place, asked, old, now)?;
         self.count_challenge(message)?;
         Ok(true)
     }
 
-    /// Sends a REFRESH of this lifetime again, under another number, for the allocation that awaits
-    /// the one of the old number.
-    fn refresh_again(
+    /// Sends a request again, under another number. What it asks for was found at a place: in the
+    /// first allocation that awaits the response to the old number.
+    fn send_again(
         &mut self,
+        place: usize,
+        asked: Asked,
         old: TransactionId,
-        lifetime: u32,
         now: Instant,
     ) -> Result<(), NoMemory>
+        requires { position (awaits_reply old) self.old.allocations ≡ Some place }
         ensures ok { OnOk result ((number : ℕ) × IsNextNumber self.old number
-            × (self.new ≡ refreshes_again old number lifetime now self.old)) }
+            × IsLawfulRequest (request_for asked)
+            × (self.new ≡ asks_again asked old number now self.old)) }
         ensures err { OnErr result (IsUnderWay self.old self.new) }
     {
         let number = self.draw_number()?;
-        self.ask(number, TurnRequest::Refresh(lifetime), now)?;
-        let refresh = PendingRefresh { number, lifetime };
-        self.allocations.refresh_again(old, &refresh)?;
+        let request = request_for(asked);
+        requests_are_lawful(&request);
+        self.ask(number, request, now)?;
+        ask_too(self.allocations.as_mut_slice(), place, asked, old, number)?;
         Ok(())
     }
 

@@ -1,4 +1,5 @@
 pub mod Asking
+pub mod Awaited
 pub mod Granted
 pub mod Same
 pub mod Shown

@@ -9,7 +9,8 @@ use Rattle.turn_client_proto_permission.specs.Same.{is_same_address, is_same_tra
 
 -- an allocation of this transport and relayed address, which is not marked as expired
 abbrev pub is_at : TransportType → SocketAddr → Allocation → Bool
-is_at transport relayed a = not a.is_expired && (is_same_transport a.transport transport && is_same_address a.address relayed)
+is_at transport relayed a =
+    not a.is_expired && (is_same_transport a.transport transport && is_same_address a.address relayed)
 
 -- the permissions that stand in an allocation that was found
 abbrev pub permissions_in : Option Allocation → List Permission

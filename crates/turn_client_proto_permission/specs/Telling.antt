@@ -41,4 +41,5 @@ all_nexts ended ready now allocations = flat_map (nexts ended ready now) allocat
 
 -- the earliest of a wait and of those of some permissions, one after another
 abbrev pub earlier_of : Option ℕ → (ready now wait : ℕ) → List Permission → ℕ
-earlier_of ended ready now wait permissions = fold (λ w p. min w (next_of_permission ended ready now p)) wait permissions
+earlier_of ended ready now wait permissions =
+    fold (λ w p. min w (next_of_permission ended ready now p)) wait permissions

@@ -1,5 +1,5 @@
 -- What allocations are to be renewed at a moment, and which of their permissions (RFC 8656, sections 8.1 and 10.1).
-use Rattle.std.specs.Prelude.{ℕ, nat_le, Bool, not, ◌&&◌, List, [], ◌∷◌, find, is_some, Option, Some, None, if◌then◌else◌}
+use Rattle.std.specs.Prelude.{ℕ, nat_le, Bool, not, ◌&&◌, List, find, is_some, Option, Some, None, if◌then◌else◌}
 use Rattle.std.specs.Option.{option_and_then, option_map}
 use Rattle.std.specs.declared.net.ip_addr.IpAddr.{IpAddr}
 use Rattle.turn_client_proto_allocation.specs.Changes.{change_first}

@@ -4,6 +4,7 @@
 #![tactic(auto)]
 
 pub mod asking;
+pub mod awaited;
 pub mod granted;
 pub mod one;
 pub mod shown;

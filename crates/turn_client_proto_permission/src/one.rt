@@ -3,11 +3,9 @@
 ghost use Rattle.std.specs.Prelude.{◌≡◌, OnOk, OnErr, find};
 ghost use Rattle.std.specs.Option.{option_map};
 ghost use Rattle.turn_client_proto_allocation.specs.Permissions.{wants_renewal};
-ghost use Rattle.turn_client_proto_allocation.specs.declared.allocation.Allocation.{Allocation as Kept};
-ghost use Rattle.turn_client_proto_allocation.specs.declared.permission.PendingPermission.{PendingPermission as Pending};
 ghost use Rattle.turn_client_proto_allocation.specs.declared.permission.Permission.{Permission as Standing};
 ghost use Rattle.turn_client_proto_allocation.specs.Refreshing.{wants_refresh};
-ghost use Rattle.turn_client_proto_permission.specs.Asking.{address_asked, address_renewed, asking, asks_for, at_transport, has_asked, has_renewed, is_of, is_past, knows, permits, permits_over};
+ghost use Rattle.turn_client_proto_permission.specs.Asking.{asks_for, is_of, is_past, knows, permits, permits_over};
 ghost use Rattle.turn_client_proto_permission.specs.Granted.{permission_end, permitted, renewed, turned_down};
 ghost use Rattle.turn_client_proto_permission.specs.Telling.{polled};
 ghost use Rattle.turn_client_proto_permission.specs.Wanting.{renewal_wanted, want, wants};
@@ -20,6 +18,7 @@ use stun_types::message::TransactionId;
 use stun_types::{AddressFamily, ListOf, NoMemory, TransportType};
 use turn_client_proto_allocation::allocation::Allocation;
 use turn_client_proto_allocation::permission::Permission;
+use turn_client_proto_allocation::permissions;
 use turn_client_proto_api::Instant;
 
 /// A permission stands so long, in seconds, unless it is renewed (RFC 8656, section 9).
@@ -75,90 +74,25 @@ pub(crate) fn permits_over(a: &Allocation, transport: TransportType, ip: IpAddr)
     !a.is_expired && a.transport == transport && permits(a, ip)
 }
 
-/// Whether the request of this number asks for a permission.
-pub(crate) fn has_asked(a: &Allocation, number: TransactionId) -> bool
-    ensures { result ≡ has_asked number a.now }
-{
-    a.pending_permissions
-        .as_slice()
-        .iter()
-        .any(|p| p.is_asked_by(number))
-}
-
-/// Whether the request of this number is to renew a permission.
-pub(crate) fn has_renewed(a: &Allocation, number: TransactionId) -> bool
-    ensures { result ≡ has_renewed number a.now }
-{
-    a.permissions
-        .as_slice()
-        .iter()
-        .any(|p| p.is_renewed_by(number))
-}
-
-/// The address for which the request of this number asks.
-pub(crate) fn address_asked(a: &Allocation, number: TransactionId) -> Option<IpAddr>
-    ensures { result ≡ address_asked number a.now }
-{
-    let pending = a.pending_permissions.as_slice();
-    let found = pending.iter().find(|p| p.is_asked_by(number))?;
-    Some(found.ip)
-}
-
-/// The address whose permission the request of this number is to renew.
-pub(crate) fn address_renewed(a: &Allocation, number: TransactionId) -> Option<IpAddr>
-    ensures { result ≡ address_renewed number a.now }
-{
-    let permissions = a.permissions.as_slice();
-    let found = permissions.iter().find(|p| p.is_renewed_by(number))?;
-    Some(found.ip)
-}
-
-/// The transport and the address for which the request of this number asks.
-pub(crate) fn peer_asked(a: &Allocation, number: TransactionId) -> Option<(TransportType, IpAddr)>
-    ensures { result ≡ at_transport a.now (address_asked number a.now) }
-{
-    let ip = address_asked(a, number)?;
-    Some((a.transport, ip))
-}
-
-/// The transport and the address whose permission the request of this number is to renew.
-pub(crate) fn peer_renewed(a: &Allocation, number: TransactionId) -> Option<(TransportType, IpAddr)>
-    ensures { result ≡ at_transport a.now (address_renewed number a.now) }
-{
-    let ip = address_renewed(a, number)?;
-    Some((a.transport, ip))
-}
-
-/// The permission that was asked for last is forgotten.
-pub(crate) fn forget(a: &mut Allocation)
-    ensures { (before : Kept) (pending : Pending) → a.old ≡ asking pending before
-        → a.new ≡ before }
-{
-    a.pending_permissions.forget_last();
-}
-
-/// The request of this number was granted: the permission that it asks for stands. Where memory is
-/// refused, nothing changes.
-#[tactic(auto, unfolding(crate::specs::Granted::permitted))]
+/// A permission for an address was granted, for which the request of this number asks. Where memory
+/// is refused, nothing changes.
 pub(crate) fn permit(
     alloc: Global,
     a: &mut Allocation,
+    ip: IpAddr,
     number: TransactionId,
     now: Instant,
 ) -> Result<(), NoMemory>
-    ensures ok { OnOk result (a.new ≡ permitted number now a.old) }
+    ensures ok { OnOk result (a.new ≡ permitted ip number now a.old) }
     ensures err { OnErr result (a.new ≡ a.old) }
 {
-    let Some(ip) = address_asked(a, number) else {
-        return Ok(());
-    };
     let permission = Permission {
         ip,
         expiry: permission_end(now),
         renewals: ListOf::new(alloc),
     };
     a.permissions.push(permission)?;
-    a.pending_permissions.forget(number);
+    a.pending_permissions.retain(|p| !p.is_asked_by(number));
     Ok(())
 }
 
@@ -167,7 +101,7 @@ pub(crate) fn permit(
 pub(crate) fn renew(a: &mut Allocation, number: TransactionId, now: Instant)
     ensures { a.new ≡ renewed number now a.old }
 {
-    a.permissions.renew(number, permission_end(now));
+    permissions::renew(a.permissions.as_mut_slice(), number, permission_end(now));
 }
 
 /// The request of this number was refused: the permissions that it asked for, or was to renew, go.
@@ -175,8 +109,8 @@ pub(crate) fn renew(a: &mut Allocation, number: TransactionId, now: Instant)
 pub(crate) fn turn_down(a: &mut Allocation, number: TransactionId)
     ensures { a.new ≡ turned_down number a.old }
 {
-    a.permissions.refuse(number);
-    a.pending_permissions.forget(number);
+    a.permissions.retain(|p| !p.is_renewed_by(number));
+    a.pending_permissions.retain(|p| !p.is_asked_by(number));
 }
 
 /// Time has come to a moment, and the transaction of this number has ended.
@@ -184,8 +118,9 @@ pub(crate) fn turn_down(a: &mut Allocation, number: TransactionId)
 pub(crate) fn poll(a: &mut Allocation, ended: &Option<TransactionId>, now: Instant)
     ensures { a.new ≡ polled ended.now now a.old }
 {
-    a.permissions.poll(ended, now);
-    a.pending_permissions.poll(ended);
+    a.permissions.retain(|p| !p.has_lapsed(now));
+    permissions::poll(a.permissions.as_mut_slice(), ended);
+    a.pending_permissions.retain(|p| !p.is_over(ended));
 }
 
 /// The address of the first permission that is to be renewed at a moment.

@@ -9,6 +9,7 @@ use std::net::IpAddr;
 use stun_types::NoMemory;
 use stun_types::message::TransactionId;
 use turn_client_proto_allocation::allocation::Allocation;
+use turn_client_proto_allocation::permissions;
 use turn_client_proto_allocation::refresh::PendingRefresh;
 use turn_client_proto_api::Instant;
 
@@ -70,5 +71,5 @@ pub fn renew_first(
     let Some(place) = place_wanting(allocations, now) else {
         return Ok(());
     };
-    allocations[place].permissions.renew_first(now, number)
+    permissions::renew_first(allocations[place].permissions.as_mut_slice(), now, number)
 }

@@ -50,7 +50,12 @@ pub record IsRepeated (old : Protocol) (now : ℕ) (sent : Sent) (new : Protocol
   pub number : ℕ
   pub transaction : Transaction
   pub least : IsLeast (is_due_of old.agent now) old.agent.outstanding number transaction
-  pub is_sent : sent ≡ record { bytes = transaction.bytes; transport = old.agent.transport; from = old.agent.here; to = transaction.to }
+  pub is_sent : sent ≡ record {
+    bytes = transaction.bytes;
+    transport = old.agent.transport;
+    from = old.agent.here;
+    to = transaction.to;
+  }
   pub after : new ≡ after_sending now
       (record old { agent = kept_under old.agent number (transmitted (is_tcp old.agent.transport) transaction) })
 
@@ -62,7 +67,8 @@ is_resting None now = false
 is_resting (Some last) now = nat_lt now (moment_after last cadence)
 
 -- the first message of the queue is sent
-pub record IsQueuedSent (old : Protocol) (now : ℕ) (q : Queued) (rest : List Queued) (sent : Sent) (new : Protocol) : Type 0 where
+pub record IsQueuedSent (old : Protocol) (now : ℕ) (q : Queued) (rest : List Queued) (sent : Sent) (new : Protocol)
+    : Type 0 where
   pub is_sent : sent ≡ record { bytes = q.bytes; transport = old.agent.transport; from = q.from; to = old.server }
   pub after : new ≡ after_sending now (record old { queue = rest })
 
@@ -77,12 +83,19 @@ sent_at_once p request number now = record p {
 -- a request of the next number is sent
 pub record IsMade (old : Protocol) (request : TurnRequest) (number : ℕ) (sent : Sent) : Type 0 where
   pub is_next : IsNextNumber old number
-  pub is_sent : sent ≡ record { bytes = request_text old.auth request number; transport = old.agent.transport; from = old.agent.here; to = old.server }
+  pub is_sent : sent ≡ record {
+    bytes = request_text old.auth request number;
+    transport = old.agent.transport;
+    from = old.agent.here;
+    to = old.server;
+  }
 
 -- the first ALLOCATE
 unfoldable pub first_allocated : ℕ → ℕ → Protocol → Protocol
 first_allocated number now p =
-    record (sent_at_once (after_number p) (FirstAllocate p.allocates p.families) number now) { phase = InitialSent (number ∷ []) }
+    record (sent_at_once (after_number p) (FirstAllocate p.allocates p.families) number now) {
+      phase = InitialSent (number ∷ []);
+    }
 
 pub record IsFirstSent (old : Protocol) (now : ℕ) (sent : Sent) (new : Protocol) : Type 0 where
   pub number : ℕ

@@ -88,11 +88,13 @@ after_time over now p = record p {
 
 -- the earliest moment at which an allocation that is left, or the client, has something to do; and then that at which a
 -- permission has
-pub record IsPolledStanding (over : Option ℕ) (wait : ℕ) (p : Protocol) (now : ℕ) (ret : TurnPollRet) (new : Protocol) : Type 0 where
+pub record IsPolledStanding (over : Option ℕ) (wait : ℕ) (p : Protocol) (now : ℕ) (ret : TurnPollRet) (new : Protocol)
+    : Type 0 where
   pub next : ℕ
   pub least : IsLeastOf wait (nexts over (ready_after p.last_send now) now (kept over now p.allocations)) next
   pub earliest : ℕ
-  pub least_of_permissions : IsLeastOf next (permissions.all_nexts over (ready_after p.last_send now) now (left over now p)) earliest
+  pub least_of_permissions : IsLeastOf next
+      (permissions.all_nexts over (ready_after p.last_send now) now (left over now p)) earliest
   pub outcome : Answers (answer_of (left over now p) over now earliest) (after_time over now p) ret new
 
 -- by how far the client is
@@ -104,7 +106,8 @@ IsPolledIn Authenticated over wait p now ret new = IsPolledStanding over wait p 
 IsPolledIn Ended over wait p now ret new = Answers answer.Closed p ret new
 
 -- a client where no event waits: its agent is polled first
-pub record IsTicked (old : Protocol) (now : ℕ) (ret : TurnPollRet) (new : Protocol) : Type 0 where
+pub record IsTicked (old : Protocol) (now : ℕ) (ret : TurnPollRet) (new : Protocol)
+    : Type 0 where
   pub ticked : StunAgentPollRet
   pub agent : agents.Agent
   pub is_ticked : agents.IsPolled old.agent now ticked agent

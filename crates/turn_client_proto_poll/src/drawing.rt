@@ -235,11 +235,11 @@ fn send_at_once(
         .send_request(bytes.as_slice(), protocol.server, now)
     {
         Ok(_) => {}
-        // No request of the number is outstanding.
-        Err(StunError::AlreadyInProgress) => unreachable!(),
-        // Memory is refused, or the text is no message: the signer writes none such, but no clause
-        // of it says so.
-        Err(_) => return Err(NoMemory),
+        Err(e) => match e {
+            StunError::NoMemory => return Err(NoMemory),
+            // It is a request, and none of its number is outstanding.
+            _ => unreachable!(),
+        },
     }
     let transport = protocol.agent.transport();
     let from = protocol.agent.local_addr();

@@ -8,7 +8,9 @@ use Rattle.turn_client_proto_api.specs.Config.{Config}
 
 -- the verdict on a message, and the authenticator after it
 abbrev pub IsJudged : Client → List ℕ → Result LongTermClientValidation LongTermClientAuthError → Client → Type 0
-IsJudged old bytes verdict new = MatchResult verdict (λ answer. IsTaken old bytes answer new) (λ error. IsTurnedDown old bytes error new)
+IsJudged old bytes verdict new = MatchResult verdict
+    (λ answer. IsTaken old bytes answer new)
+    (λ error. IsTurnedDown old bytes error new)
 
 -- the authenticator of a new client
 abbrev pub signer_of : Config → Client

@@ -1,13 +1,15 @@
 //! The client's side of authentication, whose texts are short enough to be written.
 
-ghost use Rattle.std.specs.Prelude.{◌≡◌, ◌≢◌, ◌≤◌, [], ◌∷◌, IfOk, length};
+ghost use Rattle.std.specs.Prelude.{◌≡◌, ◌≢◌, ◌≤◌, [], ◌∷◌, IfOk, None, true, length};
 ghost use Rattle.std.specs.List.{IsDistinct};
 ghost use Rattle.turn_client_proto_api.specs.SupportedAlgorithms.{is_same_algorithm};
+ghost use Rattle.stun_types.specs.Grammar.{number_at, refusal};
+ghost use Rattle.turn_client_proto_api.specs.Sending.{is_request};
 ghost use Rattle.stun_types.specs.Registry.{longest_username};
 ghost use Rattle.turn_client_proto_request.specs.Requests.{request_text};
 ghost use Rattle.turn_client_proto_request.specs.Judging.{IsJudged, signer_of};
 
-use crate::laws::texts_stay_short;
+use crate::laws::{requests_are_lawful, requests_are_read, texts_stay_short};
 use crate::request::{TurnRequest, write_request};
 use std::alloc::Global;
 use std::marker::Model;
@@ -90,15 +92,21 @@ impl Signer {
         self.auth.validate_incoming_message(message)
     }
 
-    /// The bytes of a request of this number. Where memory is refused, `NoMemory`.
+    /// The bytes of a request of this number: a message of class request. Where memory is refused,
+    /// `NoMemory`.
     pub fn write_request(
         &self,
         alloc: Global,
         number: TransactionId,
         request: TurnRequest,
     ) -> Result<Vec<u8>, NoMemory>
-        ensures { IfOk result (λ bytes. bytes.items ≡ request_text self.now request number) }
+        ensures bytes { IfOk result (λ bytes.
+            bytes.items ≡ request_text self.now request number) }
+        ensures message { IfOk result (λ bytes. (refusal bytes.items ≡ None)
+            × (is_request bytes.items ≡ true) × (number_at bytes.items ≡ number)) }
     {
+        requests_are_lawful(&request);
+        requests_are_read();
         write_request(alloc, &self.auth, number, request)
     }
 }

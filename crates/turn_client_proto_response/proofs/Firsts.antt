@@ -1,6 +1,6 @@
 -- The first address of each family, taken one after the other.
 use Rattle.std.proofs.Common.{◌≡◌, ℕ, Bool, true, false, not, ◌&&◌, ◌||◌, cond, List, [], ◌∷◌, ◌++◌, map, fold, Option, Some, None, refl, sym, ap, ◌∙◌, inl, inr}
-use Rattle.std.specs.List.{cons_option, filter, filter_map, list_any, take_while}
+use Rattle.std.specs.List.{filter, filter_map, take_while}
 use Rattle.std.specs.Prelude.{is_some}
 use Rattle.std.specs.declared.net.socket_addr.SocketAddr.{SocketAddr}
 use Rattle.std.proofs.lemmas.Bool.{cases_Bool}
@@ -18,6 +18,7 @@ use Rattle.turn_client_proto_allocation.specs.declared.allocation.Allocation.{Al
 use Rattle.turn_client_proto_api.specs.Families.{is_same_family}
 use Rattle.turn_client_proto_response.specs.Granting.{allocations_of, are_of_one_family, counts, first_of_each, has_family, is_wanted, with_address}
 use Rattle.turn_client_proto_response.specs.Told.{addresses_in}
+use Rattle.stun_types_grammar_laws.proofs.Left.{map_numbered}
 
 -- ---- the addresses, one attribute after the other
 
@@ -27,17 +28,17 @@ with_others None others = []
 with_others (Some address) others = address ∷ others
 
 -- the addresses in attributes, up to the first that is malformed
-unfoldable pub addresses_before : ℕ → List Attr → List SocketAddr
-addresses_before number [] = []
-addresses_before number (a ∷ rest) = with_others (address_in number a) (addresses_before number rest)
+unfoldable pub told_before : ℕ → List Attr → List SocketAddr
+told_before number [] = []
+told_before number (a ∷ rest) = with_others (address_in number a) (told_before number rest)
 
 one_read : (o : Option SocketAddr) (h : Attr → Option SocketAddr) (a : Attr) (rest : List Attr) → h a ≡ o
     → filter_map h (cond (is_some o) (a ∷ rest) []) ≡ with_others o (filter_map h rest)
 one_read None h a rest is = refl
 one_read (Some address) h a rest is = rw is refl
 
-pub all_read : (number : ℕ) (all : List Attr) → addresses_before number all ≡ addresses_in number all
-unfolding addresses_before
+pub all_read : (number : ℕ) (all : List Attr) → told_before number all ≡ addresses_in number all
+unfolding told_before
 all_read number [] = refl
 all_read number (a ∷ rest) =
     ap (with_others (address_in number a)) (all_read number rest)
@@ -164,8 +165,11 @@ wanted_alone : (families : List AddressFamily) (y : SocketAddr) → counts famil
 wanted_alone families y = swapped (is_wanted families y) true
 
 pub all_granted : (families : List AddressFamily) (transport : TransportType) (lifetime now number : ℕ) (all : List Attr)
-    → fold (with_address families transport lifetime now) [] (addresses_before number all) ≡ allocations_of families transport lifetime now (addresses_in number all)
+    → fold (with_address families transport lifetime now) [] (told_before number all) ≡ allocations_of families transport lifetime now (addresses_in number all)
 all_granted families transport lifetime now number all =
-    one_by_one families transport lifetime now [] (addresses_before number all)
-    ∙ ap (λ l. map (λ a. granted transport a lifetime now) (first_of_each are_of_one_family l)) (filter_alike (counts families []) (is_wanted families) (wanted_alone families) (addresses_before number all))
+    one_by_one families transport lifetime now [] (told_before number all)
+    ∙ ap (λ l. map (λ a. granted transport a lifetime now) (first_of_each are_of_one_family l)) (filter_alike (counts families []) (is_wanted families) (wanted_alone families) (told_before number all))
     ∙ ap (allocations_of families transport lifetime now) (all_read number all)
+
+-- one attribute more, and all of them
+pub ruleset firsts = (map_numbered, all_granted)

@@ -45,6 +45,7 @@ counts families before address =
     is_wanted families address && not (has_family (family_of_socket address) before)
 
 -- the allocations with that of another address, where it counts
-unfoldable pub with_address : List AddressFamily → TransportType → ℕ → ℕ → List Allocation → SocketAddr → List Allocation
+unfoldable pub with_address : List AddressFamily → TransportType → (lifetime now : ℕ) → List Allocation → SocketAddr
+    → List Allocation
 with_address families transport lifetime now before address =
     if counts families before address then before ++ granted transport address lifetime now ∷ [] else before

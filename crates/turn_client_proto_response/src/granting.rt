@@ -73,7 +73,7 @@ fn add_address(
 /// The allocations that a success response brings: of each family that was asked for that of the first
 /// address, in the order in which the response has them, up to the first XOR-RELAYED-ADDRESS that is
 /// malformed. Where memory is refused, `NoMemory`.
-#[tactic(auto, using(stun_types_grammar_laws::proofs::Left::map_numbered, crate::proofs::Firsts::all_granted), unfolding(crate::proofs::Firsts::addresses_before))]
+#[tactic(auto, using(crate::proofs::Firsts::firsts), unfolding(crate::proofs::Firsts::told_before))]
 pub fn allocations_of(
     alloc: Global,
     message: &Message<'_>,

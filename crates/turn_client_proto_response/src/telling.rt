@@ -13,7 +13,7 @@ use turn_client_proto_queue::queue::QueueOf;
 
 /// Tells each allocation as created. Where memory is refused, `NoMemory`, and the events that were
 /// there still come first.
-#[tactic(auto, using(turn_client_proto_allocation::proofs::Prefixes::front_kept, turn_client_proto_allocation::proofs::Prefixes::whole_kept))]
+#[tactic(auto, using(turn_client_proto_allocation::proofs::Prefixes::kept))]
 pub fn tell_created(
     events: &mut QueueOf<TurnEvent>,
     allocations: &[Allocation],
@@ -30,7 +30,7 @@ pub fn tell_created(
 
 /// Tells of each family that has no allocation. Where memory is refused, `NoMemory`, and the events
 /// that were there still come first.
-#[tactic(auto, using(turn_client_proto_allocation::proofs::Prefixes::front_kept, turn_client_proto_allocation::proofs::Prefixes::whole_kept))]
+#[tactic(auto, using(turn_client_proto_allocation::proofs::Prefixes::kept))]
 pub fn tell_without(
     events: &mut QueueOf<TurnEvent>,
     families: &[AddressFamily],
@@ -69,7 +69,7 @@ pub fn tell_failures(
 }
 
 /// The same; but where memory is refused, the events that were there still come first.
-#[tactic(auto, using(turn_client_proto_allocation::proofs::Prefixes::front_kept, turn_client_proto_allocation::proofs::Prefixes::whole_kept))]
+#[tactic(auto, using(turn_client_proto_allocation::proofs::Prefixes::kept))]
 fn push_failures(
     events: &mut QueueOf<TurnEvent>,
     families: &[AddressFamily],

@@ -1,9 +1,8 @@
 -- The success response to a CREATE_PERMISSION is a step of a run: the permission that was asked for is gained.
-use Rattle.std.proofs.Common.{◌≡◌, ◌⊎◌, ℕ, true, List, [], ◌∷◌, Option, Some, None, refl, sym, ap, ◌∙◌, subst, arith, inl, inr}
+use Rattle.std.proofs.Common.{◌≡◌, ◌⊎◌, ℕ, true, List, [], ◌∷◌, Some, None, refl, sym, ap, ◌∙◌, subst, arith, inl, inr}
 use Rattle.std.specs.FinMap as finite
 use Rattle.std.specs.List.{find}
 use Rattle.std.specs.Prelude.{not}
-use Rattle.std.specs.Option.{option_and_then, option_map}
 use Rattle.std.specs.declared.net.ip_addr.IpAddr.{IpAddr}
 use Rattle.std.specs.declared.net.socket_addr.SocketAddr.{SocketAddr}
 use Rattle.stun_types.specs.Attributes.{kind_at}
@@ -23,8 +22,9 @@ use Rattle.turn_client_proto_poll.specs.Steps.{ClientStep, IsAnswered, Told, Was
 use Rattle.turn_client_proto_poll.specs.StunWire.{told_by}
 use Rattle.turn_client_proto_poll.specs.Allocation.Awaited.{asks_for_permission}
 use Rattle.turn_client_proto_poll.specs.Allocation.Permissions.{not_asked_by}
-use Rattle.turn_client_proto_poll.specs.Permission.Asking.{address_asked, at_transport, has_asked, peer_asked}
-use Rattle.turn_client_proto_poll.specs.Permission.Granted.{all_permitted, granted_for, permitted, permitted_for}
+use Rattle.turn_client_proto_poll.specs.Permission.Awaited.{asked_by, awaits_reply}
+use Rattle.turn_client_proto_poll.specs.Permission.Granted.{all_permitted, granted_for, permitted}
+use Rattle.turn_client_proto_poll.specs.Permission.declared.awaited.Asked.TheVariants.{NewPermission}
 use Rattle.turn_client_proto_poll.specs.Api.declared.event.TurnEvent.TheVariants.{PermissionCreated}
 use Rattle.turn_client_proto_poll.specs.Core.Permitting.{granted}
 use Rattle.turn_client_proto_poll.specs.Core.Responding.{accepted, judged}
@@ -37,9 +37,9 @@ use Rattle.turn_client_proto_steps.specs.Sound.{AreAsked, AreShort, IsOrderly}
 use Rattle.turn_client_proto_steps.proofs.Agents.{has_other, message_shown, outstanding_before}
 use Rattle.turn_client_proto_steps.proofs.Allocating.{IsOwn}
 use Rattle.turn_client_proto_steps.proofs.Asking.{IsUnderWay}
+use Rattle.turn_client_proto_steps.proofs.Awaited.{IsAskedOf, IsFoundBy, OfLifetime, OfNew, OfRenewal, found_by}
 use Rattle.turn_client_proto_steps.proofs.Lists.{found_in, found_passes, in_either, in_filter, in_first, inside}
 use Rattle.turn_client_proto_steps.proofs.Orderly.{until_all}
-use Rattle.turn_client_proto_steps.proofs.Permissions.{peer_of}
 use Rattle.turn_client_proto_steps.proofs.Plain.{counts_none, held_is_kept, joined}
 use Rattle.turn_client_proto_steps.proofs.Taken.{among}
 
@@ -48,7 +48,7 @@ use Rattle.turn_client_proto_steps.proofs.Taken.{among}
 -- an allocation in which a permission for an address was granted
 module _ (number now : ℕ) (a : Allocation) (ip : IpAddr) where
   abbrev after : Allocation
-  after = permitted_for (Some ip) number now a
+  after = permitted ip number now a
 
   gains : (h : run.Held) → Has after h → Has a h ⊎ (h ≡ run.Permission a.transport ip)
   gains h HasItself = inl HasItself
@@ -81,42 +81,39 @@ module _ (number now : ℕ) (a : Allocation) (ip : IpAddr) where
 
 -- ---- the one that was found
 
--- the first allocation in which a request asked for a permission, and the permission
-pub record IsAskedIn (number : ℕ) (peer : TransportType × IpAddr) (all : List Allocation) : Type 0 where
+-- the first allocation that awaits the response to a request, and the permission for which that asked
+pub record IsAskedIn (number : ℕ) (transport : TransportType) (ip : IpAddr) (all : List Allocation) : Type 0 where
   pub allocation : Allocation
-  pub found : find (has_asked number) all ≡ Some allocation
-  pub transport : allocation.transport ≡ peer.0
-  pub address : address_asked number allocation ≡ Some peer.1
+  pub found : find (awaits_reply number) all ≡ Some allocation
+  pub is_transport : allocation.transport ≡ transport
   pub permission : PendingPermission
   pub listed : IsIn permission allocation.pending_permissions
-  pub ip : permission.ip ≡ peer.1
+  pub is_ip : permission.ip ≡ ip
   pub has : IsIn number permission.numbers
 
-pub asked_in : (number : ℕ) (peer : TransportType × IpAddr) (all : List Allocation) → peer_asked number all ≡ Some peer → IsAskedIn number peer all
-asked_in number peer all is = by_found (find (has_asked number) all) refl
+pub asked_in : (number : ℕ) (transport : TransportType) (ip : IpAddr) (all : List Allocation) → asked_by number all ≡ Some (NewPermission transport ip) → IsAskedIn number transport ip all
+asked_in number transport ip all h = by (found_by number all (NewPermission transport ip) h)
   where
-    by_permission : (a : Allocation) → find (has_asked number) all ≡ Some a → (a.transport ≡ peer.0) × (address_asked number a ≡ Some peer.1)
-        → (o : Option PendingPermission) → find (asks_for_permission number) a.pending_permissions ≡ o → IsAskedIn number peer all
-    by_permission a at both None none = absurd (Prim.cc (sym (ap (option_map (λ (p : PendingPermission). p.ip)) none) ∙ both.1))
-    by_permission a at both (Some p) there = record {
+    of : (a : Allocation) → find (awaits_reply number) all ≡ Some a → IsAskedOf number a (NewPermission transport ip) → IsAskedIn number transport ip all
+    of a there (OfLifetime lifetime at same) = absurd (Prim.cc same)
+    of a there (OfRenewal p at same) = absurd (Prim.cc same)
+    of a there (OfNew p at same) = record {
       allocation = a;
-      found = at;
-      transport = both.0;
-      address = both.1;
+      found = there;
+      is_transport = Prim.cc same;
       permission = p;
-      listed = found_in (asks_for_permission number) a.pending_permissions p there;
-      ip = inside (sym (ap (option_map (λ (q : PendingPermission). q.ip)) there) ∙ both.1);
-      has = among number p.numbers (found_passes (asks_for_permission number) a.pending_permissions p there);
+      listed = found_in (asks_for_permission number) a.pending_permissions p at;
+      is_ip = Prim.cc same;
+      has = among number p.numbers (found_passes (asks_for_permission number) a.pending_permissions p at);
     }
 
-    by_found : (o : Option Allocation) → find (has_asked number) all ≡ o → IsAskedIn number peer all
-    by_found None none = absurd (Prim.cc (sym (ap (option_and_then (λ x. at_transport x (address_asked number x))) none) ∙ is))
-    by_found (Some a) at = by_permission a at (peer_of (address_asked number) peer (find (has_asked number) all) a at is) (find (asks_for_permission number) a.pending_permissions) refl
+    by : IsFoundBy number all (NewPermission transport ip) → IsAskedIn number transport ip all
+    by first = of first.allocation first.found first.is
 
 -- ---- the step
 
 module _ (c : Client) (signer : signers.Client) (bytes : List ℕ) (now : ℕ) (message : refusal bytes ≡ None) (success : class_of (kind_at bytes) ≡ Success) (ends : ends_one c.core.agent bytes ≡ true)
-    (own : IsOwn c.credentials bytes) (peer : TransportType × IpAddr) (is : IsAskedIn (number_at bytes) peer c.core.allocations) (t : Transaction) (there : finite.get c.core.agent.outstanding (number_at bytes) ≡ Some t)
+    (own : IsOwn c.credentials bytes) (transport : TransportType) (ip : IpAddr) (is : IsAskedIn (number_at bytes) transport ip c.core.allocations) (t : Transaction) (there : finite.get c.core.agent.outstanding (number_at bytes) ≡ Some t)
     (orderly : IsOrderly (parts_of c.core)) (under_way : IsUnderWay c (accepted bytes (judged signer c.core))) where
   abbrev number : ℕ
   number = number_at bytes
@@ -125,43 +122,39 @@ module _ (c : Client) (signer : signers.Client) (bytes : List ℕ) (now : ℕ) (
   agent = after_message c.core.agent bytes c.core.server
 
   abbrev left : List Allocation
-  left = all_permitted number now c.core.allocations
+  left = all_permitted ip number now c.core.allocations
 
   abbrev told : Told
-  told = record { notice = run.PermissionCreated peer.0 peer.1; held = run.Permission peer.0 peer.1; number = number }
+  told = record { notice = run.PermissionCreated transport ip; held = run.Permission transport ip; number = number }
 
   abbrev core : Protocol
-  core = granted peer number now (accepted bytes (judged signer c.core))
+  core = granted transport ip number now (accepted bytes (judged signer c.core))
 
   -- an allocation is as it was, or the permission was granted in it
   pub data IsLeft (a : Allocation) : Type 0 where
     Same : IsIn a c.core.allocations → IsLeft a
-    Changed : a ≡ permitted_for (Some peer.1) number now is.allocation → IsLeft a
+    Changed : a ≡ permitted ip number now is.allocation → IsLeft a
 
-  at_found : (y : Allocation) → find (has_asked number) c.core.allocations ≡ Some y → permitted number now y ≡ permitted_for (Some peer.1) number now is.allocation
-  unfolding permitted
-  at_found y found =
-      let same : y ≡ is.allocation = inside (sym found ∙ is.found) in
-      ap (λ (x : Allocation). permitted_for (address_asked number x) number now x) same
-      ∙ ap (λ (o : Option IpAddr). permitted_for o number now is.allocation) is.address
+  at_found : (y : Allocation) → find (awaits_reply number) c.core.allocations ≡ Some y → permitted ip number now y ≡ permitted ip number now is.allocation
+  at_found y found = ap (λ (x : Allocation). permitted ip number now x) (inside (sym found ∙ is.found))
 
   is_left : (a : Allocation) → IsIn a left → IsLeft a
-  is_left a listed = elim (in_first (has_asked number) (permitted number now) a c.core.allocations listed) [
+  is_left a listed = elim (in_first (awaits_reply number) (permitted ip number now) a c.core.allocations listed) [
     | inl was ↦ Same was
     | inr changed ↦ Changed (changed.2 ∙ at_found changed.0 changed.1)
   ]
 
   was_listed : IsIn is.allocation c.core.allocations
-  was_listed = found_in (has_asked number) c.core.allocations is.allocation is.found
+  was_listed = found_in (awaits_reply number) c.core.allocations is.allocation is.found
 
   kept : (h : run.Held) → IsKept left h → IsKept c.core.allocations h ⊎ (told.held ≡ h)
   kept h k = by k.allocation (is_left k.allocation k.listed) k.has
     where
       by : (a : Allocation) → IsLeft a → Has a h → IsKept c.core.allocations h ⊎ (told.held ≡ h)
       by a (Same was) has = inl (record { allocation = a; listed = was; has = has })
-      by a (Changed same) has = elim (gains number now is.allocation peer.1 h (subst (λ (x : Allocation). Has x h) same has)) [
+      by a (Changed same) has = elim (gains number now is.allocation ip h (subst (λ (x : Allocation). Has x h) same has)) [
         | inl before ↦ inl (record { allocation = is.allocation; listed = was_listed; has = before })
-        | inr new ↦ inr (sym (new ∙ ap (λ (transport : TransportType). run.Permission transport peer.1) is.transport))
+        | inr new ↦ inr (sym (new ∙ ap (λ (t : TransportType). run.Permission t ip) is.is_transport))
       ]
 
   waits : (n : ℕ) (p : SocketAddr) → Waits left n p → Waits c.core.allocations n p
@@ -169,11 +162,11 @@ module _ (c : Client) (signer : signers.Client) (bytes : List ℕ) (now : ℕ) (
     where
       by : (a : Allocation) → IsLeft a → Knows a n p → Waits c.core.allocations n p
       by a (Same was) k = record { allocation = a; listed = was; knows = k }
-      by a (Changed same) k = record { allocation = is.allocation; listed = was_listed; knows = knows number now is.allocation peer.1 n p (subst (λ (x : Allocation). Knows x n p) same k) }
+      by a (Changed same) k = record { allocation = is.allocation; listed = was_listed; knows = knows number now is.allocation ip n p (subst (λ (x : Allocation). Knows x n p) same k) }
 
   pending_before : (n : ℕ) (a : Allocation) → IsLeft a → IsPending n a → IsTaken (parts_of c.core) n
   pending_before n a (Same was) p = Pending a was p
-  pending_before n a (Changed same) p = Pending is.allocation was_listed (pending number now is.allocation peer.1 n (subst (λ (x : Allocation). IsPending n x) same p))
+  pending_before n a (Changed same) p = Pending is.allocation was_listed (pending number now is.allocation ip n (subst (λ (x : Allocation). IsPending n x) same p))
 
   taken : (n : ℕ) → IsTaken (record (parts_of c.core) { agent = agent; allocations = left }) n → IsTaken (parts_of c.core) n
   taken n (Outstanding x at) = let was = handled_new c.core.agent bytes c.core.server n x at in Outstanding was.before was.there
@@ -190,8 +183,8 @@ module _ (c : Client) (signer : signers.Client) (bytes : List ℕ) (now : ℕ) (
 
   asks : run.Asks (told_by t.bytes) (run.Holds told.held)
   asks =
-      subst (λ (transport : TransportType). run.Asks (told_by t.bytes) (run.Holds (run.Permission transport peer.1))) is.transport
-      (subst (λ (ip : IpAddr). run.Asks (told_by t.bytes) (run.Holds (run.Permission is.allocation.transport ip))) is.ip
+      subst (λ (x : TransportType). run.Asks (told_by t.bytes) (run.Holds (run.Permission x ip))) is.is_transport
+      (subst (λ (x : IpAddr). run.Asks (told_by t.bytes) (run.Holds (run.Permission is.allocation.transport x))) is.is_ip
       (orderly.permissions is.allocation was_listed is.permission is.listed number is.has t there))
 
   answers : IsAnswered client_words (call_of c (bytes ∷ []) None [] (moved c c.drawn core)) [] (run.Holds told.held) number
@@ -241,7 +234,7 @@ module _ (c : Client) (signer : signers.Client) (bytes : List ℕ) (now : ℕ) (
     spent = λ x m listed h same. absurd (has_other c.core.agent agent number m shows_numbers without h (same ∙ only (λ (y : Told). y.number ≡ number) refl x listed));
     known = only (λ (x : Told). WasKnown client_words c x.held) tt;
     is_of = only (λ (x : Told). run.IsOf x.notice x.held) refl;
-    tells = joined c.core.events (PermissionCreated peer.0 peer.1 ∷ []);
+    tells = joined c.core.events (PermissionCreated transport ip ∷ []);
     shows = λ h k. held_is_kept left h k;
     shown = λ h i. absurd i;
     waits = λ n p w. inl (waits n p w);
@@ -258,7 +251,7 @@ module _ (c : Client) (signer : signers.Client) (bytes : List ℕ) (now : ℕ) (
   asked_still a (Same was) = orderly.permissions a was
   asked_still a (Changed same) =
       subst (λ (x : Allocation). AreAsked c.core.agent x) (sym same)
-      (λ p listed n has x at. orderly.permissions is.allocation was_listed p (fewer number now is.allocation peer.1 p listed) n has x at)
+      (λ p listed n has x at. orderly.permissions is.allocation was_listed p (fewer number now is.allocation ip p listed) n has x at)
 
   still_asked : (a : Allocation) → IsLeft a → AreAsked agent a
   still_asked a l p listed n has x at =

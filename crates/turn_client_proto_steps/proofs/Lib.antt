@@ -2,6 +2,7 @@ pub mod Adding
 pub mod Agents
 pub mod Allocating
 pub mod Asking
+pub mod Awaited
 pub mod Beginning
 pub mod Drawing
 pub mod Ending

@@ -1,14 +1,15 @@
 -- The permissions of an allocation after each call are kin of those before it.
-use Rattle.std.proofs.Common.{◌≡◌, ℕ, Bool, true, false, not, List, [], ◌∷◌, ◌++◌, Option, Some, None, if◌then◌else◌, map, refl, sym, ap, ◌∙◌, subst, inl, inr}
+use Rattle.std.proofs.Common.{◌≡◌, ℕ, Bool, true, false, not, List, [], ◌∷◌, ◌++◌, Option, Some, if◌then◌else◌, map, refl, sym, ap, ◌∙◌, subst, inl, inr}
 use Rattle.std.specs.List.{filter, find}
-use Rattle.std.specs.Option.{option_and_then, option_map}
 use Rattle.std.specs.declared.net.ip_addr.IpAddr.{IpAddr}
 use Rattle.stun_types.specs.declared.transport.TransportType.{TransportType}
 use Rattle.turn_client_proto_poll.specs.Members.{IsIn}
 use Rattle.turn_client_proto_poll.specs.Allocation.Awaited.{asks_for_permission, is_among, renews_permission}
 use Rattle.turn_client_proto_poll.specs.Allocation.Changes.{change_first}
 use Rattle.turn_client_proto_poll.specs.Allocation.Permissions.{asked_again, awaiting, has_lapsed, is_over, not_asked_by, not_over, not_renewed_by, polled_permission, polled_permissions, renewed_again, renewed_first, renewed_permission, standing, wants_renewal, with_number}
-use Rattle.turn_client_proto_poll.specs.Permission.Asking.{address_asked, asking, asking_again, at_transport, renewing_again}
+use Rattle.turn_client_proto_poll.specs.Permission.Asking.{asking}
+use Rattle.turn_client_proto_poll.specs.Permission.Awaited.{asked_too}
+use Rattle.turn_client_proto_poll.specs.Permission.declared.awaited.Asked.TheVariants.{NewPermission, Renewal}
 use Rattle.turn_client_proto_poll.specs.Permission.Granted.{permission_end, renewed, turned_down}
 use Rattle.turn_client_proto_poll.specs.Permission.Telling.{polled}
 use Rattle.turn_client_proto_poll.specs.Permission.Wanting.{renewing}
@@ -76,11 +77,11 @@ module _ (ip : IpAddr) (number : ℕ) (old : List Permission) where
 pub fewer_asked : (Now : Asking) (old : List PendingPermission) (keeps : PendingPermission → Bool) → AreKnown Now old (filter keeps old)
 fewer_asked Now old keeps p listed n has = known_itself Now old p (in_filter keeps p old listed).0 n has
 
--- the address of a permission that was found
-address_of : (found : Option PendingPermission) (q : PendingPermission) (ip : IpAddr) → found ≡ Some q → option_map (λ (p : PendingPermission). p.ip) found ≡ Some ip → q.ip ≡ ip
-address_of found q ip is address = inside (sym (ap (option_map (λ (p : PendingPermission). p.ip)) is) ∙ address)
+-- a permission that was found, of this address, is asked for once more
+module _ (before number : ℕ) (a : Allocation) (first : PendingPermission) (at : find (asks_for_permission before) a.pending_permissions ≡ Some first) where
+  abbrev ip : IpAddr
+  ip = first.ip
 
-module _ (ip : IpAddr) (before number : ℕ) (a : Allocation) (address : address_asked before a ≡ Some ip) where
   pub once_more : AreKnown (one_asks ip number) a.pending_permissions (asked_again before number a.pending_permissions)
   once_more p listed n has =
       elim (in_first (asks_for_permission before) (with_number number) p a.pending_permissions listed) [
@@ -88,7 +89,7 @@ module _ (ip : IpAddr) (before number : ℕ) (a : Allocation) (address : address
         | inr changed ↦
             let q : PendingPermission = changed.0 in
             let there : IsIn q a.pending_permissions = found_listed q changed.1 in
-            let own : q.ip ≡ ip = address_of (find (asks_for_permission before) a.pending_permissions) q ip changed.1 address in
+            let own : q.ip ≡ ip = ap (λ (x : PendingPermission). x.ip) (inside (sym changed.1 ∙ at)) in
             let same : p.ip ≡ q.ip = ap (λ (x : PendingPermission). x.ip) changed.2 in
             elim (in_either n q.numbers (number ∷ []) (subst (λ (x : PendingPermission). IsIn n x.numbers) changed.2 has)) [
               | inl old ↦ inl (record { before = q; listed = there; ip = same; has = old })
@@ -134,8 +135,8 @@ renewed_permitting number now a =
     with_lists none_asks a (map (renewed_permission number (permission_end now)) a.permissions) a.pending_permissions
     (all_renewed none_asks a.permissions number (permission_end now)) (known_itself none_asks a.pending_permissions)
 
-pub renewing_again_permitting : (ip : IpAddr) (before number : ℕ) (a : Allocation) → IsPermitting (one_asks ip number) a (renewing_again before number a)
-renewing_again_permitting ip before number a =
+pub renewing_again_permitting : (transport : TransportType) (ip : IpAddr) (before number : ℕ) (a : Allocation) → IsPermitting (one_asks ip number) a (asked_too (Renewal transport ip) before number a)
+renewing_again_permitting transport ip before number a =
     with_lists (one_asks ip number) a (renewed_again before number a.permissions) a.pending_permissions
     (one_awaiting ip number a.permissions (renews_permission before)) (known_itself (one_asks ip number) a.pending_permissions)
 
@@ -144,10 +145,11 @@ renewing_permitting ip now number a =
     with_lists (one_asks ip number) a (renewed_first now number a.permissions) a.pending_permissions
     (one_awaiting ip number a.permissions (wants_renewal now)) (known_itself (one_asks ip number) a.pending_permissions)
 
-pub asking_again_permitting : (ip : IpAddr) (before number : ℕ) (a : Allocation) → address_asked before a ≡ Some ip → IsPermitting (one_asks ip number) a (asking_again before number a)
-asking_again_permitting ip before number a address =
-    with_lists (one_asks ip number) a a.permissions (asked_again before number a.pending_permissions)
-    (kin_itself (one_asks ip number) a.permissions) (once_more ip before number a address)
+pub asking_again_permitting : (transport : TransportType) (before number : ℕ) (a : Allocation) (p : PendingPermission) → find (asks_for_permission before) a.pending_permissions ≡ Some p
+    → IsPermitting (one_asks p.ip number) a (asked_too (NewPermission transport p.ip) before number a)
+asking_again_permitting transport before number a p at =
+    with_lists (one_asks p.ip number) a a.permissions (asked_again before number a.pending_permissions)
+    (kin_itself (one_asks p.ip number) a.permissions) (once_more before number a p at)
 
 pub asking_permitting : (ip : IpAddr) (number : ℕ) (a : Allocation) → IsPermitting (one_asks ip number) a (asking (record { ip = ip; numbers = number ∷ [] }) a)
 asking_permitting ip number a =
@@ -167,14 +169,3 @@ first_permitting Now passes f old is a listed = elim (in_first passes f a old li
     is = subst (λ (x : Allocation). IsPermitting Now changed.0 x) (sym changed.2) (is changed.0 changed.1);
   }
 ]
-
--- the address that was found, with its transport, is that of the allocation that was found
-pub peer_of : (address : Allocation → Option IpAddr) (peer : TransportType × IpAddr) (found : Option Allocation) (a : Allocation) → found ≡ Some a
-    → option_and_then (λ x. at_transport x (address x)) found ≡ Some peer → (a.transport ≡ peer.0) × (address a ≡ Some peer.1)
-peer_of address peer found a is h = by (address a) refl (sym (ap (option_and_then (λ x. at_transport x (address x))) is) ∙ h)
-  where
-    by : (o : Option IpAddr) → address a ≡ o → at_transport a o ≡ Some peer → (a.transport ≡ peer.0) × (address a ≡ Some peer.1)
-    by None at same = absurd (Prim.cc same)
-    by (Some ip) at same =
-        let both : (a.transport, ip) ≡ peer = inside same in
-        (ap (λ (p : TransportType × IpAddr). p.0) both, at ∙ ap (λ (p : TransportType × IpAddr). Some p.1) both)

@@ -1,7 +1,7 @@
 -- What a client that has allocated makes of a message is a step of a run.
-use Rattle.std.proofs.Common.{◌≡◌, ℕ, ◌<◌, ◌^◌, ◌==◌, Bool, true, false, ◌&&◌, List, [], ◌∷◌, map, Option, Some, None, Result, Ok, Err, if◌then◌else◌, refl, sym, ◌∙◌, subst}
+use Rattle.std.proofs.Common.{◌≡◌, ℕ, ◌+◌, ◌<◌, ◌^◌, ◌==◌, Bool, true, false, ◌&&◌, List, [], ◌∷◌, map, Option, Some, None, Result, Ok, Err, if◌then◌else◌, refl, sym, ap, ◌∙◌, subst}
 use Rattle.std.specs.List.{find, list_any}
-use Rattle.std.specs.Option.{option_and_then, option_map}
+use Rattle.std.specs.Option.{option_map}
 use Rattle.stun_types.specs.Attributes.{kind_at}
 use Rattle.std.specs.FinMap as finite
 use Rattle.std.specs.Prelude.{is_some}
@@ -25,23 +25,25 @@ use Rattle.turn_client_proto_poll.specs.Members.{IsIn}
 use Rattle.turn_client_proto_poll.specs.Messages as run
 use Rattle.turn_client_proto_poll.specs.StunWire.{told_by}
 use Rattle.turn_client_proto_poll.specs.Allocation.Awaited.{is_refresh}
-use Rattle.turn_client_proto_poll.specs.Allocation.Listed.{awaits_refresh, refresh_asked, refreshed_again}
-use Rattle.turn_client_proto_poll.specs.Allocation.Refreshing.{ends_by, lifetime_asked, refreshing, renewed}
+use Rattle.turn_client_proto_poll.specs.Allocation.Refreshing.{ends_by, renewed}
 use Rattle.turn_client_proto_poll.specs.Api.declared.event.TurnEvent.TheVariants.{PermissionCreateFailed}
-use Rattle.turn_client_proto_poll.specs.Permission.Asking.{address_asked, all_asked_again, all_renewed_again, asking_again, has_asked, has_renewed, peer_asked, peer_renewed, renewing_again}
+use Rattle.turn_client_proto_poll.specs.Permission.Awaited.{all_asked_too, asked_by, asked_too, awaits_reply}
+use Rattle.turn_client_proto_poll.specs.Permission.declared.awaited.Asked.{Asked}
+use Rattle.turn_client_proto_poll.specs.Permission.declared.awaited.Asked.TheVariants.{Lifetime, NewPermission, Renewal}
 use Rattle.turn_client_proto_poll.specs.Permission.Granted as granted_again
 use Rattle.turn_client_proto_poll.specs.Permission.Granted.{turned_down}
 use Rattle.turn_client_proto_poll.specs.Request.Judging.{IsJudged}
 use Rattle.turn_client_proto_poll.specs.Request.Requests.{request_text}
+use Rattle.turn_client_proto_poll.specs.Request.declared.request.TurnRequest.{TurnRequest}
 use Rattle.turn_client_proto_poll.specs.Request.declared.request.TurnRequest.TheVariants.{CreatePermission, Refresh}
 use Rattle.turn_client_proto_poll.specs.Response.Told.{lifetime_told}
 use Rattle.turn_client_proto_poll.specs.Core.Asking.{asked}
 use Rattle.turn_client_proto_poll.specs.Core.Ending.{ended}
 use Rattle.turn_client_proto_poll.specs.Core.Numbering.{after_number}
 use Rattle.turn_client_proto_poll.specs.Core.Permitting as permission
-use Rattle.turn_client_proto_poll.specs.Core.Permitting.{IsAskingAgain, IsGrantedFor, IsPermissionResponded, IsPermittingAgain, IsRefusedFor, IsRenewalGranted, IsRenewalRefused, IsRenewingAgain, permits_again, refused, renews}
+use Rattle.turn_client_proto_poll.specs.Core.Permitting.{IsGrantedFor, IsPermissionResponded, IsRefusedFor, refused, renews}
 use Rattle.turn_client_proto_poll.specs.Core.Responding.{accepted, challenged, is_error_class, is_tired, judged}
-use Rattle.turn_client_proto_poll.specs.Core.Standing.{IsAskedAgain, IsJudgedStanding, IsRechallenged, IsRequestAnswered, IsTakenUp, after_refresh, deallocated, is_refreshed, refreshed, refreshes_again}
+use Rattle.turn_client_proto_poll.specs.Core.Standing.{IsAskedAgain, IsJudgedStanding, IsRechallenged, IsRequestAnswered, IsSentAgain, IsTakenUp, after_refresh, asks_again, deallocated, is_refreshed, refreshed, request_for}
 use Rattle.turn_client_proto_poll.specs.Core.declared.protocol.Phase.TheVariants.{Authenticated, Ended}
 use Rattle.turn_client_proto_poll.specs.Core.declared.protocol.Protocol.{Protocol}
 use Rattle.turn_client_proto_steps.specs.Held.{Allocation, PendingRefresh}
@@ -51,13 +53,14 @@ use Rattle.turn_client_proto_steps.specs.Sound.{AreShort, CanAsk, IsOrderly}
 use Rattle.turn_client_proto_steps.proofs.Adding.{AreLess, adds_both, agent_less, allocations_less, phase_moved}
 use Rattle.turn_client_proto_steps.proofs.Allocating.{validated_own}
 use Rattle.turn_client_proto_steps.proofs.Asking.{IsMade, IsUnderWay, asked_adds, asked_orderly, asks, made, once_accepted, once_judged}
+use Rattle.turn_client_proto_steps.proofs.Awaited.{IsAskedOf, IsFoundBy, OfLifetime, OfNew, OfRenewal, found_by}
 use Rattle.turn_client_proto_steps.proofs.Granting.{asked_in, granted_step}
 use Rattle.turn_client_proto_steps.proofs.Hearing.{done, over}
 use Rattle.turn_client_proto_steps.proofs.Lessening.{all_renewed, first_less, none_less, one_awaited}
 use Rattle.turn_client_proto_steps.proofs.Lists.{found_in, inside}
-use Rattle.turn_client_proto_steps.proofs.Permissions.{asking_again_permitting, first_permitting, peer_of, renewed_permitting, renewing_again_permitting, turned_down_permitting}
+use Rattle.turn_client_proto_steps.proofs.Permissions.{asking_again_permitting, first_permitting, renewed_permitting, renewing_again_permitting, turned_down_permitting}
 use Rattle.turn_client_proto_steps.proofs.Permits.{made_number, owns}
-use Rattle.turn_client_proto_steps.proofs.Permitting.{ArePermitting, allocations_permitting, each_permitting, none_asks, one_asks, permitting_orderly}
+use Rattle.turn_client_proto_steps.proofs.Permitting.{ArePermitting, IsPermitting, allocations_permitting, each_permitting, none_asks, one_asks, permitting_orderly}
 use Rattle.turn_client_proto_steps.proofs.Orderly.{agent_orderly, allocations_orderly, phase_orderly, until_all}
 use Rattle.turn_client_proto_steps.proofs.Plain.{counts_none, none_told, nothing_drawn, notices, quiet, run_step}
 use Rattle.turn_client_proto_steps.proofs.Polling.{by_test}
@@ -70,27 +73,26 @@ lifetime_small : (refreshes : List PendingRefresh) (lifetime : ℕ) (found : Opt
 lifetime_small refreshes lifetime None short there h = absurd (Prim.cc h)
 lifetime_small refreshes lifetime (Some r) short there h = subst (λ (n : ℕ). n < 2 ^ 32) (inside h) (short r (there r refl))
 
-asked_small : (number lifetime : ℕ) (all : List Allocation) (found : Option Allocation) → ((a : Allocation) → IsIn a all → AreShort a.pending_refreshes) → ((a : Allocation) → found ≡ Some a → IsIn a all)
-    → option_and_then (λ (a : Allocation). lifetime_asked number a.pending_refreshes) found ≡ Some lifetime → lifetime < 2 ^ 32
-asked_small number lifetime all None short there h = absurd (Prim.cc h)
-asked_small number lifetime all (Some a) short there h =
-    lifetime_small a.pending_refreshes lifetime (find (is_refresh number) a.pending_refreshes) (short a (there a refl)) (found_in (is_refresh number) a.pending_refreshes) h
-
 -- ---- a challenge
 
 module _ (c : Client) (mid : Protocol) (bytes : List ℕ) (now : ℕ) (under_way : IsUnderWay c mid) (stands : mid.phase ≡ Authenticated) where
-  again : (number lifetime : ℕ) → lifetime < 2 ^ 32 → IsMade mid (Refresh lifetime) number → IsRunStep c (bytes ∷ []) None [] (challenged bytes (refreshes_again (number_at bytes) number lifetime now mid))
-  unfolding challenged refreshes_again asked
-  again number lifetime small is =
+  -- what a client is that asks for something again
+  abbrev again : Asked → ℕ → Protocol
+  again what number = challenged bytes (asks_again what (number_at bytes) number now mid)
+
+  -- a REFRESH once more
+  refreshes : (number lifetime : ℕ) → lifetime < 2 ^ 32 → IsMade mid (Refresh lifetime) number → IsRunStep c (bytes ∷ []) None [] (again (Lifetime lifetime) number)
+  unfolding challenged asks_again asked
+  refreshes number lifetime small is =
       let begun : List run.Message = told_by (request_text mid.auth (Refresh lifetime) number) ∷ [] in
       let refresh : PendingRefresh = refresh_of number lifetime in
       let made_it : Parts = parts_of (asked (after_number mid) (Refresh lifetime) number now) in
-      let left : List Allocation = refreshed_again (number_at bytes) refresh mid.allocations in
-      let less : AreLess (refresh ∷ []) mid.allocations left = first_less (refresh ∷ []) (refreshing refresh) (one_awaited refresh) (awaits_refresh (number_at bytes)) mid.allocations in
+      let left : List Allocation = all_asked_too (Lifetime lifetime) (number_at bytes) number mid.allocations in
+      let less : AreLess (refresh ∷ []) mid.allocations left = first_less (refresh ∷ []) (asked_too (Lifetime lifetime) (number_at bytes) number) (one_awaited refresh) (awaits_reply (number_at bytes)) mid.allocations in
       let listed : Parts = record made_it { allocations = left } in
       let agent : Agent = after_message made_it.agent bytes mid.server in
       let none : NothingNew made_it.agent agent = handled_new made_it.agent bytes mid.server in
-      let core : Protocol = challenged bytes (refreshes_again (number_at bytes) number lifetime now mid) in
+      let core : Protocol = again (Lifetime lifetime) number in
       let adds = adds_both begun (parts_of mid) made_it (parts_of core) (asked_adds mid (Refresh lifetime) number now)
       (adds_both begun made_it listed (parts_of core)
       (allocations_less begun (refresh ∷ []) made_it left less (refresh_made mid number lifetime is))
@@ -100,59 +102,70 @@ module _ (c : Client) (mid : Protocol) (bytes : List ℕ) (now : ℕ) (under_way
       asks c mid (Refresh lifetime) number under_way is (bytes ∷ []) None core adds orderly refl under_way.can_ask.families refl refl (nothing_drawn begun c)
 
   -- a CREATE_PERMISSION once more
-  permits : (change : List Allocation → List Allocation) (ip : IpAddr) (number : ℕ) → IsMade mid (CreatePermission ip) number → ArePermitting (one_asks ip number) mid.allocations (change mid.allocations)
-      → IsRunStep c (bytes ∷ []) None [] (challenged bytes (permits_again change ip number now mid))
-  unfolding challenged permits_again asked
-  permits change ip number is are =
+  permits : (what : Asked) (ip : IpAddr) (number : ℕ) → request_for what ≡ CreatePermission ip → IsMade mid (CreatePermission ip) number
+      → ArePermitting (one_asks ip number) mid.allocations (all_asked_too what (number_at bytes) number mid.allocations) → IsRunStep c (bytes ∷ []) None [] (again what number)
+  unfolding challenged asks_again asked
+  permits what ip number same is are =
       let begun : List run.Message = told_by (request_text mid.auth (CreatePermission ip) number) ∷ [] in
       let made_it : Parts = parts_of (asked (after_number mid) (CreatePermission ip) number now) in
-      let left : List Allocation = change mid.allocations in
+      let left : List Allocation = all_asked_too what (number_at bytes) number mid.allocations in
       let listed : Parts = record made_it { allocations = left } in
       let agent : Agent = after_message made_it.agent bytes mid.server in
       let none : NothingNew made_it.agent agent = handled_new made_it.agent bytes mid.server in
-      let core : Protocol = challenged bytes (permits_again change ip number now mid) in
+      let core : Protocol = record (asked (after_number mid) (CreatePermission ip) number now) { allocations = left; agent = agent; resends = mid.resends + 1 } in
       let adds = adds_both begun (parts_of mid) made_it (parts_of core) (asked_adds mid (CreatePermission ip) number now)
       (adds_both begun made_it listed (parts_of core)
       (allocations_permitting begun (one_asks ip number) made_it left are (made_number mid ip number now is))
       (agent_less begun listed agent none)) in
       let orderly = agent_orderly listed agent none (permitting_orderly (one_asks ip number) made_it left are (owns mid ip number now is)
       (asked_orderly mid (CreatePermission ip) number now is (allocated _ mid.phase stands) under_way.orderly)) in
-      asks c mid (CreatePermission ip) number under_way is (bytes ∷ []) None core adds orderly refl under_way.can_ask.families refl refl (nothing_drawn begun c)
+      subst (λ (request : TurnRequest). IsRunStep c (bytes ∷ []) None [] (challenged bytes (record (asked (after_number mid) request number now) { allocations = left }))) (sym same)
+      (asks c mid (CreatePermission ip) number under_way is (bytes ∷ []) None core adds orderly refl under_way.can_ask.families refl refl (nothing_drawn begun c))
 
-  permitting_again : (change : ℕ → List Allocation → List Allocation) (ip : IpAddr) (handled : Bool) (new : Protocol) → ((number : ℕ) → ArePermitting (one_asks ip number) mid.allocations (change number mid.allocations))
-      → IsPermittingAgain change mid bytes ip now handled new → IsRunStep c (bytes ∷ []) None [] new
-  permitting_again change ip handled new are h =
+  sent_again : (what : Asked) (handled : Bool) (new : Protocol) → IsFoundBy (number_at bytes) mid.allocations what → IsSentAgain what mid bytes now handled new → IsRunStep c (bytes ∷ []) None [] new
+  sent_again (Lifetime lifetime) handled new first h =
+      subst (λ (p : Protocol). IsRunStep c (bytes ∷ []) None [] p) (sym h.outcome.1) (refreshes h.number lifetime small (made c mid (Refresh lifetime) h.number under_way small tt h.is_next))
+    where
+      by : IsAskedOf (number_at bytes) first.allocation (Lifetime lifetime) → lifetime < 2 ^ 32
+      by (OfLifetime l at same) =
+          lifetime_small first.allocation.pending_refreshes lifetime (find (is_refresh (number_at bytes)) first.allocation.pending_refreshes)
+          (under_way.orderly.lifetimes first.allocation (found_in (awaits_reply (number_at bytes)) mid.allocations first.allocation first.found))
+          (found_in (is_refresh (number_at bytes)) first.allocation.pending_refreshes) (at ∙ ap Some (Prim.cc same))
+      by (OfNew p at same) = absurd (Prim.cc same)
+      by (OfRenewal p at same) = absurd (Prim.cc same)
+
+      small : lifetime < 2 ^ 32
+      small = by first.is
+  sent_again (NewPermission transport ip) handled new first h =
       subst (λ (p : Protocol). IsRunStep c (bytes ∷ []) None [] p) (sym h.outcome.1)
-      (permits (change h.number) ip h.number (made c mid (CreatePermission ip) h.number under_way h.lawful tt h.is_next) (are h.number))
+      (permits (NewPermission transport ip) ip h.number refl (made c mid (CreatePermission ip) h.number under_way h.lawful tt h.is_next)
+      (first_permitting (one_asks ip h.number) (awaits_reply (number_at bytes)) (asked_too (NewPermission transport ip) (number_at bytes) h.number) mid.allocations are))
+    where
+      one : (a : Allocation) → IsAskedOf (number_at bytes) a (NewPermission transport ip) → IsPermitting (one_asks ip h.number) a (asked_too (NewPermission transport ip) (number_at bytes) h.number a)
+      one a (OfLifetime l at same) = absurd (Prim.cc same)
+      one a (OfRenewal p at same) = absurd (Prim.cc same)
+      one a (OfNew p at same) =
+          subst (λ (x : IpAddr). IsPermitting (one_asks x h.number) a (asked_too (NewPermission transport x) (number_at bytes) h.number a)) (Prim.cc same)
+          (asking_again_permitting transport (number_at bytes) h.number a p at)
 
-  renewing_again_step : (peer : Option (TransportType × IpAddr)) (handled : Bool) (new : Protocol) → IsRenewingAgain peer mid bytes now handled new → IsRunStep c (bytes ∷ []) None [] new
-  renewing_again_step None handled new h = done c (bytes ∷ []) mid new under_way h.1
-  renewing_again_step (Some peer) handled new h =
-      permitting_again (all_renewed_again (number_at bytes)) peer.1 handled new
-      (λ number. first_permitting (one_asks peer.1 number) (has_renewed (number_at bytes)) (renewing_again (number_at bytes) number) mid.allocations (λ a found. renewing_again_permitting peer.1 (number_at bytes) number a)) h
-
-  asking_again_step : (peer : Option (TransportType × IpAddr)) (handled : Bool) (new : Protocol) → peer_asked (number_at bytes) mid.allocations ≡ peer → IsAskingAgain peer mid bytes now handled new → IsRunStep c (bytes ∷ []) None [] new
-  asking_again_step None handled new is h = renewing_again_step (peer_renewed (number_at bytes) mid.allocations) handled new h
-  asking_again_step (Some peer) handled new is h =
-      permitting_again (all_asked_again (number_at bytes)) peer.1 handled new
-      (λ number. first_permitting (one_asks peer.1 number) (has_asked (number_at bytes)) (asking_again (number_at bytes) number) mid.allocations
-      (λ a found. asking_again_permitting peer.1 (number_at bytes) number a (peer_of (address_asked (number_at bytes)) peer (find (has_asked (number_at bytes)) mid.allocations) a found is).1)) h
-
-  asked_again : (asked_for : Option ℕ) (handled : Bool) (new : Protocol) → refresh_asked (number_at bytes) mid.allocations ≡ asked_for → IsAskedAgain asked_for mid bytes now handled new
-      → IsRunStep c (bytes ∷ []) None [] new
-  asked_again None handled new is h = asking_again_step (peer_asked (number_at bytes) mid.allocations) handled new refl h
-  asked_again (Some lifetime) handled new is h =
-      let small = asked_small (number_at bytes) lifetime mid.allocations (find (awaits_refresh (number_at bytes)) mid.allocations) under_way.orderly.lifetimes
-      (found_in (awaits_refresh (number_at bytes)) mid.allocations) is in
+      are : (a : Allocation) → find (awaits_reply (number_at bytes)) mid.allocations ≡ Some a → IsPermitting (one_asks ip h.number) a (asked_too (NewPermission transport ip) (number_at bytes) h.number a)
+      are a found = one a (subst (λ (x : Allocation). IsAskedOf (number_at bytes) x (NewPermission transport ip)) (inside (sym first.found ∙ found)) first.is)
+  sent_again (Renewal transport ip) handled new first h =
       subst (λ (p : Protocol). IsRunStep c (bytes ∷ []) None [] p) (sym h.outcome.1)
-      (again h.number lifetime small (made c mid (Refresh lifetime) h.number under_way small tt h.is_next))
+      (permits (Renewal transport ip) ip h.number refl (made c mid (CreatePermission ip) h.number under_way h.lawful tt h.is_next)
+      (first_permitting (one_asks ip h.number) (awaits_reply (number_at bytes)) (asked_too (Renewal transport ip) (number_at bytes) h.number) mid.allocations
+      (λ a found. renewing_again_permitting transport ip (number_at bytes) h.number a)))
+
+  asked_again : (what : Option Asked) (handled : Bool) (new : Protocol) → asked_by (number_at bytes) mid.allocations ≡ what → IsAskedAgain what mid bytes now handled new → IsRunStep c (bytes ∷ []) None [] new
+  asked_again None handled new is h = done c (bytes ∷ []) mid new under_way h.1
+  asked_again (Some what) handled new is h = sent_again what handled new (found_by (number_at bytes) mid.allocations what is) h
 
   rechallenged : (handled : Bool) (new : Protocol) → IsRechallenged mid bytes now handled new → IsRunStep c (bytes ∷ []) None [] new
   rechallenged handled new h =
       by_test (is_tired mid)
       (λ (_ : is_tired mid ≡ true) (o : (handled ≡ true) × (new ≡ ended mid)). over c (bytes ∷ []) mid new under_way o.1)
       (λ (_ : is_tired mid ≡ false) one. by_test (is_awaited mid.agent bytes)
-      (λ (_ : is_awaited mid.agent bytes ≡ true) two. asked_again (refresh_asked (number_at bytes) mid.allocations) handled new refl two)
+      (λ (_ : is_awaited mid.agent bytes ≡ true) two. asked_again (asked_by (number_at bytes) mid.allocations) handled new refl two)
       (λ (_ : is_awaited mid.agent bytes ≡ false) (o : (handled ≡ false) × (new ≡ mid)). done c (bytes ∷ []) mid new under_way o.1)
       one) h
 
@@ -218,13 +231,13 @@ module _ (c : Client) (mid : Protocol) (bytes : List ℕ) (now : ℕ) (under_way
         words = under_way.can_ask.words;
       })))
 
-  refused_step : (peer : TransportType × IpAddr) (new : Protocol) → new ≡ refused peer (number_at bytes) mid → IsRunStep c (bytes ∷ []) None [] new
+  refused_step : (transport : TransportType) (ip : IpAddr) (new : Protocol) → new ≡ refused transport ip (number_at bytes) mid → IsRunStep c (bytes ∷ []) None [] new
   unfolding refused
-  refused_step peer new is =
+  refused_step transport ip new is =
       subst (λ (p : Protocol). IsRunStep c (bytes ∷ []) None [] p) (sym is)
-      (permissions_left (refused peer (number_at bytes) mid) (map (turned_down (number_at bytes)) mid.allocations)
+      (permissions_left (refused transport ip (number_at bytes) mid) (map (turned_down (number_at bytes)) mid.allocations)
       (each_permitting none_asks (turned_down (number_at bytes)) (turned_down_permitting (number_at bytes)) mid.allocations) refl
-      (none_told mid.events (PermissionCreateFailed peer.0 peer.1 ∷ []) refl))
+      (none_told mid.events (PermissionCreateFailed transport ip ∷ []) refl))
 
   renews_step : (new : Protocol) → new ≡ renews (number_at bytes) now mid → IsRunStep c (bytes ∷ []) None [] new
   unfolding renews
@@ -233,32 +246,29 @@ module _ (c : Client) (mid : Protocol) (bytes : List ℕ) (now : ℕ) (under_way
       (permissions_left (renews (number_at bytes) now mid) (map (granted_again.renewed (number_at bytes) now) mid.allocations)
       (each_permitting none_asks (granted_again.renewed (number_at bytes) now) (renewed_permitting (number_at bytes) now) mid.allocations) refl refl)
 
-  renewal_refused : (peer : Option (TransportType × IpAddr)) (handled : Bool) (new : Protocol) → IsRenewalRefused peer mid (number_at bytes) handled new → IsRunStep c (bytes ∷ []) None [] new
-  renewal_refused None handled new h = done c (bytes ∷ []) mid new under_way h.1
-  renewal_refused (Some peer) handled new h = refused_step peer new h.1
-
-  refused_for : (peer : Option (TransportType × IpAddr)) (handled : Bool) (new : Protocol) → IsRefusedFor peer mid (number_at bytes) handled new → IsRunStep c (bytes ∷ []) None [] new
-  refused_for None handled new h = renewal_refused (peer_renewed (number_at bytes) mid.allocations) handled new h
-  refused_for (Some peer) handled new h = refused_step peer new h.1
-
-  renewal_granted : (peer : Option (TransportType × IpAddr)) (handled : Bool) (new : Protocol) → IsRenewalGranted peer mid (number_at bytes) now handled new → IsRunStep c (bytes ∷ []) None [] new
-  renewal_granted None handled new h = done c (bytes ∷ []) mid new under_way h.1
-  renewal_granted (Some peer) handled new h = renews_step new h.1
+  refused_for : (what : Option Asked) (handled : Bool) (new : Protocol) → IsRefusedFor what mid (number_at bytes) handled new → IsRunStep c (bytes ∷ []) None [] new
+  refused_for None handled new h = done c (bytes ∷ []) mid new under_way h.1
+  refused_for (Some (Lifetime lifetime)) handled new h = done c (bytes ∷ []) mid new under_way h.1
+  refused_for (Some (NewPermission transport ip)) handled new h = refused_step transport ip new h.1
+  refused_for (Some (Renewal transport ip)) handled new h = refused_step transport ip new h.1
 
   -- a permission that was asked for and is granted
   abbrev pub GrantsOne : Type 0
-  GrantsOne = (peer : TransportType × IpAddr) → peer_asked (number_at bytes) mid.allocations ≡ Some peer → is_error_class (class_of (kind_at bytes)) ≡ false → IsRunStep c (bytes ∷ []) None [] (permission.granted peer (number_at bytes) now mid)
+  GrantsOne = (transport : TransportType) (ip : IpAddr) → asked_by (number_at bytes) mid.allocations ≡ Some (NewPermission transport ip) → is_error_class (class_of (kind_at bytes)) ≡ false
+      → IsRunStep c (bytes ∷ []) None [] (permission.granted transport ip (number_at bytes) now mid)
 
-  granted_for : GrantsOne → (peer : Option (TransportType × IpAddr)) (handled : Bool) (new : Protocol) → peer_asked (number_at bytes) mid.allocations ≡ peer → is_error_class (class_of (kind_at bytes)) ≡ false
-      → IsGrantedFor peer mid (number_at bytes) now handled new → IsRunStep c (bytes ∷ []) None [] new
-  granted_for grants None handled new at ok h = renewal_granted (peer_renewed (number_at bytes) mid.allocations) handled new h
-  granted_for grants (Some peer) handled new at ok h = subst (λ (p : Protocol). IsRunStep c (bytes ∷ []) None [] p) (sym h.1) (grants peer at ok)
+  granted_for : GrantsOne → (what : Option Asked) (handled : Bool) (new : Protocol) → asked_by (number_at bytes) mid.allocations ≡ what → is_error_class (class_of (kind_at bytes)) ≡ false
+      → IsGrantedFor what mid (number_at bytes) now handled new → IsRunStep c (bytes ∷ []) None [] new
+  granted_for grants None handled new at ok h = done c (bytes ∷ []) mid new under_way h.1
+  granted_for grants (Some (Lifetime lifetime)) handled new at ok h = done c (bytes ∷ []) mid new under_way h.1
+  granted_for grants (Some (NewPermission transport ip)) handled new at ok h = subst (λ (p : Protocol). IsRunStep c (bytes ∷ []) None [] p) (sym h.1) (grants transport ip at ok)
+  granted_for grants (Some (Renewal transport ip)) handled new at ok h = renews_step new h.1
 
   permission_responded : GrantsOne → (handled : Bool) (new : Protocol) → IsPermissionResponded mid bytes now handled new → IsRunStep c (bytes ∷ []) None [] new
   permission_responded grants handled new h =
       by_test (is_error_class (class_of (kind_at bytes)))
-      (λ (_ : is_error_class (class_of (kind_at bytes)) ≡ true) one. refused_for (peer_asked (number_at bytes) mid.allocations) handled new one)
-      (λ (ok : is_error_class (class_of (kind_at bytes)) ≡ false) one. granted_for grants (peer_asked (number_at bytes) mid.allocations) handled new refl ok one) h
+      (λ (_ : is_error_class (class_of (kind_at bytes)) ≡ true) one. refused_for (asked_by (number_at bytes) mid.allocations) handled new one)
+      (λ (ok : is_error_class (class_of (kind_at bytes)) ≡ false) one. granted_for grants (asked_by (number_at bytes) mid.allocations) handled new refl ok one) h
 
   request_answered : GrantsOne → (handled : Bool) (new : Protocol) → IsRequestAnswered mid bytes now handled new → IsRunStep c (bytes ∷ []) None [] new
   request_answered grants handled new h =
@@ -286,10 +296,10 @@ module _ (c : Client) (bytes : List ℕ) (now : ℕ) (orderly : IsOrderly (parts
       → (found : Option Transaction) → finite.get c.core.agent.outstanding (number_at bytes) ≡ found → is_some found ≡ true → (under_way : IsUnderWay c (accepted bytes (judged signer c.core)))
       → GrantsOne c (accepted bytes (judged signer c.core)) bytes now under_way
   unfolding accepted
-  grants_one algorithm signer is taken None there some under_way peer at ok = absurd (Prim.cc some)
-  grants_one algorithm signer is taken (Some t) there some under_way peer at ok =
+  grants_one algorithm signer is taken None there some under_way transport ip at ok = absurd (Prim.cc some)
+  grants_one algorithm signer is taken (Some t) there some under_way transport ip at ok =
       granted_step c signer bytes now message (success_class (class_of (kind_at bytes)) (both_of (is_response bytes) (is_awaited c.core.agent bytes) taken).0 ok) taken
-      (validated_own c.core.auth signer bytes algorithm c.credentials are_bytes can.account is) peer (asked_in (number_at bytes) peer c.core.allocations at) t there orderly under_way
+      (validated_own c.core.auth signer bytes algorithm c.credentials are_bytes can.account is) transport ip (asked_in (number_at bytes) transport ip c.core.allocations at) t there orderly under_way
 
   taken_up : (algorithm : IntegrityAlgorithm) (signer : signers.Client) (handled : Bool) (new : Protocol) → IsJudged c.core.auth bytes (Ok (Validated algorithm)) signer
       → IsTakenUp (judged signer c.core) bytes now handled new → IsRunStep c (bytes ∷ []) None [] new

@@ -48,7 +48,8 @@ pub data IsPending (number : ℕ) (a : Allocation) : Type 0 where
   OfRefresh : (r : PendingRefresh) → IsIn r a.pending_refreshes → r.number ≡ number → IsPending number a
   OfConnect : (c : Connecting) → IsIn c a.connecting → c.number ≡ number → IsPending number a
   OfAttempt : (w : Waiting) → IsIn w a.waiting → w.attempt ≡ Some number → IsPending number a
-  OfBinding : (c : Connection) → IsIn c a.connections → (b : Binding) → c.awaited ≡ Some b → b.number ≡ number → IsPending number a
+  OfBinding : (c : Connection) → IsIn c a.connections → (b : Binding) → c.awaited ≡ Some b → b.number ≡ number
+      → IsPending number a
 
 -- a number that a request is not given: it is outstanding; an ALLOCATE was sent under it, and none is answered; or it is
 -- pending
@@ -64,7 +65,8 @@ pub data Has (a : Allocation) : run.Held → Type 0 where
   HasItself : Has a (run.Allocation a.transport a.address)
   HasPermission : (p : Permission) → IsIn p a.permissions → Has a (run.Permission a.transport p.ip)
   HasChannel : (c : Channel) → IsIn c a.channels → Has a (run.Channel c.number c.peer)
-  HasConnection : (c : Connection) → IsIn c a.connections → c.awaited ≡ None → Has a (run.Connection c.here c.peer c.connection)
+  HasConnection : (c : Connection) → IsIn c a.connections → c.awaited ≡ None
+      → Has a (run.Connection c.here c.peer c.connection)
 
 pub record IsKept (allocations : List Allocation) (held : run.Held) : Type 0 where
   pub allocation : Allocation
@@ -92,8 +94,10 @@ pub record Waits (allocations : List Allocation) (number : ℕ) (peer : SocketAd
 
 -- a request of the server's own that is not answered, or whose response waits to be drawn
 pub data IsAttempted (allocations : List Allocation) (queue : List Queued) (number : ℕ) : Type 0 where
-  IsWaiting : (a : Allocation) → IsIn a allocations → (w : Waiting) → IsIn w a.waiting → w.attempt ≡ Some number → IsAttempted allocations queue number
-  IsAnswered : (q : Queued) → IsIn q queue → q.is_request ≡ false → number_at q.bytes ≡ number → IsAttempted allocations queue number
+  IsWaiting : (a : Allocation) → IsIn a allocations → (w : Waiting) → IsIn w a.waiting → w.attempt ≡ Some number
+      → IsAttempted allocations queue number
+  IsAnswered : (q : Queued) → IsIn q queue → q.is_request ≡ false → number_at q.bytes ≡ number
+      → IsAttempted allocations queue number
 
 -- ---- what waits
 

@@ -22,7 +22,8 @@ call_of before came drawn answered after = record {
 
 -- such a call leaves the client with this core: it is a step of a run, as many numbers count as drawn as the generator
 -- gave, and the client is sound again
-pub record IsRunStep (before : Client) (came : List (List ℕ)) (drawn : Option (List ℕ)) (answered : List Notice) (core : Protocol) : Type 0 where
+pub record IsRunStep (before : Client) (came : List (List ℕ)) (drawn : Option (List ℕ)) (answered : List Notice)
+    (core : Protocol) : Type 0 where
   pub after : Client
   pub core_is : after.core ≡ core
   pub step : ClientStep client_words (call_of before came drawn answered after)

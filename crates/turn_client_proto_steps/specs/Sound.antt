@@ -50,7 +50,8 @@ AreShort refreshes = (r : PendingRefresh) → IsIn r refreshes → r.lifetime < 
 -- an outstanding request under a number of a permission that was asked for asks for that very permission
 abbrev pub AreAsked : Agent → Allocation → Type 0
 AreAsked agent a = (p : PendingPermission) → IsIn p a.pending_permissions → (number : ℕ) → IsIn number p.numbers
-    → (t : Transaction) → map.get agent.outstanding number ≡ Some t → Asks (told_by t.bytes) (Holds (Permission a.transport p.ip))
+    → (t : Transaction) → map.get agent.outstanding number ≡ Some t
+    → Asks (told_by t.bytes) (Holds (Permission a.transport p.ip))
 
 -- each outstanding request is a message, kept under its own number; until the server has allocated it is an
 -- ALLOCATE for the client's transport; what waits to be sent is requests; and what allocations await was asked for

@@ -124,3 +124,6 @@ last_line all old new left line after so cut none more =
     let whole = line_more all old new left line [] so
     (cut ∙ ap (λ (a : Option (Bor (List ℕ))). line ∷ lines_behind (option_copied a)) none) more in
     subst (All (IsCovered new)) (sym (whole.1 ∙ append-nil whole.0)) whole.2
+
+-- one flag more
+pub ruleset flags = (set_stays, set_wanted, past_wanted, stays)

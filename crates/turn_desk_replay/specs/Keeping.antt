@@ -12,7 +12,8 @@ use Rattle.turn_desk_replay.specs.Progress.{IsRunOfOne, IsSetUp, Progress, can_h
 use Rattle.turn_desk_replay.specs.Wanted.{is_wanted, kept_if}
 
 -- an event happened, and of its answer is kept what a later line can name
-pub record IsHappenedKept (flags : List Bool) (p : Progress) (event : Happening) (answer : Answer) (q : Progress) : Type 0 where
+pub record IsHappenedKept (flags : List Bool) (p : Progress) (event : Happening) (answer : Answer) (q : Progress)
+    : Type 0 where
   pub before : World
   pub stood : world_of p ≡ Some before
   pub possible : can_happen_in before event ≡ true
@@ -22,7 +23,8 @@ pub record IsHappenedKept (flags : List Bool) (p : Progress) (event : Happening)
   pub named : q.named ≡ p.named ++ kept_if (is_wanted flags (length p.named)) (named_by answer) ∷ []
 
 -- and the line tells what it was answered
-pub record IsToldKept (flags : List Bool) (p : Progress) (event : Happening) (printed : List ℕ) (q : Progress) : Type 0 where
+pub record IsToldKept (flags : List Bool) (p : Progress) (event : Happening) (printed : List ℕ) (q : Progress)
+    : Type 0 where
   pub answer : Answer
   pub happened : IsHappenedKept flags p event answer q
   pub told : printed ≡ answer_text answer
@@ -30,7 +32,8 @@ pub record IsToldKept (flags : List Bool) (p : Progress) (event : Happening) (pr
 -- a line was done, by what stood before it and what was kept: what it printed, and what stands and is kept behind it
 pub data IsLineDoneKept (flags : List Bool) (p : Progress) (line printed : List ℕ) (q : Progress) : Type 0 where
   Skipped : says_nothing line ≡ true → printed ≡ [] → q ≡ p → IsLineDoneKept flags p line printed q
-  SetUp : (setup : SettingUp) → IsLine p.named line (Setup setup) → can_set_up p setup ≡ true → IsSetUp p setup q → printed ≡ []
+  SetUp : (setup : SettingUp) → IsLine p.named line (Setup setup) → can_set_up p setup ≡ true
+      → IsSetUp p setup q → printed ≡ []
       → IsLineDoneKept flags p line printed q
   Answered : (event : Happening) → IsLine p.named line (Event event) → IsToldKept flags p event printed q
       → IsLineDoneKept flags p line printed q

@@ -29,9 +29,11 @@ pub record IsTold (p : Progress) (event : Happening) (printed : List ℕ) (q : P
 -- a line was done, by what stood before it: what it printed, and what stands behind it
 pub data IsLineDone (p : Progress) (line printed : List ℕ) (q : Progress) : Type 0 where
   Skipped : says_nothing line ≡ true → printed ≡ [] → q ≡ p → IsLineDone p line printed q
-  SetUp : (setup : SettingUp) → IsLine p.named line (Setup setup) → can_set_up p setup ≡ true → IsSetUp p setup q → printed ≡ []
+  SetUp : (setup : SettingUp) → IsLine p.named line (Setup setup) → can_set_up p setup ≡ true
+      → IsSetUp p setup q → printed ≡ []
       → IsLineDone p line printed q
-  Answered : (event : Happening) → IsLine p.named line (Event event) → IsTold p event printed q → IsLineDone p line printed q
+  Answered : (event : Happening) → IsLine p.named line (Event event) → IsTold p event printed q
+      → IsLineDone p line printed q
 
 -- a line may stand here
 abbrev pub can_stand : Progress → Line → Bool
@@ -47,7 +49,8 @@ pub record IsBadLine (p : Progress) (line : List ℕ) : Type 0 where
 -- what stands, up to the first bad one, or to where memory is refused
 pub data IsReplay : Progress → ℕ → List (List ℕ) → List ℕ → Status → Type 0 where
   Ended : (p : Progress) (number : ℕ) → IsReplay p number [] [] Done
-  More : (p : Progress) (number : ℕ) (line here : List ℕ) (q : Progress) (rest : List (List ℕ)) (behind : List ℕ) (status : Status)
+  More : (p : Progress) (number : ℕ) (line here : List ℕ) (q : Progress) (rest : List (List ℕ))
+      (behind : List ℕ) (status : Status)
       → IsLineDone p line here q → IsReplay q (number + 1) rest behind status
       → IsReplay p number (line ∷ rest) (here ++ behind) status
   Bad : (p : Progress) (number : ℕ) (line : List ℕ) (rest : List (List ℕ)) → IsBadLine p line
@@ -61,7 +64,8 @@ Prints trace status old new =
 
 -- what was printed of a trace up to its end, or to where it stopped; the line of the status is not printed yet
 abbrev pub IsReplayed : List ℕ → Result (Unit {0}) Stop → Option (List ℕ) → Option (List ℕ) → Type 0
-IsReplayed trace (Ok done) old new = (printed : List ℕ) × Appends old new printed × IsReplay start 1 (lines_of trace) printed Done
+IsReplayed trace (Ok done) old new =
+    (printed : List ℕ) × Appends old new printed × IsReplay start 1 (lines_of trace) printed Done
 IsReplayed trace (Err by) old new =
     status_of by ≢ Fault → (printed : List ℕ) × Appends old new printed
     × IsReplay start 1 (lines_of trace) (printed ++ stop_text by) (status_of by)

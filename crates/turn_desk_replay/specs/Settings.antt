@@ -44,8 +44,9 @@ waiting (Some rto) config = record config {
 
 -- the settings of a client that asks for an allocation over UDP
 abbrev pub config_of : Client → Option Rto → Config
-config_of client rto = waiting rto (record (default_config (record { username = client.name.now; password = client.password.now })) {
-  families = families_in_order client.families;
-  algorithms = algorithms_in_order client.algorithms;
-  anonymous_username = client.anonymity;
-})
+config_of client rto =
+    waiting rto (record (default_config (record { username = client.name.now; password = client.password.now })) {
+      families = families_in_order client.families;
+      algorithms = algorithms_in_order client.algorithms;
+      anonymous_username = client.anonymity;
+    })

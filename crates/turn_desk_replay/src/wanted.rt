@@ -105,7 +105,7 @@ fn place_in(words: &[&str]) -> Option<u64>
 }
 
 /// Sets the flag of a place, where it has one.
-#[tactic(auto, using(crate::proofs::WantedLemmas::set_stays, crate::proofs::WantedLemmas::set_wanted, crate::proofs::WantedLemmas::past_wanted, crate::proofs::WantedLemmas::stays))]
+#[tactic(auto, using(crate::proofs::WantedLemmas::flags))]
 fn want(flags: &mut [bool], place: u64)
     ensures stays { StaysWanted flags.old flags.new }
     ensures set { IsWanted flags.new (Some place) }

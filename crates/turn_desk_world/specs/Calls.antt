@@ -37,7 +37,8 @@ IsPolledAs _ old now new = ⊥
 
 -- `poll_event`
 abbrev pub IsEventTold : Answer → Protocol → Protocol → Type 0
-IsEventTold (answer.Event event) old new = (old.events ≡ event ∷ new.events) × (new ≡ record old { events = new.events })
+IsEventTold (answer.Event event) old new =
+    (old.events ≡ event ∷ new.events) × (new ≡ record old { events = new.events })
 IsEventTold answer.Nothing old new = (old.events ≡ []) × (new ≡ old)
 IsEventTold _ old new = ⊥
 
@@ -62,7 +63,8 @@ IsHaveTold _ transport ip old new = ⊥
 
 -- `permissions`
 abbrev pub ArePermissionsTold : Answer → TransportType → SocketAddr → Protocol → Protocol → Type 0
-ArePermissionsTold (answer.Permissions list) transport relayed old new = (list.items ≡ permissions_of transport relayed old) × (new ≡ old)
+ArePermissionsTold (answer.Permissions list) transport relayed old new =
+    (list.items ≡ permissions_of transport relayed old) × (new ≡ old)
 ArePermissionsTold _ transport relayed old new = ⊥
 
 -- `protocol_error`
@@ -105,7 +107,8 @@ IsTold (recv.PeerIcmp t p k c d) (answer.Icmp transport peer kind code report) =
 IsTold _ _ = ⊥
 
 -- bytes came to a client by its own transport: `recv`, by its contract
-pub record IsFed (answer : Answer) (old : Protocol) (bytes : List ℕ) (from to : SocketAddr) (now : ℕ) (new : Protocol) : Type 0 where
+pub record IsFed (answer : Answer) (old : Protocol) (bytes : List ℕ) (from to : SocketAddr) (now : ℕ)
+    (new : Protocol) : Type 0 where
   pub are_bytes : AreBytes bytes
   pub came : Transmit (Bor (List ℕ))
   pub bytes_are : came.bytes.now ≡ bytes

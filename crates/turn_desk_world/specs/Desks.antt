@@ -27,7 +27,8 @@ HasFourBytes (by.Connect connection) = connection < 2 ^ 32
 HasFourBytes _ = Unit {0}
 
 -- a desk replied to bytes, as the contract of its call says
-pub record IsReplied (old : State) (bytes : List ℕ) (from : SocketAddr) (now : ℕ) (decision : Decision) (words : Stream) (reply : List ℕ) (new : State) : Type 0 where
+pub record IsReplied (old : State) (bytes : List ℕ) (from : SocketAddr) (now : ℕ) (decision : Decision)
+    (words : Stream) (reply : List ℕ) (new : State) : Type 0 where
   pub served : IsServed bytes
   pub answer : IsAnswer old from bytes now words decision reply new
   pub grants : (g : Grant) → (new.grants ≡ old.grants ++ g ∷ []) ↔ IsGranted old from bytes now words decision reply g
@@ -42,7 +43,8 @@ IsReply answer.Nothing old bytes from now decision seed new = ¬ IsServed bytes 
 IsReply _ old bytes from now decision seed new = ⊥
 
 -- a desk was asked by bytes, and told what is decided
-pub record IsDeskAnswered (ret : Answer) (old : State) (bytes : List ℕ) (from : SocketAddr) (now : ℕ) (decision : Decision) (seed : List ℕ) (new : State) : Type 0 where
+pub record IsDeskAnswered (ret : Answer) (old : State) (bytes : List ℕ) (from : SocketAddr) (now : ℕ)
+    (decision : Decision) (seed : List ℕ) (new : State) : Type 0 where
   pub are_bytes : AreBytes bytes
   pub four_bytes : HasFourBytes decision
   pub reply : IsReply ret old bytes from now decision seed new

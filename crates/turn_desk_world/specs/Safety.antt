@@ -25,7 +25,8 @@ abbrev pub words : Words Client DeskCall
 words = run_words desk_words
 
 -- a world whose client is new, with these settings and numbers of this seed, beside any desk
-pub record BeginsNew (transport : TransportType) (here server : SocketAddr) (config : Config) (seed : List ℕ) (core : Protocol) (w : World) : Type 0 where
+pub record BeginsNew (transport : TransportType) (here server : SocketAddr) (config : Config) (seed : List ℕ)
+    (core : Protocol) (w : World) : Type 0 where
   pub client : w.client ≡ Some core
   pub new : IsNew transport here server config seed core
   pub short : length config.credentials.username ≤ longest_username
@@ -71,6 +72,7 @@ pub record ArePromised (first : Client) (old : World) (pairs : List (Event × An
   pub each : IsEachPromised first old pairs new
 
 abbrev pub IsSafeRun : World → List (Event × Answer) → World → Type 0
-IsSafeRun old pairs new = (transport : TransportType) (here server : SocketAddr) (config : Config) (seed : List ℕ) (core : Protocol)
+IsSafeRun old pairs new = (transport : TransportType) (here server : SocketAddr)
+    (config : Config) (seed : List ℕ) (core : Protocol)
     → BeginsNew transport here server config seed core old → AllByRecursion IsFair pairs
     → ArePromised (first_client config.credentials seed core) old pairs new

@@ -7,31 +7,31 @@ use Rattle.stun_proto.specs.ClientAuthErrors.{Unauthorized, IntegrityFailed, Uns
 use Rattle.stun_proto.specs.ClientValidations.{ResendRequest, Validated}
 use Rattle.stun_proto.specs.Handling.{is_awaited, is_response}
 use Rattle.turn_types.specs.TurnRegistry.{create_permission_method, refresh_method}
-use Rattle.turn_client_proto_poll.specs.Allocation.Listed.{refresh_asked}
-use Rattle.turn_client_proto_poll.specs.Permission.Asking.{peer_asked}
+use Rattle.turn_client_proto_poll.specs.Permission.Awaited.{asked_by}
+use Rattle.turn_client_proto_poll.specs.Permission.declared.awaited.Asked.{Asked}
 use Rattle.turn_client_proto_poll.specs.Core.Ending.{ended}
 use Rattle.turn_client_proto_poll.specs.Core.Responding.{accepted, challenged, is_tired}
-use Rattle.turn_client_proto_poll.specs.Core.Standing.{IsAskedAgain, IsJudgedStanding, IsRechallenged, IsRefreshingAgain, IsRequestAnswered, IsTakenUp, after_refresh, refreshes_again}
+use Rattle.turn_client_proto_poll.specs.Core.Standing.{IsAskedAgain, IsJudgedStanding, IsRechallenged, IsRequestAnswered, IsSentAgain, IsTakenUp, after_refresh, asks_again}
 use Rattle.turn_client_proto_poll.specs.Core.declared.protocol.Protocol.{Protocol}
 use Rattle.turn_client_proto_steps.proofs.Once.Outcomes.{IsDefinite, handled, ignored, never, tested}
 use Rattle.turn_client_proto_steps.proofs.Once.Judging.{Verdict}
 use Rattle.turn_client_proto_steps.proofs.Once.Numbering.{numbered}
-use Rattle.turn_client_proto_steps.proofs.Once.Permitting.{asking_definite, responded_definite}
+use Rattle.turn_client_proto_steps.proofs.Once.Permitting.{responded_definite}
 
 module _ (bytes : List ℕ) (now : ℕ) where
-  refreshing_definite : (p : Protocol) (lifetime : ℕ) → IsDefinite (IsRefreshingAgain p bytes lifetime now)
-  refreshing_definite p lifetime = record {
+  sent_definite : (what : Asked) (p : Protocol) → IsDefinite (IsSentAgain what p bytes now)
+  sent_definite what p = record {
     same = λ answer again one other a b.
-        numbered p (λ n. challenged bytes (refreshes_again (number_at bytes) n lifetime now p)) a.number b.number answer again one other a.is_next b.is_next a.outcome b.outcome;
+        numbered p (λ n. challenged bytes (asks_again what (number_at bytes) n now p)) a.number b.number answer again one other a.is_next b.is_next a.outcome b.outcome;
   }
 
-  asked_definite : (asked : Option ℕ) (p : Protocol) → IsDefinite (IsAskedAgain asked p bytes now)
-  asked_definite None p = asking_definite p bytes now (peer_asked (number_at bytes) p.allocations)
-  asked_definite (Some lifetime) p = refreshing_definite p lifetime
+  asked_definite : (what : Option Asked) (p : Protocol) → IsDefinite (IsAskedAgain what p bytes now)
+  asked_definite None p = ignored p
+  asked_definite (Some what) p = sent_definite what p
 
   rechallenged_definite : (p : Protocol) → IsDefinite (IsRechallenged p bytes now)
   rechallenged_definite p = tested (is_tired p) (handled (ended p))
-      (tested (is_awaited p.agent bytes) (asked_definite (refresh_asked (number_at bytes) p.allocations) p) (ignored p))
+      (tested (is_awaited p.agent bytes) (asked_definite (asked_by (number_at bytes) p.allocations) p) (ignored p))
 
   request_definite : (p : Protocol) → IsDefinite (IsRequestAnswered p bytes now)
   request_definite p = tested (method_of (kind_at bytes) == refresh_method) (handled (after_refresh bytes now p))

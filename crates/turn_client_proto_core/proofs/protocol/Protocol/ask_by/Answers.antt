@@ -5,5 +5,5 @@ use Rattle.turn_client_proto_core.proofs.protocol.Protocol.ask_by.Goals as goal
 pub returns-in-Err-clause-err : goal.returns-in-Err-clause-err
 returns-in-Err-clause-err c =
     let old = c.args.self.now in
-    undone old c.ask.new.self c.forget_at.new.allocations c.ask_at.new.allocations c.args.place c.in_ok-pending.pending (slice_get old.allocations c.args.place) refl (read_there old.allocations c.args.place c.requires.there)
-    c.in_ok-ask_at.ensures.ok c.in-Err.ensures.err c.forget_at.ensures
+    undone old c.ask-2.new.self c.forget.new.allocations c.ask.new.allocations c.args.place c.in_ok-pending.pending (slice_get old.allocations c.args.place) refl (read_there old.allocations c.args.place c.requires.there)
+    c.in_ok-ask.ensures.ok c.in-Err.ensures.err c.forget.ensures

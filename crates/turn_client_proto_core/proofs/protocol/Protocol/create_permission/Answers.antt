@@ -22,7 +22,7 @@ returns-then-is_past c =
     let is = sym c.is_past.ensures ∙ c.if-is_past.true in
     refused_by old c.args.transport c.args.ip c.args.now (Some a) (found old c.args.transport c.args.ip c.args.now c.in-Some.place a here at) NoAllocation _
     (past old.phase c.args.ip c.args.now a is)
-    (marked_past old c.args.transport c.args.ip c.args.now c.in-Some.place a here at c.mark_at.new.allocations is c.mark_at.ensures)
+    (marked_past old c.args.transport c.args.ip c.args.now c.in-Some.place a here at c.mark.new.allocations is c.mark.ensures)
 
 pub returns-then-knows : goal.returns-then-knows
 returns-then-knows c =

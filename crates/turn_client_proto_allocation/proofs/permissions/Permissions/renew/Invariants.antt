@@ -1,7 +1,0 @@
-use Rattle.std.proofs.Common.{◌≡◌, ◌++◌, map, take, drop}
-use Rattle.turn_client_proto_allocation.specs.Permissions.{renewed_permission}
-use Rattle.turn_client_proto_allocation.proofs.permissions.Permissions.renew.Given as goal
-
--- those so far are changed, and the others are as they were
-abbrev pub invariant-loop-permission : goal.invariant-loop-permission
-invariant-loop-permission l = l.permission-items ≡ map (renewed_permission l.number l.expiry) (take l.permission-index l.initial.permission-items) ++ drop l.permission-index l.initial.permission-items
