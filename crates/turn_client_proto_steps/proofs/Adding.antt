@@ -187,12 +187,12 @@ pub record IsLess (more : List PendingRefresh) (before after : Allocation) : Typ
   pub address : after.address ≡ before.address
   pub permissions : (p : Permission) → IsIn p after.permissions → IsIn p before.permissions
   pub channels : (c : Channel) → IsIn c after.channels → IsIn c before.channels
-  pub new_permissions : after.pending_permissions ≡ before.pending_permissions
-  pub new_channels : after.pending_channels ≡ before.pending_channels
+  pub new_permissions : (p : PendingPermission) → IsIn p after.pending_permissions → IsIn p before.pending_permissions
+  pub new_channels : (c : PendingChannel) → IsIn c after.pending_channels → IsIn c before.pending_channels
   pub refreshes : (r : PendingRefresh) → IsIn r after.pending_refreshes → IsIn r before.pending_refreshes ⊎ IsIn r more
-  pub connecting : after.connecting ≡ before.connecting
-  pub waiting : after.waiting ≡ before.waiting
-  pub connections : after.connections ≡ before.connections
+  pub connecting : (c : Connecting) → IsIn c after.connecting → IsIn c before.connecting
+  pub waiting : (w : Waiting) → IsIn w after.waiting → IsIn w before.waiting
+  pub connections : (c : Connection) → IsIn c after.connections → IsIn c before.connections
 
 -- what an allocation was before
 pub record WasMore (more : List PendingRefresh) (old : List Allocation) (after : Allocation) : Type 0 where
@@ -211,21 +211,21 @@ module _ (more : List PendingRefresh) (before after : Allocation) (less : IsLess
   has_before h (HasPermission p listed) =
       subst (λ (t : _). Has before (run.Permission t p.ip)) (sym less.transport) (HasPermission p (less.permissions p listed))
   has_before h (HasChannel c listed) = HasChannel c (less.channels c listed)
-  has_before h (HasConnection c listed bound) = HasConnection c (subst (λ (l : List Connection). IsIn c l) less.connections listed) bound
+  has_before h (HasConnection c listed bound) = HasConnection c (less.connections c listed) bound
 
   knows_before : (n : ℕ) (peer : SocketAddr) → Knows after n peer → Knows before n peer
-  knows_before n peer (ByWaiting w listed) = ByWaiting w (subst (λ (l : List Waiting). IsIn w l) less.waiting listed)
-  knows_before n peer (ByConnection c listed) = ByConnection c (subst (λ (l : List Connection). IsIn c l) less.connections listed)
+  knows_before n peer (ByWaiting w listed) = ByWaiting w (less.waiting w listed)
+  knows_before n peer (ByConnection c listed) = ByConnection c (less.connections c listed)
 
   pending_before : (n : ℕ) → IsPending n after → IsPending n before ⊎ ((r : PendingRefresh) × IsIn r more × (r.number ≡ n))
   pending_before n (OfPermission p listed is) = inl (OfPermission p (less.permissions p listed) is)
   pending_before n (OfChannel c listed is) = inl (OfChannel c (less.channels c listed) is)
-  pending_before n (OfNewPermission p listed is) = inl (OfNewPermission p (subst (λ (l : List PendingPermission). IsIn p l) less.new_permissions listed) is)
-  pending_before n (OfNewChannel c listed is) = inl (OfNewChannel c (subst (λ (l : List PendingChannel). IsIn c l) less.new_channels listed) is)
+  pending_before n (OfNewPermission p listed is) = inl (OfNewPermission p (less.new_permissions p listed) is)
+  pending_before n (OfNewChannel c listed is) = inl (OfNewChannel c (less.new_channels c listed) is)
   pending_before n (OfRefresh r listed is) = elim (less.refreshes r listed) [ inl was ↦ inl (OfRefresh r was is) | inr now ↦ inr (r, now, is) ]
-  pending_before n (OfConnect c listed is) = inl (OfConnect c (subst (λ (l : List Connecting). IsIn c l) less.connecting listed) is)
-  pending_before n (OfAttempt w listed is) = inl (OfAttempt w (subst (λ (l : List Waiting). IsIn w l) less.waiting listed) is)
-  pending_before n (OfBinding c listed b awaited is) = inl (OfBinding c (subst (λ (l : List Connection). IsIn c l) less.connections listed) b awaited is)
+  pending_before n (OfConnect c listed is) = inl (OfConnect c (less.connecting c listed) is)
+  pending_before n (OfAttempt w listed is) = inl (OfAttempt w (less.waiting w listed) is)
+  pending_before n (OfBinding c listed b awaited is) = inl (OfBinding c (less.connections c listed) b awaited is)
 
 -- the allocations change so; the REFRESH requests that are awaited are among those that are made
 pub allocations_less : (begun : List run.Message) (more : List PendingRefresh) (p : Parts) (new : List Allocation) → AreLess more p.allocations new
@@ -256,4 +256,4 @@ allocations_less begun more p new less made = record {
     attempted n (IsAnswered q listed response is) = IsAnswered q listed response is
     attempted n (IsWaiting a listed w has is) =
         let was = less a listed in
-        IsWaiting was.before was.listed w (subst (λ (l : List Waiting). IsIn w l) was.less.waiting has) is
+        IsWaiting was.before was.listed w (was.less.waiting w has) is

@@ -32,6 +32,8 @@ use Rattle.turn_client_proto_steps.specs.ClientWords.{IsAttempted, IsWaiting, Is
 use Rattle.turn_client_proto_steps.specs.Held.{Allocation}
 use Rattle.turn_client_proto_steps.specs.RunClient.{parts_of}
 use Rattle.turn_client_proto_steps.specs.Sound.{IsOrderly, IsSound, stream_from}
+use Rattle.turn_client_proto_channel.specs.Numbers.{AreDistinct}
+use Rattle.turn_client_proto_steps.proofs.Lessening.{none_distinct}
 use Rattle.turn_client_proto_steps.proofs.Orderly.{before_all, until_all}
 use Rattle.turn_client_proto_steps.proofs.Plain.{notices}
 
@@ -60,6 +62,9 @@ module _ (transport : TransportType) (here server : SocketAddr) (config : Config
     queued = λ q h. none_queued q h;
     lifetimes = λ a h. none_listed a h;
     permissions = λ a h. none_listed a h;
+    channels = λ a h. none_listed a h;
+    peers = λ a h. none_listed a h;
+    distinct = subst AreDistinct (sym is.allocations) none_distinct;
   }
 
   pub new_sound : length config.credentials.username ≤ longest_username → length config.families ≤ 2 → IsSound (first_client config.credentials seed p)

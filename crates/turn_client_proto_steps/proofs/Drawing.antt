@@ -32,11 +32,11 @@ use Rattle.turn_client_proto_steps.proofs.Adding.{AreLess, HasNumber, adds_both,
 use Rattle.turn_client_proto_steps.proofs.Agents.{message_read}
 use Rattle.turn_client_proto_steps.proofs.Asking.{asks, at_first, made, sent_adds, sent_orderly}
 use Rattle.turn_client_proto_steps.proofs.Ending.{still, still_can}
-use Rattle.turn_client_proto_steps.proofs.Lessening.{first_less, one_awaited}
+use Rattle.turn_client_proto_steps.proofs.Lessening.{first_less, one_awaited, same_first_distinct}
 use Rattle.turn_client_proto_steps.proofs.Orderly.{IsAllocate, agent_orderly, allocations_orderly, before_all, drawn_orderly, phase_orderly, until_map}
 use Rattle.turn_client_proto_steps.proofs.Permissions.{first_permitting, renewing_permitting}
-use Rattle.turn_client_proto_steps.proofs.Permits.{made_number, owns}
-use Rattle.turn_client_proto_steps.proofs.Permitting.{ArePermitting, allocations_permitting, one_asks, permitting_orderly}
+use Rattle.turn_client_proto_steps.proofs.Permits.{asks_by, made_number, permission_fit}
+use Rattle.turn_client_proto_steps.proofs.Permitting.{ArePermitting, allocations_permitting, none_gained, permitting_orderly}
 use Rattle.turn_client_proto_steps.proofs.Plain.{counts_none, quiet, run_step}
 use Rattle.turn_client_proto_steps.proofs.Polling.{by_test}
 use Rattle.turn_client_proto_steps.proofs.Refreshing.{allocated, refresh_made, refresh_of, refresh_short}
@@ -136,6 +136,7 @@ refresh_sent c now sent new sound at is =
     let adds = adds_both (told_by text ∷ []) (parts_of c.core) mid (parts_of core) (sent_adds c.core (Refresh allocation_lifetime) is.number now)
     (allocations_less (told_by text ∷ []) (refresh ∷ []) mid left less (refresh_made c.core is.number allocation_lifetime written)) in
     let orderly = allocations_orderly (refresh ∷ []) mid left less (refresh_short is.number allocation_lifetime (omega arith))
+    (same_first_distinct (wants now) (refreshing refresh) (λ a. (refl, refl)) c.core.allocations sound.orderly.distinct)
     (sent_orderly c.core (Refresh allocation_lifetime) is.number now written (allocated _ c.core.phase at) sound.orderly) in
     subst (λ (p : Protocol). IsRunStep c [] (Some sent.bytes) [] p) (sym is.after)
     (asks c c.core (Refresh allocation_lifetime) is.number under_way written [] (Some sent.bytes) core adds orderly refl can.families refl refl (draws_own c text sent.bytes own))
@@ -151,12 +152,14 @@ renewal_sent c ip now sent new sound at is =
     let own : sent.bytes ≡ text = ap (λ (s : Sent). s.bytes) is.made.is_sent in
     let mid : Parts = parts_of (sent_at_once (after_number c.core) (CreatePermission ip) number now) in
     let left = renewal_first now number c.core.allocations in
-    let are : ArePermitting (one_asks ip number) c.core.allocations left = first_permitting (one_asks ip number) (wants now) (renewing now number) c.core.allocations (λ a found. renewing_permitting ip now number a) in
+    let are : ArePermitting none_gained (asks_by (CreatePermission ip) number) c.core.allocations left =
+    first_permitting none_gained (asks_by (CreatePermission ip) number) (wants now) (renewing now number) c.core.allocations (λ a found. renewing_permitting ip now number a) in
     let core : Protocol = after_sending now (first_permitted ip number now c.core) in
     let adds = adds_both (told_by text ∷ []) (parts_of c.core) mid (parts_of core) (sent_adds c.core (CreatePermission ip) number now)
-    (allocations_permitting (told_by text ∷ []) (one_asks ip number) mid left are (made_number c.core ip number now written)) in
-    let orderly = permitting_orderly (one_asks ip number) mid left are (owns c.core ip number now written)
-    (sent_orderly c.core (CreatePermission ip) number now written (allocated _ c.core.phase at) sound.orderly) in
+    (allocations_permitting (told_by text ∷ []) (asks_by (CreatePermission ip) number) mid left are (made_number c.core (CreatePermission ip) number now written)) in
+    let orderly = permitting_orderly none_gained (asks_by (CreatePermission ip) number) mid left are (permission_fit c.core ip number now written)
+    (sent_orderly c.core (CreatePermission ip) number now written (allocated _ c.core.phase at) sound.orderly)
+    (same_first_distinct (wants now) (renewing now number) (λ a. (refl, refl)) c.core.allocations sound.orderly.distinct) in
     subst (λ (p : Protocol). IsRunStep c [] (Some sent.bytes) [] p) (sym is.after)
     (asks c c.core (CreatePermission ip) number under_way written [] (Some sent.bytes) core adds orderly refl can.families refl refl (draws_own c text sent.bytes own))
 

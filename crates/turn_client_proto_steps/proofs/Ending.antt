@@ -23,6 +23,8 @@ use Rattle.turn_client_proto_steps.specs.RunClient.{Client, moved, parts_of}
 use Rattle.turn_client_proto_steps.specs.RunSteps.{IsRunStep}
 use Rattle.turn_client_proto_steps.specs.Sound.{AreAllocates, BeforeAllocated, CanAsk, IsOrderly, IsSound, UntilEnded, stream_from}
 use Rattle.turn_client_proto_steps.proofs.Adding.{Adds, adds_both, adds_none, phase_moved}
+use Rattle.turn_client_proto_channel.specs.Numbers.{AreDistinct}
+use Rattle.turn_client_proto_steps.proofs.Lessening.{none_distinct}
 use Rattle.turn_client_proto_steps.proofs.Orderly.{phase_orderly, until_map}
 use Rattle.turn_client_proto_steps.proofs.Plain.{IsCounted, counts_none, counts_one, failures_tell_nothing, joined, none_told, nothing_drawn, notices, quiet, run_step}
 
@@ -101,6 +103,9 @@ module _ (c : Client) (new : Protocol) (is : HasFailed c.core new) where
     queued = λ q h. none_queued q h;
     lifetimes = λ a h. none_listed a h;
     permissions = λ a h. none_listed a h;
+    channels = λ a h. none_listed a h;
+    peers = λ a h. none_listed a h;
+    distinct = subst AreDistinct (sym is.none_allocated) none_distinct;
   }
 
   failed_at : (came : List (List ℕ)) (count : ℕ) → IsCounted c count new → IsRunStep c came None [] new

@@ -1,5 +1,5 @@
 -- The addresses that a success response to an ALLOCATE brings, and the allocations of them.
-use Rattle.std.proofs.Common.{◌≡◌, ℕ, Bool, true, not, cond, List, [], ◌∷◌, map, Option, Some, None, refl, sym, ap, ◌∙◌, subst, inl, inr}
+use Rattle.std.proofs.Common.{◌≡◌, ℕ, Bool, true, not, cond, List, [], ◌∷◌, map, Option, Some, None, refl, sym, ap, ◌∙◌, subst, arith, inl, inr}
 use Rattle.std.proofs.lemmas.Bool.{cases_Bool}
 use Rattle.std.proofs.lemmas.List.Sums.{take_while-cons}
 use Rattle.std.specs.List.{filter, filter_map, take_while}
@@ -27,7 +27,8 @@ use Rattle.turn_client_proto_poll.specs.Core.Authenticating.{numbers_sent}
 use Rattle.turn_client_proto_poll.specs.Core.Waiting.{Queued}
 use Rattle.turn_client_proto_steps.specs.ClientWords.{Has, HasItself, HasPermission, HasChannel, HasConnection, IsAttempted, IsWaiting, IsAnswered as HasAnswered, IsKept, IsPending, OfPermission, OfChannel, OfNewPermission, OfNewChannel, OfRefresh, OfConnect, OfAttempt, OfBinding, Knows, ByWaiting, ByConnection, Waits}
 use Rattle.turn_client_proto_steps.specs.Held.{Allocation}
-use Rattle.turn_client_proto_steps.specs.Sound.{AreAsked, AreShort, BeforeAllocated}
+use Rattle.turn_client_proto_steps.specs.Sound.{AreAsked, AreBinding, AreShort, AreWhole, BeforeAllocated}
+use Rattle.turn_client_proto_channel.specs.Numbers.{AreDistinct, uses}
 use Rattle.turn_client_proto_steps.proofs.Lists.{in_filter, in_map}
 use Rattle.turn_client_proto_steps.proofs.Plain.{notices}
 
@@ -166,6 +167,13 @@ module _ (transport : TransportType) (number lifetime now : ℕ) where
   fresh_knows n peer address (ByWaiting w listed) = absurd listed
   fresh_knows n peer address (ByConnection c listed) = absurd listed
 
+  no_uses : (n : ℕ) (all : List SocketAddr) → uses n (map fresh all) ≡ 0
+  no_uses n [] = refl
+  no_uses n (x ∷ all) = let rest = no_uses n all in omega (arith, rest)
+
+  pub fresh_distinct : (all : List SocketAddr) → AreDistinct (map fresh all)
+  fresh_distinct all n = let none = no_uses n all in omega (arith, none)
+
   module _ (all : List SocketAddr) where
     pub kept_gained : (h : run.Held) → IsKept (map fresh all) h → (t : Told) × IsIn t (map (told_of transport number) all) × (t.held ≡ h)
     kept_gained h k =
@@ -191,6 +199,22 @@ module _ (transport : TransportType) (number lifetime now : ℕ) where
     none_asked agent a listed p there =
         let image = in_map fresh a all listed in
         absurd (subst (λ (x : Allocation). IsIn p x.pending_permissions) image.is there)
+
+    pub none_bound : (agent : Agent) (a : Allocation) → IsIn a (map fresh all) → AreBinding agent a
+    none_bound agent a listed =
+        let image = in_map fresh a all listed in
+        record {
+          asked = λ c there. absurd (subst (λ (x : Allocation). IsIn c x.pending_channels) image.is there);
+          renewed = λ c there. absurd (subst (λ (x : Allocation). IsIn c x.channels) image.is there);
+        }
+
+    pub none_peers : (a : Allocation) → IsIn a (map fresh all) → AreWhole a
+    none_peers a listed =
+        let image = in_map fresh a all listed in
+        record {
+          asked = λ c there. absurd (subst (λ (x : Allocation). IsIn c x.pending_channels) image.is there);
+          standing = λ c there. absurd (subst (λ (x : Allocation). IsIn c x.channels) image.is there);
+        }
 
     pub none_attempted : (before : List Allocation) (queue : List Queued) (n : ℕ) → IsAttempted (map fresh all) queue n → IsAttempted before queue n
     none_attempted before queue n (HasAnswered q listed response is) = HasAnswered q listed response is

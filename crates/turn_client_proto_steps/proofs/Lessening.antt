@@ -1,5 +1,5 @@
 -- What calls make of allocations: none has anything that it hadn't before, but for REFRESH requests that are awaited.
-use Rattle.std.proofs.Common.{ℕ, zero, suc, ◌*◌, Bool, true, false, List, [], ◌∷◌, Option, Some, None, if◌then◌else◌, refl, sym, subst, inl, inr}
+use Rattle.std.proofs.Common.{◌≡◌, ℕ, zero, suc, ◌*◌, Bool, true, false, List, [], ◌∷◌, Option, Some, None, if◌then◌else◌, refl, sym, subst, arith, inl, inr}
 use Rattle.std.specs.Prelude.{map, nat_le}
 use Rattle.stun_proto.specs.Moments.{moment_after}
 use Rattle.turn_client_proto_poll.specs.Members.{IsIn}
@@ -7,6 +7,8 @@ use Rattle.turn_client_proto_poll.specs.Allocation.Changes.{change_first}
 use Rattle.turn_client_proto_poll.specs.Allocation.Polling.{has_ended, kept, polled, stays}
 use Rattle.turn_client_proto_poll.specs.Allocation.Refreshing.{deleted, least_lifetime, lifetime_asked, refreshing, renewed, renewed_by, second, stands_for}
 use Rattle.turn_client_proto_poll.specs.Permission.Asking.{marked}
+use Rattle.turn_client_proto_channel.specs.Numbers.{AreDistinct}
+use Rattle.turn_client_proto_channel.proofs.Distinct.{alike_uses_less, each_stay_distinct, ended_uses_less, first_stay_distinct, kept_stay_distinct}
 use Rattle.turn_client_proto_steps.specs.Held.{Allocation, PendingRefresh}
 use Rattle.turn_client_proto_steps.specs.Sound.{AreShort}
 use Rattle.turn_client_proto_steps.proofs.Adding.{AreLess, IsLess, WasMore}
@@ -20,12 +22,12 @@ itself more a = record {
   address = refl;
   permissions = λ p h. h;
   channels = λ c h. h;
-  new_permissions = refl;
-  new_channels = refl;
+  new_permissions = λ p h. h;
+  new_channels = λ c h. h;
   refreshes = λ r h. inl h;
-  connecting = refl;
-  waiting = refl;
-  connections = refl;
+  connecting = λ c h. h;
+  waiting = λ w h. h;
+  connections = λ c h. h;
 }
 
 -- a REFRESH more is awaited
@@ -35,12 +37,12 @@ one_awaited refresh a = record {
   address = refl;
   permissions = λ p h. h;
   channels = λ c h. h;
-  new_permissions = refl;
-  new_channels = refl;
+  new_permissions = λ p h. h;
+  new_channels = λ c h. h;
   refreshes = λ r h. in_either r a.pending_refreshes (refresh ∷ []) h;
-  connecting = refl;
-  waiting = refl;
-  connections = refl;
+  connecting = λ c h. h;
+  waiting = λ w h. h;
+  connections = λ c h. h;
 }
 
 pub end_asked : (number now : ℕ) (a : Allocation) → IsLess (record { number = number; lifetime = 0 } ∷ []) a (deleted number now a)
@@ -49,12 +51,12 @@ end_asked number now a = record {
   address = refl;
   permissions = λ p h. absurd h;
   channels = λ c h. absurd h;
-  new_permissions = refl;
-  new_channels = refl;
+  new_permissions = λ p h. h;
+  new_channels = λ c h. h;
   refreshes = λ r h. in_either r a.pending_refreshes (record { number = number; lifetime = 0 } ∷ []) h;
-  connecting = refl;
-  waiting = refl;
-  connections = refl;
+  connecting = λ c h. h;
+  waiting = λ w h. h;
+  connections = λ c h. h;
 }
 
 -- an allocation that is marked as expired
@@ -64,12 +66,12 @@ marked_less a = record {
   address = refl;
   permissions = λ p h. h;
   channels = λ c h. h;
-  new_permissions = refl;
-  new_channels = refl;
+  new_permissions = λ p h. h;
+  new_channels = λ c h. h;
   refreshes = λ r h. inl h;
-  connecting = refl;
-  waiting = refl;
-  connections = refl;
+  connecting = λ c h. h;
+  waiting = λ w h. h;
+  connections = λ c h. h;
 }
 
 -- no REFRESH is awaited any more
@@ -79,12 +81,12 @@ none_awaited a expiry = record {
   address = refl;
   permissions = λ p h. h;
   channels = λ c h. h;
-  new_permissions = refl;
-  new_channels = refl;
+  new_permissions = λ p h. h;
+  new_channels = λ c h. h;
   refreshes = λ r h. absurd h;
-  connecting = refl;
-  waiting = refl;
-  connections = refl;
+  connecting = λ c h. h;
+  waiting = λ w h. h;
+  connections = λ c h. h;
 }
 
 polled_less : (over : Option ℕ) (a : Allocation) → IsLess [] a (polled over a)
@@ -144,6 +146,57 @@ pub all_polled : (over : Option ℕ) (now : ℕ) (old : List Allocation) → Are
 all_polled over now old a listed =
     let was = each_less [] (polled over) (polled_less over) (kept over now old) a listed in
     record { before = was.before; listed = (in_filter (stays over now) was.before old was.listed).0; less = was.less }
+
+-- ---- numbers of channels
+
+-- an allocation with the channels of another one
+abbrev pub IsAlike : Allocation → Allocation → Type 0
+IsAlike old new = (new.channels ≡ old.channels) × (new.pending_channels ≡ old.pending_channels)
+
+polled_alike : (over : Option ℕ) (a : Allocation) → IsAlike a (polled over a)
+unfolding polled
+polled_alike over a =
+    elim (has_ended over a.pending_refreshes) as (λ b. IsAlike a (if b then record a { pending_refreshes = [] } else a)) [
+      | true ↦ (refl, refl)
+      | false ↦ (refl, refl)
+    ]
+
+standing_alike : (now : ℕ) (told : Option ℕ) (a : Allocation) → IsAlike a (stands_for now told a)
+standing_alike now None a = (refl, refl)
+standing_alike now (Some lifetime) a =
+    elim (nat_le least_lifetime lifetime) as (λ b. IsAlike a (if b then record a { expiry = moment_after now (lifetime * second); pending_refreshes = [] } else a)) [
+      | true ↦ (refl, refl)
+      | false ↦ (refl, refl)
+    ]
+
+renewed_alike_by : (now : ℕ) (told asked : Option ℕ) (a : Allocation) → IsAlike a (renewed_by now told asked a)
+renewed_alike_by now told None a = (refl, refl)
+renewed_alike_by now told (Some zero) a = (refl, refl)
+renewed_alike_by now told (Some (suc n)) a = standing_alike now told a
+
+renewed_alike : (number now : ℕ) (told : Option ℕ) (a : Allocation) → IsAlike a (renewed number now told a)
+unfolding renewed
+renewed_alike number now told a = renewed_alike_by now told (lifetime_asked number a.pending_refreshes) a
+
+-- changes that leave channels as they are leave their numbers distinct
+pub same_distinct : (f : Allocation → Allocation) → ((a : Allocation) → IsAlike a (f a)) → (all : List Allocation) → AreDistinct all → AreDistinct (map f all)
+same_distinct f alike all distinct = each_stay_distinct all f (λ a. alike_uses_less a (f a) (alike a).0 (alike a).1) distinct
+
+pub same_first_distinct : (passes : Allocation → Bool) (f : Allocation → Allocation) → ((a : Allocation) → IsAlike a (f a)) → (all : List Allocation) → AreDistinct all → AreDistinct (change_first passes f all)
+same_first_distinct passes f alike all distinct = first_stay_distinct all passes f (λ a found. alike_uses_less a (f a) (alike a).0 (alike a).1) distinct
+
+pub renewed_distinct : (number now : ℕ) (told : Option ℕ) (all : List Allocation) → AreDistinct all → AreDistinct (map (renewed number now told) all)
+renewed_distinct number now told all distinct = same_distinct (renewed number now told) (renewed_alike number now told) all distinct
+
+pub polled_distinct : (over : Option ℕ) (now : ℕ) (all : List Allocation) → AreDistinct all → AreDistinct (map (polled over) (kept over now all))
+polled_distinct over now all distinct = same_distinct (polled over) (polled_alike over) (kept over now all) (kept_stay_distinct all (stays over now) distinct)
+
+pub deleted_distinct : (number now : ℕ) (all : List Allocation) → AreDistinct all → AreDistinct (map (deleted number now) all)
+deleted_distinct number now all distinct =
+    each_stay_distinct all (deleted number now) (λ a. ended_uses_less now (refreshing (record { number = number; lifetime = 0 }) a)) distinct
+
+pub none_distinct : AreDistinct []
+none_distinct number = omega arith
 
 -- ---- lifetimes
 

@@ -9,14 +9,16 @@ use Rattle.stun_proto.specs.State.{Agent}
 use Rattle.stun_proto_agent.proofs.Numbers.{sent, sent_shows, still_shows}
 use Rattle.turn_types.specs.TurnRegistry.{allocate_method}
 use Rattle.turn_client_proto_poll.specs.Members.{IsIn}
-use Rattle.turn_client_proto_poll.specs.Messages.{Asks, Holds, Permission}
+use Rattle.turn_client_proto_channel.specs.Numbers.{AreDistinct}
+use Rattle.turn_client_proto_poll.specs.Messages.{Asks, Held, Holds, Permission, Channel}
 use Rattle.turn_client_proto_poll.specs.StunWire.{told_by}
 use Rattle.turn_client_proto_poll.specs.Core.Waiting.{Queued}
 use Rattle.turn_client_proto_poll.specs.Core.declared.protocol.Phase.{Phase}
 use Rattle.turn_client_proto_poll.specs.Core.declared.protocol.Phase.TheVariants.{Initial, InitialSent, Authenticating, Authenticated, Ended}
-use Rattle.turn_client_proto_steps.specs.Held.{Allocation, PendingPermission, PendingRefresh}
+use Rattle.turn_client_proto_steps.specs.ClientWords.{IsPending, OfChannel, OfNewChannel, OfNewPermission}
+use Rattle.turn_client_proto_steps.specs.Held.{Allocation, PendingRefresh}
 use Rattle.turn_client_proto_steps.specs.RunClient.{Parts}
-use Rattle.turn_client_proto_steps.specs.Sound.{AreAllocates, AreShort, BeforeAllocated, IsOrderly, UntilEnded}
+use Rattle.turn_client_proto_steps.specs.Sound.{AreAllocates, AreShort, AsksFor, BeforeAllocated, IsOrderly, UntilEnded}
 use Rattle.turn_client_proto_steps.proofs.Adding.{AreLess}
 use Rattle.turn_client_proto_steps.proofs.Agents.{allocates_sent, messages_sent, still_allocates, still_messages}
 use Rattle.turn_client_proto_steps.proofs.Lessening.{still_short}
@@ -61,6 +63,11 @@ until_map Ended f is = tt
 
 -- ---- the parts
 
+pub still_asks : (old new : Agent) → NothingNew old new → (held : Held) (n : ℕ) → AsksFor old held n → AsksFor new held n
+still_asks old new none held n asks t outstanding =
+    let was = none n t outstanding in
+    subst (λ (b : List ℕ). Asks (told_by b) (Holds held)) (sym was.same_bytes) (asks was.before was.there)
+
 pub agent_orderly : (p : Parts) (agent : Agent) → NothingNew p.agent agent → IsOrderly p → IsOrderly (record p { agent = agent })
 agent_orderly p agent none is = record {
   numbers = still_shows p.agent agent none is.numbers;
@@ -68,15 +75,21 @@ agent_orderly p agent none is = record {
   allocates = before_map p.phase (λ h. still_allocates p.agent agent none p.allocates h) is.allocates;
   queued = is.queued;
   lifetimes = is.lifetimes;
-  permissions = λ a listed p there n has t outstanding.
-      let was = none n t outstanding in
-      subst (λ (b : List ℕ). Asks (told_by b) (Holds (Permission a.transport p.ip))) (sym was.same_bytes)
-      (is.permissions a listed p there n has was.before was.there);
+  permissions = λ a listed p there n has. asks_still (Permission a.transport p.ip) n (is.permissions a listed p there n has);
+  channels = λ a listed. let asked = is.channels a listed in record {
+    asked = λ c there n has. asks_still (Channel c.channel c.peer) n (asked.asked c there n has);
+    renewed = λ c there n has. asks_still (Channel c.number c.peer) n (asked.renewed c there n has);
+  };
+  peers = is.peers;
+  distinct = is.distinct;
 }
+  where
+    asks_still : (held : Held) (n : ℕ) → AsksFor p.agent held n → AsksFor agent held n
+    asks_still held n asks = still_asks p.agent agent none held n asks
 
--- a number that no permission awaits
+-- a number that no allocation awaits
 abbrev pub IsFree : Parts → ℕ → Type 0
-IsFree p number = (a : Allocation) → IsIn a p.allocations → (pending : PendingPermission) → IsIn pending a.pending_permissions → IsIn number pending.numbers → ⊥
+IsFree p number = (a : Allocation) → IsIn a p.allocations → IsPending number a → ⊥
 
 -- the bytes are an ALLOCATE for a client's transport
 abbrev pub IsAllocate : Parts → List ℕ → Type 0
@@ -90,11 +103,21 @@ request_orderly p bytes to now message free allocate is = record {
   allocates = before_both p.phase (λ (own : IsAllocate p bytes) h. allocates_sent p.agent bytes to now p.allocates own.0 own.1 h) allocate is.allocates;
   queued = is.queued;
   lifetimes = is.lifetimes;
-  permissions = λ a listed pending there n has t outstanding. elim (sent p.agent bytes to now n t outstanding) [
-    | inl before ↦ is.permissions a listed pending there n has t before
-    | inr own ↦ absurd (free a listed pending there (subst (λ (k : ℕ). IsIn k pending.numbers) own.0 has))
-  ];
+  permissions = λ a listed pending there n has. asks_yet a listed (Permission a.transport pending.ip) n (OfNewPermission pending there has) (is.permissions a listed pending there n has);
+  channels = λ a listed. let asked = is.channels a listed in record {
+    asked = λ c there n has. asks_yet a listed (Channel c.channel c.peer) n (OfNewChannel c there has) (asked.asked c there n has);
+    renewed = λ c there n has. asks_yet a listed (Channel c.number c.peer) n (OfChannel c there has) (asked.renewed c there n has);
+  };
+  peers = is.peers;
+  distinct = is.distinct;
 }
+  where
+    -- what is awaited under a number is not what is sent
+    asks_yet : (a : Allocation) → IsIn a p.allocations → (held : Held) (n : ℕ) → IsPending n a → AsksFor p.agent held n → AsksFor (with_request p.agent bytes to now) held n
+    asks_yet a listed held n pending asks t outstanding = elim (sent p.agent bytes to now n t outstanding) [
+      | inl before ↦ asks t before
+      | inr own ↦ absurd (free a listed (subst (λ (k : ℕ). IsPending k a) own.0 pending))
+    ]
 
 pub queue_orderly : (p : Parts) (q : Queued) → q.is_request ≡ true → IsOrderly p → IsOrderly (record p { queue = p.queue ++ q ∷ [] })
 queue_orderly p q request is = record {
@@ -107,6 +130,9 @@ queue_orderly p q request is = record {
   ];
   lifetimes = is.lifetimes;
   permissions = is.permissions;
+  channels = is.channels;
+  peers = is.peers;
+  distinct = is.distinct;
 }
 
 pub drawn_orderly : (p : Parts) (q : Queued) (rest : List Queued) → p.queue ≡ q ∷ rest → IsOrderly p → IsOrderly (record p { queue = rest })
@@ -117,6 +143,9 @@ drawn_orderly p q rest same is = record {
   queued = λ x h. is.queued x (subst (λ (l : List Queued). IsIn x l) (sym same) (inr h));
   lifetimes = is.lifetimes;
   permissions = is.permissions;
+  channels = is.channels;
+  peers = is.peers;
+  distinct = is.distinct;
 }
 
 pub phase_orderly : (p : Parts) (phase : Phase) → BeforeAllocated phase (AreAllocates p.allocates p.agent) → IsOrderly p → IsOrderly (record p { phase = phase })
@@ -127,17 +156,29 @@ phase_orderly p phase allocates is = record {
   queued = is.queued;
   lifetimes = is.lifetimes;
   permissions = is.permissions;
+  channels = is.channels;
+  peers = is.peers;
+  distinct = is.distinct;
 }
 
-pub allocations_orderly : (more : List PendingRefresh) (p : Parts) (new : List Allocation) → AreLess more p.allocations new → AreShort more → IsOrderly p → IsOrderly (record p { allocations = new })
-allocations_orderly more p new less short is = record {
+pub allocations_orderly : (more : List PendingRefresh) (p : Parts) (new : List Allocation) → AreLess more p.allocations new → AreShort more → AreDistinct new → IsOrderly p → IsOrderly (record p { allocations = new })
+allocations_orderly more p new less short distinct is = record {
   numbers = is.numbers;
   messages = is.messages;
   allocates = is.allocates;
   queued = is.queued;
   lifetimes = still_short more p.allocations new less short is.lifetimes;
-  permissions = λ a listed pending there n has t outstanding.
+  permissions = λ a listed pending there n has.
       let was = less a listed in
-      subst (λ (transport : TransportType). Asks (told_by t.bytes) (Holds (Permission transport pending.ip))) (sym was.less.transport)
-      (is.permissions was.before was.listed pending (subst (λ (l : List PendingPermission). IsIn pending l) was.less.new_permissions there) n has t outstanding);
+      subst (λ (transport : TransportType). AsksFor p.agent (Permission transport pending.ip) n) (sym was.less.transport)
+      (is.permissions was.before was.listed pending (was.less.new_permissions pending there) n has);
+  channels = λ a listed. let was = less a listed in let asked = is.channels was.before was.listed in record {
+    asked = λ c there n has. asked.asked c (was.less.new_channels c there) n has;
+    renewed = λ c there n has. asked.renewed c (was.less.channels c there) n has;
+  };
+  peers = λ a listed. let was = less a listed in let whole = is.peers was.before was.listed in record {
+    asked = λ c there. whole.asked c (was.less.new_channels c there);
+    standing = λ c there. whole.standing c (was.less.channels c there);
+  };
+  distinct = distinct;
 }

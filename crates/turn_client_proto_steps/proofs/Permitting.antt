@@ -1,20 +1,44 @@
--- What calls make of permissions: none is new, and requests are known.
-use Rattle.std.proofs.Common.{◌≡◌, ◌⊎◌, ℕ, List, map, Some, refl, sym, subst, inl, inr}
-use Rattle.std.specs.FinMap as finite
+-- What calls make of permissions and channels: what is new was gained, and requests are known.
+use Rattle.std.proofs.Common.{◌≡◌, ◌⊎◌, ℕ, List, [], ◌∷◌, ◌++◌, map, refl, sym, ap, ◌∙◌, subst, inl, inr}
 use Rattle.std.specs.declared.net.ip_addr.IpAddr.{IpAddr}
 use Rattle.std.specs.declared.net.socket_addr.SocketAddr.{SocketAddr}
 use Rattle.stun_types.specs.declared.transport.TransportType.{TransportType}
-use Rattle.stun_proto.specs.Agents.{Transaction}
 use Rattle.stun_proto.specs.State.{Agent}
+use Rattle.turn_client_proto_channel.specs.Numbers.{AreDistinct}
 use Rattle.turn_client_proto_poll.specs.Members.{IsIn}
 use Rattle.turn_client_proto_poll.specs.Messages as run
-use Rattle.turn_client_proto_poll.specs.StunWire.{told_by}
-use Rattle.turn_client_proto_steps.specs.ClientWords.{Has, HasItself, HasPermission, HasChannel, HasConnection, IsAttempted, IsWaiting, IsAnswered, IsPending, OfPermission, OfChannel, OfNewPermission, OfNewChannel, OfRefresh, OfConnect, OfAttempt, OfBinding, IsTaken, Outstanding, Allocating, Pending, Knows, ByWaiting, ByConnection}
+use Rattle.turn_client_proto_steps.specs.ClientWords.{Has, HasItself, HasPermission, HasChannel, HasConnection, IsAttempted, IsWaiting, IsAnswered, IsKept, IsPending, OfPermission, OfChannel, OfNewPermission, OfNewChannel, OfRefresh, OfConnect, OfAttempt, OfBinding, IsTaken, Outstanding, Allocating, Pending, Knows, ByWaiting, ByConnection, Waits}
 use Rattle.turn_client_proto_steps.specs.Held.{Allocation, Channel, Connecting, Connection, PendingChannel, PendingPermission, PendingRefresh, Permission, Waiting}
 use Rattle.turn_client_proto_steps.specs.RunClient.{Parts}
-use Rattle.turn_client_proto_steps.specs.Sound.{AreAsked, AreShort, IsOrderly}
+use Rattle.turn_client_proto_steps.specs.Sound.{AreAsked, AreBinding, AreWhole, AsksFor, IsOrderly, IsWhole}
 use Rattle.turn_client_proto_steps.proofs.Adding.{Adds, HasNumber}
-use Rattle.turn_client_proto_steps.proofs.Lists.{IsImage, in_map}
+use Rattle.turn_client_proto_steps.proofs.Lists.{IsImage, in_either, in_map}
+
+-- ---- what is gained, and what is asked for
+
+-- what is gained
+abbrev pub Gaining : Type 1
+Gaining = run.Held → Type 0
+
+-- nothing is
+abbrev pub none_gained : Gaining
+none_gained held = ⊥
+
+-- which requests ask for what now
+abbrev pub Asking : Type 1
+Asking = run.Held → ℕ → Type 0
+
+-- none does
+abbrev pub none_asks : Asking
+none_asks held number = ⊥
+
+-- this request does, for what it asks for, under its number
+abbrev pub one_asks : run.Message → Asking
+one_asks m held number = run.Asks m (run.Holds held) × (number ≡ m.number)
+
+-- a request that asks for something now has this number
+abbrev pub IsNow : Asking → ℕ → Type 0
+IsNow Now number = (held : run.Held) × Now held number
 
 -- ---- one allocation
 
@@ -37,181 +61,385 @@ pub record WasAsking (old : List PendingPermission) (address : IpAddr) (number :
   pub ip : address ≡ before.ip
   pub has : IsIn number before.numbers
 
--- which requests ask for a permission of an address now
-abbrev pub Asking : Type 1
-Asking = IpAddr → ℕ → Type 0
+-- a channel that stood before, of the same number and peer
+pub record StoodBound (old : List Channel) (c : Channel) : Type 0 where
+  pub before : Channel
+  pub listed : IsIn before old
+  pub number : c.number ≡ before.number
+  pub peer : c.peer ≡ before.peer
 
--- none does
-abbrev pub none_asks : Asking
-none_asks ip number = ⊥
+-- a number that was to renew a channel of this number and peer before
+pub record WasBinding (old : List Channel) (channel : ℕ) (to : SocketAddr) (number : ℕ) : Type 0 where
+  pub before : Channel
+  pub listed : IsIn before old
+  pub number_is : channel ≡ before.number
+  pub peer : to ≡ before.peer
+  pub has : IsIn number before.renewals
 
--- the request of this number asks for this address
-abbrev pub one_asks : IpAddr → ℕ → Asking
-one_asks own number ip n = (ip ≡ own) × (n ≡ number)
+-- a channel that was asked for before, of the same number and peer
+pub record WasWanted (old : List PendingChannel) (c : PendingChannel) : Type 0 where
+  pub before : PendingChannel
+  pub listed : IsIn before old
+  pub channel : c.channel ≡ before.channel
+  pub peer : c.peer ≡ before.peer
 
--- an allocation has no permission that it hadn't before; and the numbers of requests for permissions are those of before,
--- or those of requests that are made now
-pub record IsPermitting (Now : Asking) (before after : Allocation) : Type 0 where
+-- a number that asked for a channel of this number and peer before
+pub record WasWanting (old : List PendingChannel) (channel : ℕ) (to : SocketAddr) (number : ℕ) : Type 0 where
+  pub before : PendingChannel
+  pub listed : IsIn before old
+  pub channel_is : channel ≡ before.channel
+  pub peer : to ≡ before.peer
+  pub has : IsIn number before.numbers
+
+-- an allocation has no permission and no channel that it hadn't before, but what was gained; and the numbers of requests
+-- for them are those of before, or those of requests that are made now
+pub record IsPermitting (New : Gaining) (Now : Asking) (before after : Allocation) : Type 0 where
   pub transport : after.transport ≡ before.transport
   pub address : after.address ≡ before.address
-  pub permissions : (p : Permission) → IsIn p after.permissions → Stood before.permissions p
-  pub renewals : (p : Permission) (n : ℕ) → IsIn p after.permissions → IsIn n p.renewals → WasRenewing before.permissions n ⊎ ((ip : IpAddr) × Now ip n)
-  pub numbers : (p : PendingPermission) (n : ℕ) → IsIn p after.pending_permissions → IsIn n p.numbers → WasAsking before.pending_permissions p.ip n ⊎ Now p.ip n
-  pub channels : after.channels ≡ before.channels
-  pub new_channels : after.pending_channels ≡ before.pending_channels
-  pub refreshes : after.pending_refreshes ≡ before.pending_refreshes
-  pub connecting : after.connecting ≡ before.connecting
-  pub waiting : after.waiting ≡ before.waiting
-  pub connections : after.connections ≡ before.connections
+  pub permissions : (p : Permission) → IsIn p after.permissions → Stood before.permissions p ⊎ New (run.Permission after.transport p.ip)
+  pub renewals : (p : Permission) (n : ℕ) → IsIn p after.permissions → IsIn n p.renewals → WasRenewing before.permissions n ⊎ IsNow Now n
+  pub numbers : (p : PendingPermission) (n : ℕ) → IsIn p after.pending_permissions → IsIn n p.numbers
+      → WasAsking before.pending_permissions p.ip n ⊎ Now (run.Permission after.transport p.ip) n
+  pub channels : (c : Channel) → IsIn c after.channels → StoodBound before.channels c ⊎ New (run.Channel c.number c.peer)
+  pub channel_renewals : (c : Channel) (n : ℕ) → IsIn c after.channels → IsIn n c.renewals
+      → WasBinding before.channels c.number c.peer n ⊎ Now (run.Channel c.number c.peer) n
+  pub new_channels : (c : PendingChannel) → IsIn c after.pending_channels
+      → WasWanted before.pending_channels c ⊎ ((n : ℕ) × Now (run.Channel c.channel c.peer) n)
+  pub channel_numbers : (c : PendingChannel) (n : ℕ) → IsIn c after.pending_channels → IsIn n c.numbers
+      → WasWanting before.pending_channels c.channel c.peer n ⊎ Now (run.Channel c.channel c.peer) n
+  pub refreshes : (r : PendingRefresh) → IsIn r after.pending_refreshes → IsIn r before.pending_refreshes
+  pub connecting : (c : Connecting) → IsIn c after.connecting → IsIn c before.connecting
+  pub waiting : (w : Waiting) → IsIn w after.waiting → IsIn w before.waiting
+  pub connections : (c : Connection) → IsIn c after.connections → IsIn c before.connections
 
 -- what an allocation was before
-pub record WasPermitting (Now : Asking) (old : List Allocation) (after : Allocation) : Type 0 where
+pub record WasPermitting (New : Gaining) (Now : Asking) (old : List Allocation) (after : Allocation) : Type 0 where
   pub before : Allocation
   pub listed : IsIn before old
-  pub is : IsPermitting Now before after
+  pub is : IsPermitting New Now before after
 
-abbrev pub ArePermitting : Asking → List Allocation → List Allocation → Type 0
-ArePermitting Now old new = (a : Allocation) → IsIn a new → WasPermitting Now old a
+abbrev pub ArePermitting : Gaining → Asking → List Allocation → List Allocation → Type 0
+ArePermitting New Now old new = (a : Allocation) → IsIn a new → WasPermitting New Now old a
+
+-- ---- its lists
 
 -- a permission that stood before, of the same address, whose requests are those of before, or are made now
 pub record IsKin (Now : Asking) (old : List Permission) (p : Permission) : Type 0 where
   pub before : Permission
   pub listed : IsIn before old
   pub ip : p.ip ≡ before.ip
-  pub renewals : (n : ℕ) → IsIn n p.renewals → IsIn n before.renewals ⊎ ((ip : IpAddr) × Now ip n)
+  pub renewals : (n : ℕ) → IsIn n p.renewals → IsIn n before.renewals ⊎ IsNow Now n
 
 abbrev pub AreKin : Asking → List Permission → List Permission → Type 0
 AreKin Now old new = (p : Permission) → IsIn p new → IsKin Now old p
 
--- the numbers of a permission that was asked for are those of before, or are made now
-abbrev pub AreKnown : Asking → List PendingPermission → List PendingPermission → Type 0
-AreKnown Now old new = (p : PendingPermission) → IsIn p new → (n : ℕ) → IsIn n p.numbers → WasAsking old p.ip n ⊎ Now p.ip n
+-- the numbers of a permission that was asked for, over a transport, are those of before, or are made now
+abbrev pub AreKnown : Asking → TransportType → List PendingPermission → List PendingPermission → Type 0
+AreKnown Now transport old new = (p : PendingPermission) → IsIn p new → (n : ℕ) → IsIn n p.numbers
+    → WasAsking old p.ip n ⊎ Now (run.Permission transport p.ip) n
+
+-- a channel that stood before, of the same number and peer, whose requests are those of before, or are made now
+pub record IsBoundKin (Now : Asking) (old : List Channel) (c : Channel) : Type 0 where
+  pub before : Channel
+  pub listed : IsIn before old
+  pub number : c.number ≡ before.number
+  pub peer : c.peer ≡ before.peer
+  pub renewals : (n : ℕ) → IsIn n c.renewals → IsIn n before.renewals ⊎ Now (run.Channel c.number c.peer) n
+
+abbrev pub AreBoundKin : Asking → List Channel → List Channel → Type 0
+AreBoundKin Now old new = (c : Channel) → IsIn c new → IsBoundKin Now old c
+
+-- a channel that was asked for before, of the same number and peer, or is so now; and so are its numbers
+pub record IsWanted (Now : Asking) (old : List PendingChannel) (c : PendingChannel) : Type 0 where
+  pub was : WasWanted old c ⊎ ((n : ℕ) × Now (run.Channel c.channel c.peer) n)
+  pub numbers : (n : ℕ) → IsIn n c.numbers → WasWanting old c.channel c.peer n ⊎ Now (run.Channel c.channel c.peer) n
+
+abbrev pub AreWanted : Asking → List PendingChannel → List PendingChannel → Type 0
+AreWanted Now old new = (c : PendingChannel) → IsIn c new → IsWanted Now old c
 
 pub kin_itself : (Now : Asking) (old : List Permission) → AreKin Now old old
 kin_itself Now old p listed = record { before = p; listed = listed; ip = refl; renewals = λ n has. inl has }
 
-pub known_itself : (Now : Asking) (old : List PendingPermission) → AreKnown Now old old
-known_itself Now old p listed n has = inl (record { before = p; listed = listed; ip = refl; has = has })
+pub known_itself : (Now : Asking) (transport : TransportType) (old : List PendingPermission) → AreKnown Now transport old old
+known_itself Now transport old p listed n has = inl (record { before = p; listed = listed; ip = refl; has = has })
 
--- an allocation with other lists of permissions
-pub with_lists : (Now : Asking) (a : Allocation) (permissions : List Permission) (pending : List PendingPermission) → AreKin Now a.permissions permissions → AreKnown Now a.pending_permissions pending
-    → IsPermitting Now a (record a { permissions = permissions; pending_permissions = pending })
-with_lists Now a permissions pending kin known = record {
-  transport = refl;
-  address = refl;
-  permissions = λ p listed. let k = kin p listed in record { before = k.before; listed = k.listed; ip = k.ip };
-  renewals = λ p n listed has. let k = kin p listed in elim (k.renewals n has) [
-    | inl was ↦ inl (record { before = k.before; listed = k.listed; has = was })
-    | inr now ↦ inr now
-  ];
-  numbers = λ p n listed has. known p listed n has;
-  channels = refl;
-  new_channels = refl;
-  refreshes = refl;
-  connecting = refl;
-  waiting = refl;
-  connections = refl;
+pub bound_itself : (Now : Asking) (old : List Channel) → AreBoundKin Now old old
+bound_itself Now old c listed = record { before = c; listed = listed; number = refl; peer = refl; renewals = λ n has. inl has }
+
+pub wanted_itself : (Now : Asking) (old : List PendingChannel) → AreWanted Now old old
+wanted_itself Now old c listed = record {
+  was = inl (record { before = c; listed = listed; channel = refl; peer = refl });
+  numbers = λ n has. inl (record { before = c; listed = listed; channel_is = refl; peer = refl; has = has });
 }
 
-pub itself : (Now : Asking) (a : Allocation) → IsPermitting Now a a
-itself Now a = with_lists Now a a.permissions a.pending_permissions (kin_itself Now a.permissions) (known_itself Now a.pending_permissions)
+module _ (New : Gaining) (Now : Asking) (a : Allocation) where
+  -- an allocation with other lists of permissions and channels
+  pub with_all : (permissions : List Permission) (pending : List PendingPermission) (channels : List Channel) (wanted : List PendingChannel) → AreKin Now a.permissions permissions
+      → AreKnown Now a.transport a.pending_permissions pending → AreBoundKin Now a.channels channels → AreWanted Now a.pending_channels wanted
+      → IsPermitting New Now a (record a { permissions = permissions; pending_permissions = pending; channels = channels; pending_channels = wanted })
+  with_all permissions pending channels wanted kin known bound are_wanted = record {
+    transport = refl;
+    address = refl;
+    permissions = λ p listed. let k = kin p listed in inl (record { before = k.before; listed = k.listed; ip = k.ip });
+    renewals = λ p n listed has. let k = kin p listed in elim (k.renewals n has) [
+      | inl was ↦ inl (record { before = k.before; listed = k.listed; has = was })
+      | inr now ↦ inr now
+    ];
+    numbers = λ p n listed has. known p listed n has;
+    channels = λ c listed. let k = bound c listed in inl (record { before = k.before; listed = k.listed; number = k.number; peer = k.peer });
+    channel_renewals = λ c n listed has. let k = bound c listed in elim (k.renewals n has) [
+      | inl was ↦ inl (record { before = k.before; listed = k.listed; number_is = k.number; peer = k.peer; has = was })
+      | inr now ↦ inr now
+    ];
+    new_channels = λ c listed. (are_wanted c listed).was;
+    channel_numbers = λ c n listed has. (are_wanted c listed).numbers n has;
+    refreshes = λ r h. h;
+    connecting = λ c h. h;
+    waiting = λ w h. h;
+    connections = λ c h. h;
+  }
 
-module _ (Now : Asking) (before after : Allocation) (is : IsPermitting Now before after) where
-  has_before : (h : run.Held) → Has after h → Has before h
+  -- with other lists of permissions
+  pub with_lists : (permissions : List Permission) (pending : List PendingPermission) → AreKin Now a.permissions permissions → AreKnown Now a.transport a.pending_permissions pending
+      → IsPermitting New Now a (record a { permissions = permissions; pending_permissions = pending })
+  with_lists permissions pending kin known =
+      with_all permissions pending a.channels a.pending_channels kin known (bound_itself Now a.channels) (wanted_itself Now a.pending_channels)
+
+  -- with other lists of channels
+  pub with_channels : (channels : List Channel) (wanted : List PendingChannel) → AreBoundKin Now a.channels channels → AreWanted Now a.pending_channels wanted
+      → IsPermitting New Now a (record a { channels = channels; pending_channels = wanted })
+  with_channels channels wanted bound are_wanted =
+      with_all a.permissions a.pending_permissions channels wanted (kin_itself Now a.permissions) (known_itself Now a.transport a.pending_permissions) bound are_wanted
+
+  pub itself : IsPermitting New Now a a
+  itself = with_lists a.permissions a.pending_permissions (kin_itself Now a.permissions) (known_itself Now a.transport a.pending_permissions)
+
+  -- with a permission that was gained
+  pub with_permission : (own : Permission) (pending : List PendingPermission) → own.renewals ≡ [] → New (run.Permission a.transport own.ip) → AreKnown Now a.transport a.pending_permissions pending
+      → IsPermitting New Now a (record a { permissions = a.permissions ++ own ∷ []; pending_permissions = pending })
+  with_permission own pending none new known = record {
+    transport = refl;
+    address = refl;
+    permissions = λ p listed. elim (in_either p a.permissions (own ∷ []) listed) [
+      | inl was ↦ inl (record { before = p; listed = was; ip = refl })
+      | inr last ↦ elim last [ inl same ↦ inr (subst (λ (x : Permission). New (run.Permission a.transport x.ip)) same new) | inr never ↦ absurd never ]
+    ];
+    renewals = λ p n listed has. elim (in_either p a.permissions (own ∷ []) listed) [
+      | inl was ↦ inl (record { before = p; listed = was; has = has })
+      | inr last ↦ elim last [
+        | inl same ↦ absurd (subst (λ (l : List ℕ). IsIn n l) (ap (λ (x : Permission). x.renewals) (sym same) ∙ none) has)
+        | inr never ↦ absurd never
+      ]
+    ];
+    numbers = λ p n listed has. known p listed n has;
+    channels = itself.channels;
+    channel_renewals = itself.channel_renewals;
+    new_channels = itself.new_channels;
+    channel_numbers = itself.channel_numbers;
+    refreshes = λ r h. h;
+    connecting = λ c h. h;
+    waiting = λ w h. h;
+    connections = λ c h. h;
+  }
+
+  -- with a channel that was gained
+  pub with_channel : (own : Channel) (wanted : List PendingChannel) → own.renewals ≡ [] → New (run.Channel own.number own.peer) → AreWanted Now a.pending_channels wanted
+      → IsPermitting New Now a (record a { channels = a.channels ++ own ∷ []; pending_channels = wanted })
+  with_channel own wanted none new are_wanted = record {
+    transport = refl;
+    address = refl;
+    permissions = itself.permissions;
+    renewals = itself.renewals;
+    numbers = itself.numbers;
+    channels = λ c listed. elim (in_either c a.channels (own ∷ []) listed) [
+      | inl was ↦ inl (record { before = c; listed = was; number = refl; peer = refl })
+      | inr last ↦ elim last [ inl same ↦ inr (subst (λ (x : Channel). New (run.Channel x.number x.peer)) same new) | inr never ↦ absurd never ]
+    ];
+    channel_renewals = λ c n listed has. elim (in_either c a.channels (own ∷ []) listed) [
+      | inl was ↦ inl (record { before = c; listed = was; number_is = refl; peer = refl; has = has })
+      | inr last ↦ elim last [
+        | inl same ↦ absurd (subst (λ (l : List ℕ). IsIn n l) (ap (λ (x : Channel). x.renewals) (sym same) ∙ none) has)
+        | inr never ↦ absurd never
+      ]
+    ];
+    new_channels = λ c listed. (are_wanted c listed).was;
+    channel_numbers = λ c n listed has. (are_wanted c listed).numbers n has;
+    refreshes = λ r h. h;
+    connecting = λ c h. h;
+    waiting = λ w h. h;
+    connections = λ c h. h;
+  }
+
+-- ---- what it has, knows and awaits
+
+module _ (New : Gaining) (Now : Asking) (before after : Allocation) (is : IsPermitting New Now before after) where
+  pub has_before : (h : run.Held) → Has after h → Has before h ⊎ New h
   has_before h HasItself =
-      subst (λ (t : _). Has before (run.Allocation t after.address)) (sym is.transport)
-      (subst (λ (a : _). Has before (run.Allocation before.transport a)) (sym is.address) HasItself)
-  has_before h (HasPermission p listed) =
-      let was = is.permissions p listed in
-      subst (λ (t : _). Has before (run.Permission t p.ip)) (sym is.transport)
-      (subst (λ (ip : IpAddr). Has before (run.Permission before.transport ip)) (sym was.ip) (HasPermission was.before was.listed))
-  has_before h (HasChannel c listed) = HasChannel c (subst (λ (l : List Channel). IsIn c l) is.channels listed)
-  has_before h (HasConnection c listed bound) = HasConnection c (subst (λ (l : List Connection). IsIn c l) is.connections listed) bound
+      inl (subst (λ (t : _). Has before (run.Allocation t after.address)) (sym is.transport)
+      (subst (λ (a : _). Has before (run.Allocation before.transport a)) (sym is.address) HasItself))
+  has_before h (HasPermission p listed) = elim (is.permissions p listed) [
+    | inl was ↦
+        inl (subst (λ (t : _). Has before (run.Permission t p.ip)) (sym is.transport)
+        (subst (λ (ip : IpAddr). Has before (run.Permission before.transport ip)) (sym was.ip) (HasPermission was.before was.listed)))
+    | inr new ↦ inr new
+  ]
+  has_before h (HasChannel c listed) = elim (is.channels c listed) [
+    | inl was ↦
+        inl (subst (λ (n : ℕ). Has before (run.Channel n c.peer)) (sym was.number)
+        (subst (λ (x : SocketAddr). Has before (run.Channel was.before.number x)) (sym was.peer) (HasChannel was.before was.listed)))
+    | inr new ↦ inr new
+  ]
+  has_before h (HasConnection c listed bound) = inl (HasConnection c (is.connections c listed) bound)
 
-  knows_before : (n : ℕ) (peer : SocketAddr) → Knows after n peer → Knows before n peer
-  knows_before n peer (ByWaiting w listed) = ByWaiting w (subst (λ (l : List Waiting). IsIn w l) is.waiting listed)
-  knows_before n peer (ByConnection c listed) = ByConnection c (subst (λ (l : List Connection). IsIn c l) is.connections listed)
+  pub knows_before : (n : ℕ) (peer : SocketAddr) → Knows after n peer → Knows before n peer
+  knows_before n peer (ByWaiting w listed) = ByWaiting w (is.waiting w listed)
+  knows_before n peer (ByConnection c listed) = ByConnection c (is.connections c listed)
 
-  pending_before : (n : ℕ) → IsPending n after → IsPending n before ⊎ ((ip : IpAddr) × Now ip n)
+  pub pending_before : (n : ℕ) → IsPending n after → IsPending n before ⊎ IsNow Now n
   pending_before n (OfPermission p listed has) = elim (is.renewals p n listed has) [
     | inl was ↦ inl (OfPermission was.before was.listed was.has)
     | inr now ↦ inr now
   ]
   pending_before n (OfNewPermission p listed has) = elim (is.numbers p n listed has) [
     | inl was ↦ inl (OfNewPermission was.before was.listed was.has)
-    | inr now ↦ inr (p.ip, now)
+    | inr now ↦ inr (run.Permission after.transport p.ip, now)
   ]
-  pending_before n (OfChannel c listed has) = inl (OfChannel c (subst (λ (l : List Channel). IsIn c l) is.channels listed) has)
-  pending_before n (OfNewChannel c listed has) = inl (OfNewChannel c (subst (λ (l : List PendingChannel). IsIn c l) is.new_channels listed) has)
-  pending_before n (OfRefresh r listed has) = inl (OfRefresh r (subst (λ (l : List PendingRefresh). IsIn r l) is.refreshes listed) has)
-  pending_before n (OfConnect c listed has) = inl (OfConnect c (subst (λ (l : List Connecting). IsIn c l) is.connecting listed) has)
-  pending_before n (OfAttempt w listed has) = inl (OfAttempt w (subst (λ (l : List Waiting). IsIn w l) is.waiting listed) has)
-  pending_before n (OfBinding c listed b awaited has) = inl (OfBinding c (subst (λ (l : List Connection). IsIn c l) is.connections listed) b awaited has)
+  pending_before n (OfChannel c listed has) = elim (is.channel_renewals c n listed has) [
+    | inl was ↦ inl (OfChannel was.before was.listed was.has)
+    | inr now ↦ inr (run.Channel c.number c.peer, now)
+  ]
+  pending_before n (OfNewChannel c listed has) = elim (is.channel_numbers c n listed has) [
+    | inl was ↦ inl (OfNewChannel was.before was.listed was.has)
+    | inr now ↦ inr (run.Channel c.channel c.peer, now)
+  ]
+  pending_before n (OfRefresh r listed has) = inl (OfRefresh r (is.refreshes r listed) has)
+  pending_before n (OfConnect c listed has) = inl (OfConnect c (is.connecting c listed) has)
+  pending_before n (OfAttempt w listed has) = inl (OfAttempt w (is.waiting w listed) has)
+  pending_before n (OfBinding c listed b awaited has) = inl (OfBinding c (is.connections c listed) b awaited has)
 
 -- ---- all of them
 
-module _ (Now : Asking) (f : Allocation → Allocation) (is : (a : Allocation) → IsPermitting Now a (f a)) where
-  was_image : (old : List Allocation) (a : Allocation) → IsImage f a old → WasPermitting Now old a
+module _ (New : Gaining) (Now : Asking) (f : Allocation → Allocation) (is : (a : Allocation) → IsPermitting New Now a (f a)) where
+  was_image : (old : List Allocation) (a : Allocation) → IsImage f a old → WasPermitting New Now old a
   was_image old a image = record {
     before = image.source;
     listed = image.listed;
-    is = subst (λ (x : Allocation). IsPermitting Now image.source x) (sym image.is) (is image.source);
+    is = subst (λ (x : Allocation). IsPermitting New Now image.source x) (sym image.is) (is image.source);
   }
 
-  pub each_permitting : (old : List Allocation) → ArePermitting Now old (map f old)
+  pub each_permitting : (old : List Allocation) → ArePermitting New Now old (map f old)
   each_permitting old a listed = was_image old a (in_map f a old listed)
 
+module _ (New : Gaining) (Now : Asking) (p : Parts) (new : List Allocation) (are : ArePermitting New Now p.allocations new) where
+  pub kept_permitting : (h : run.Held) → IsKept new h → IsKept p.allocations h ⊎ New h
+  kept_permitting h k =
+      let was = are k.allocation k.listed in
+      elim (has_before New Now was.before k.allocation was.is h k.has) [
+        | inl before ↦ inl (record { allocation = was.before; listed = was.listed; has = before })
+        | inr gained ↦ inr gained
+      ]
+
+  pub waits_permitting : (n : ℕ) (peer : SocketAddr) → Waits new n peer → Waits p.allocations n peer
+  waits_permitting n peer h =
+      let was = are h.allocation h.listed in
+      record { allocation = was.before; listed = was.listed; knows = knows_before New Now was.before h.allocation was.is n peer h.knows }
+
+  pub taken_permitting : (n : ℕ) → IsTaken (record p { allocations = new }) n → IsTaken p n ⊎ IsNow Now n
+  taken_permitting n (Outstanding t there) = inl (Outstanding t there)
+  taken_permitting n (Allocating listed) = inl (Allocating listed)
+  taken_permitting n (Pending a listed pending) =
+      let was = are a listed in
+      elim (pending_before New Now was.before a was.is n pending) [
+        | inl old ↦ inl (Pending was.before was.listed old)
+        | inr now ↦ inr now
+      ]
+
+  pub attempted_permitting : (n : ℕ) → IsAttempted new p.queue n → IsAttempted p.allocations p.queue n
+  attempted_permitting n (IsAnswered q listed response number) = IsAnswered q listed response number
+  attempted_permitting n (IsWaiting a listed w has number) =
+      let was = are a listed in
+      IsWaiting was.before was.listed w (was.is.waiting w has) number
+
 -- the allocations change so; the requests that ask are among those that are made
-pub allocations_permitting : (begun : List run.Message) (Now : Asking) (p : Parts) (new : List Allocation) → ArePermitting Now p.allocations new
-    → ((ip : IpAddr) (n : ℕ) → Now ip n → HasNumber n begun) → Adds begun p (record p { allocations = new })
+pub allocations_permitting : (begun : List run.Message) (Now : Asking) (p : Parts) (new : List Allocation) → ArePermitting none_gained Now p.allocations new
+    → ((held : run.Held) (n : ℕ) → Now held n → HasNumber n begun) → Adds begun p (record p { allocations = new })
 allocations_permitting begun Now p new are made = record {
   outstanding = λ m h. inl h;
   queued = λ m h. inl h;
-  taken = taken;
-  kept = λ h k. let was = are k.allocation k.listed in record { allocation = was.before; listed = was.listed; has = has_before Now was.before k.allocation was.is h k.has };
-  waits = λ n peer h. let was = are h.allocation h.listed in record { allocation = was.before; listed = was.listed; knows = knows_before Now was.before h.allocation was.is n peer h.knows };
-  attempted = attempted;
+  taken = λ n h. elim (taken_permitting none_gained Now p new are n h) [ inl was ↦ inl was | inr now ↦ inr (made now.0 n now.1) ];
+  kept = λ h k. elim (kept_permitting none_gained Now p new are h k) [ inl was ↦ was | inr gained ↦ absurd gained ];
+  waits = waits_permitting none_gained Now p new are;
+  attempted = attempted_permitting none_gained Now p new are;
 }
-  where
-    taken : (n : ℕ) → IsTaken (record p { allocations = new }) n → IsTaken p n ⊎ HasNumber n begun
-    taken n (Outstanding t there) = inl (Outstanding t there)
-    taken n (Allocating listed) = inl (Allocating listed)
-    taken n (Pending a listed pending) =
-        let was = are a listed in
-        elim (pending_before Now was.before a was.is n pending) [
-          | inl old ↦ inl (Pending was.before was.listed old)
-          | inr now ↦ inr (made now.0 n now.1)
-        ]
 
-    attempted : (n : ℕ) → IsAttempted new p.queue n → IsAttempted p.allocations p.queue n
-    attempted n (IsAnswered q listed response number) = IsAnswered q listed response number
-    attempted n (IsWaiting a listed w has number) =
-        let was = are a listed in
-        IsWaiting was.before was.listed w (subst (λ (l : List Waiting). IsIn w l) was.is.waiting has) number
+-- ---- what stays true of them
 
--- what is outstanding under a number asks for a permission of an address, over a transport
-abbrev pub AsksFor : Agent → TransportType → IpAddr → ℕ → Type 0
-AsksFor agent transport ip n = (t : Transaction) → finite.get agent.outstanding n ≡ Some t → run.Asks (told_by t.bytes) (run.Holds (run.Permission transport ip))
+-- what is outstanding under a number that asks now asks for just that, and what is asked for or gained now can be named in
+-- a request
+pub record AreFit (New : Gaining) (Now : Asking) (agent : Agent) : Type 0 where
+  pub asks : (held : run.Held) (n : ℕ) → Now held n → AsksFor agent held n
+  pub asked : (channel : ℕ) (peer : SocketAddr) (n : ℕ) → Now (run.Channel channel peer) n → IsWhole peer
+  pub gained : (channel : ℕ) (peer : SocketAddr) → New (run.Channel channel peer) → IsWhole peer
 
--- what stays true of them
-pub permitting_orderly : (Now : Asking) (p : Parts) (new : List Allocation) → ArePermitting Now p.allocations new
-    → ((a : Allocation) (ip : IpAddr) (n : ℕ) → Now ip n → AsksFor p.agent a.transport ip n) → IsOrderly p → IsOrderly (record p { allocations = new })
-permitting_orderly Now p new are asks is = record {
-  numbers = is.numbers;
-  messages = is.messages;
-  allocates = is.allocates;
-  queued = is.queued;
-  lifetimes = λ a listed. let was = are a listed in subst AreShort (sym was.is.refreshes) (is.lifetimes was.before was.listed);
-  permissions = permissions;
-}
-  where
-    permissions : (a : Allocation) → IsIn a new → AreAsked p.agent a
-    permissions a listed pending there n has t outstanding =
-        let was = are a listed in
-        elim (was.is.numbers pending n there has) [
-          | inl old ↦
-              subst (λ (transport : _). run.Asks (told_by t.bytes) (run.Holds (run.Permission transport pending.ip))) (sym was.is.transport)
-              (subst (λ (ip : IpAddr). run.Asks (told_by t.bytes) (run.Holds (run.Permission was.before.transport ip))) (sym old.ip)
-              (is.permissions was.before was.listed old.before old.listed n old.has t outstanding))
-          | inr now ↦ asks a pending.ip n now t outstanding
-        ]
+-- where nothing is gained or asked for
+pub none_fit : (agent : Agent) → AreFit none_gained none_asks agent
+none_fit agent = record { asks = λ held n h. absurd h; asked = λ channel peer n h. absurd h; gained = λ channel peer h. absurd h }
+
+module _ (New : Gaining) (Now : Asking) (p : Parts) (new : List Allocation) (are : ArePermitting New Now p.allocations new) (fit : AreFit New Now p.agent) (is : IsOrderly p) where
+  permissions : (a : Allocation) → IsIn a new → AreAsked p.agent a
+  permissions a listed pending there n has =
+      let was = are a listed in
+      elim (was.is.numbers pending n there has) [
+        | inl old ↦
+            subst (λ (transport : TransportType). AsksFor p.agent (run.Permission transport pending.ip) n) (sym was.is.transport)
+            (subst (λ (ip : IpAddr). AsksFor p.agent (run.Permission was.before.transport ip) n) (sym old.ip)
+            (is.permissions was.before was.listed old.before old.listed n old.has))
+        | inr now ↦ fit.asks (run.Permission a.transport pending.ip) n now
+      ]
+
+  like : (n channel other : ℕ) (peer to : SocketAddr) → channel ≡ other → peer ≡ to → AsksFor p.agent (run.Channel other to) n → AsksFor p.agent (run.Channel channel peer) n
+  like n channel other peer to same alike asks =
+      subst (λ (k : ℕ). AsksFor p.agent (run.Channel k peer) n) (sym same) (subst (λ (x : SocketAddr). AsksFor p.agent (run.Channel other x) n) (sym alike) asks)
+
+  channels : (a : Allocation) → IsIn a new → AreBinding p.agent a
+  channels a listed =
+      let was = are a listed in
+      let asked = is.channels was.before was.listed in
+      record {
+        asked = λ c there n has. elim (was.is.channel_numbers c n there has) [
+          | inl old ↦ like n c.channel old.before.channel c.peer old.before.peer old.channel_is old.peer (asked.asked old.before old.listed n old.has)
+          | inr now ↦ fit.asks (run.Channel c.channel c.peer) n now
+        ];
+        renewed = λ c there n has. elim (was.is.channel_renewals c n there has) [
+          | inl old ↦ like n c.number old.before.number c.peer old.before.peer old.number_is old.peer (asked.renewed old.before old.listed n old.has)
+          | inr now ↦ fit.asks (run.Channel c.number c.peer) n now
+        ];
+      }
+
+  peers : (a : Allocation) → IsIn a new → AreWhole a
+  peers a listed =
+      let was = are a listed in
+      let whole = is.peers was.before was.listed in
+      record {
+        asked = λ c there. elim (was.is.new_channels c there) [
+          | inl old ↦ subst IsWhole (sym old.peer) (whole.asked old.before old.listed)
+          | inr now ↦ fit.asked c.channel c.peer now.0 now.1
+        ];
+        standing = λ c there. elim (was.is.channels c there) [
+          | inl old ↦ subst IsWhole (sym old.peer) (whole.standing old.before old.listed)
+          | inr gained ↦ fit.gained c.number c.peer gained
+        ];
+      }
+
+  pub permitting_orderly : AreDistinct new → IsOrderly (record p { allocations = new })
+  permitting_orderly distinct = record {
+    numbers = is.numbers;
+    messages = is.messages;
+    allocates = is.allocates;
+    queued = is.queued;
+    lifetimes = λ a listed r there. let was = are a listed in is.lifetimes was.before was.listed r (was.is.refreshes r there);
+    permissions = permissions;
+    channels = channels;
+    peers = peers;
+    distinct = distinct;
+  }

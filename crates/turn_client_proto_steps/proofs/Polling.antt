@@ -23,10 +23,11 @@ use Rattle.turn_client_proto_steps.specs.RunSteps.{IsRunStep}
 use Rattle.turn_client_proto_steps.specs.Sound.{IsOrderly, IsSound}
 use Rattle.turn_client_proto_steps.proofs.Adding.{Adds, adds_both, agent_less, allocations_less}
 use Rattle.turn_client_proto_steps.proofs.Ending.{ends, failed_step, still, still_can}
-use Rattle.turn_client_proto_steps.proofs.Lessening.{all_polled}
+use Rattle.turn_client_proto_steps.proofs.Lessening.{all_polled, polled_distinct, same_distinct}
 use Rattle.turn_client_proto_steps.proofs.Orderly.{agent_orderly, allocations_orderly, until_map}
 use Rattle.turn_client_proto_steps.proofs.Permissions.{polled_permitting}
-use Rattle.turn_client_proto_steps.proofs.Permitting.{allocations_permitting, each_permitting, none_asks, permitting_orderly}
+use Rattle.turn_client_proto_steps.proofs.Permitting.{allocations_permitting, each_permitting, none_asks, none_fit, none_gained, permitting_orderly}
+use Rattle.turn_client_proto_channel.specs.Numbers.{AreDistinct}
 use Rattle.turn_client_proto_steps.proofs.Plain.{counts_none, none_told, nothing_drawn, notices, quiet, run_step}
 
 -- ---- by a test
@@ -53,6 +54,10 @@ ends_tell_nothing over now [] = refl
 ends_tell_nothing over now (a ∷ rest) = none_told (permissions.failures over now a) (permissions.all_failures over now rest) (ends_tell_nothing over now rest) ∙ of_one over now a
 
 -- ---- the agent was polled
+
+polled_permissions_alike : (over : Option ℕ) (now : ℕ) (a : Allocation) → ((permissions.polled over now a).channels ≡ a.channels) × ((permissions.polled over now a).pending_channels ≡ a.pending_channels)
+unfolding permissions.polled
+polled_permissions_alike over now a = (refl, refl)
 
 module _ (c : Client) (sound : IsSound c) (now : ℕ) (ticked : StunAgentPollRet) (agent : agents.Agent) (is : agents.IsPolled c.core.agent now ticked agent) where
   abbrev mid : Protocol
@@ -84,15 +89,18 @@ module _ (c : Client) (sound : IsSound c) (now : ℕ) (ticked : StunAgentPollRet
       let last : List Allocation = map (permissions.polled over now) renewed in
       let core : Protocol = after_time over now mid in
       let less = all_polled over now c.core.allocations in
+      let kept : AreDistinct renewed = polled_distinct over now c.core.allocations sound.orderly.distinct in
       let between : Parts = record (parts_of mid) { allocations = renewed } in
-      let are = each_permitting none_asks (permissions.polled over now) (polled_permitting over now) renewed in
+      let are = each_permitting none_gained none_asks (permissions.polled over now) (polled_permitting over now) renewed in
       let adds = adds_both [] (parts_of c.core) (parts_of mid) (parts_of core) mid_adds
       (adds_both [] (parts_of mid) between (parts_of core) (allocations_less [] [] (parts_of mid) renewed less (λ r h. absurd h))
-      (allocations_permitting [] none_asks between last are (λ ip n h. absurd h))) in
+      (allocations_permitting [] none_asks between last are (λ held n h. absurd h))) in
       subst (λ (p : Protocol). IsRunStep c [] None [] p) (sym same)
       (run_step [] [] None [] c c.drawn core
       (quiet None [] c c.drawn core (counts_none c core refl) adds (nothing_drawn [] c) (none_told c.core.events (permissions.all_failures over now renewed) (ends_tell_nothing over now renewed)))
-      (permitting_orderly none_asks between last are (λ a ip n h. absurd h) (allocations_orderly [] (parts_of mid) renewed less (λ r h. absurd h) mid_orderly))
+      (permitting_orderly none_gained none_asks between last are (none_fit agent)
+      (allocations_orderly [] (parts_of mid) renewed less (λ r h. absurd h) kept mid_orderly)
+      (same_distinct (permissions.polled over now) (polled_permissions_alike over now) renewed kept))
       (until_map c.core.phase (still_can c core refl refl refl) sound.can_ask))
 
   ticked_in : (phase : Phase) (over : Option ℕ) (wait : ℕ) (ret : TurnPollRet) (new : Protocol) → IsPolledIn phase over wait mid now ret new → IsRunStep c [] None [] new

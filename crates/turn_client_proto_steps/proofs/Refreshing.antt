@@ -21,7 +21,7 @@ use Rattle.turn_client_proto_steps.specs.Sound.{AreShort, BeforeAllocated, CanAs
 use Rattle.turn_client_proto_steps.proofs.Adding.{AreLess, HasNumber, adds_both, adds_none, allocations_less}
 use Rattle.turn_client_proto_steps.proofs.Asking.{IsMade, IsUnderWay, asked_adds, asked_orderly, asks, at_first, made}
 use Rattle.turn_client_proto_steps.proofs.Ending.{still}
-use Rattle.turn_client_proto_steps.proofs.Lessening.{each_less, end_asked}
+use Rattle.turn_client_proto_steps.proofs.Lessening.{deleted_distinct, each_less, end_asked}
 use Rattle.turn_client_proto_steps.proofs.Numbers.{words_after}
 use Rattle.turn_client_proto_steps.proofs.Orderly.{allocations_orderly, until_all}
 use Rattle.turn_client_proto_steps.proofs.Plain.{counts_one, nothing_drawn, quiet, run_step}
@@ -66,7 +66,7 @@ module _ (c : Client) (number now : ℕ) (sound : IsOrderly (parts_of c.core)) (
       let adds = adds_both (told_by text ∷ []) (parts_of c.core) mid (record mid { allocations = map (deleted number now) c.core.allocations })
       (asked_adds c.core (Refresh 0) number now)
       (allocations_less (told_by text ∷ []) (refresh_of number 0 ∷ []) mid (map (deleted number now) c.core.allocations) less (refresh_made c.core number 0 is)) in
-      let orderly = allocations_orderly (refresh_of number 0 ∷ []) mid (map (deleted number now) c.core.allocations) less (refresh_short number 0 (omega arith))
+      let orderly = allocations_orderly (refresh_of number 0 ∷ []) mid (map (deleted number now) c.core.allocations) less (refresh_short number 0 (omega arith)) (deleted_distinct number now c.core.allocations sound.distinct)
       (asked_orderly c.core (Refresh 0) number now is (allocated _ c.core.phase stands) sound) in
       asks c c.core (Refresh 0) number under_way is [] None (after_delete number now c.core) adds orderly refl under_way.can_ask.families refl refl (nothing_drawn (told_by text ∷ []) c)
 

@@ -23,11 +23,11 @@ use Rattle.turn_client_proto_steps.specs.Sound.{CanAsk, IsOrderly, IsSound, Unti
 use Rattle.turn_client_proto_steps.proofs.Adding.{AreLess, adds_both, allocations_less}
 use Rattle.turn_client_proto_steps.proofs.Asking.{IsMade, IsUnderWay, asked_adds, asked_orderly, asks, at_first, made}
 use Rattle.turn_client_proto_steps.proofs.Ending.{still, still_can}
-use Rattle.turn_client_proto_steps.proofs.Lessening.{first_less, marked_less}
+use Rattle.turn_client_proto_steps.proofs.Lessening.{first_less, marked_less, same_first_distinct}
 use Rattle.turn_client_proto_steps.proofs.Orderly.{allocations_orderly, until_map}
 use Rattle.turn_client_proto_steps.proofs.Permissions.{asking_permitting, first_permitting}
-use Rattle.turn_client_proto_steps.proofs.Permits.{made_number, owns}
-use Rattle.turn_client_proto_steps.proofs.Permitting.{ArePermitting, allocations_permitting, one_asks, permitting_orderly}
+use Rattle.turn_client_proto_steps.proofs.Permits.{asks_by, made_number, permission_fit}
+use Rattle.turn_client_proto_steps.proofs.Permitting.{ArePermitting, allocations_permitting, none_gained, permitting_orderly}
 use Rattle.turn_client_proto_steps.proofs.Plain.{counts_none, nothing_drawn, quiet, run_step}
 use Rattle.turn_client_proto_steps.proofs.Refreshing.{allocated, number_drawn}
 
@@ -39,12 +39,13 @@ module _ (c : Client) (transport : TransportType) (ip : IpAddr) (now : ℕ) wher
       let text = request_text c.core.auth (CreatePermission ip) number in
       let mid : Parts = parts_of (asked (after_number c.core) (CreatePermission ip) number now) in
       let left : List Allocation = changed_for transport ip (asking (record { ip = ip; numbers = number ∷ [] })) c.core.allocations in
-      let are : ArePermitting (one_asks ip number) c.core.allocations left =
-      first_permitting (one_asks ip number) (is_of transport (family_of_ip ip)) (asking (record { ip = ip; numbers = number ∷ [] })) c.core.allocations (λ a found. asking_permitting ip number a) in
+      let are : ArePermitting none_gained (asks_by (CreatePermission ip) number) c.core.allocations left =
+      first_permitting none_gained (asks_by (CreatePermission ip) number) (is_of transport (family_of_ip ip)) (asking (record { ip = ip; numbers = number ∷ [] })) c.core.allocations (λ a found. asking_permitting ip number a) in
       let adds = adds_both (told_by text ∷ []) (parts_of c.core) mid (record mid { allocations = left }) (asked_adds c.core (CreatePermission ip) number now)
-      (allocations_permitting (told_by text ∷ []) (one_asks ip number) mid left are (made_number c.core ip number now is)) in
-      let kept = permitting_orderly (one_asks ip number) mid left are (owns c.core ip number now is)
-      (asked_orderly c.core (CreatePermission ip) number now is (allocated _ c.core.phase stands) orderly) in
+      (allocations_permitting (told_by text ∷ []) (asks_by (CreatePermission ip) number) mid left are (made_number c.core (CreatePermission ip) number now is)) in
+      let kept = permitting_orderly none_gained (asks_by (CreatePermission ip) number) mid left are (permission_fit c.core ip number now is)
+      (asked_orderly c.core (CreatePermission ip) number now is (allocated _ c.core.phase stands) orderly)
+      (same_first_distinct (is_of transport (family_of_ip ip)) (asking (record { ip = ip; numbers = number ∷ [] })) (λ a. (refl, refl)) c.core.allocations orderly.distinct) in
       asks c c.core (CreatePermission ip) number under_way is [] None (after_asking transport ip number now c.core) adds kept refl under_way.can_ask.families refl refl (nothing_drawn (told_by text ∷ []) c)
 
   -- an allocation is marked
@@ -55,7 +56,8 @@ module _ (c : Client) (transport : TransportType) (ip : IpAddr) (now : ℕ) wher
       let core : Protocol = record c.core { allocations = left } in
       run_step [] [] None [] c c.drawn core
       (quiet None [] c c.drawn core (counts_none c core refl) (allocations_less [] [] (parts_of c.core) left less (λ r h. absurd h)) (nothing_drawn [] c) refl)
-      (allocations_orderly [] (parts_of c.core) left less (λ r h. absurd h) sound.orderly) (until_map c.core.phase (still_can c core refl refl refl) sound.can_ask)
+      (allocations_orderly [] (parts_of c.core) left less (λ r h. absurd h)
+      (same_first_distinct (is_of transport (family_of_ip ip)) marked (λ a. (refl, refl)) c.core.allocations sound.orderly.distinct) sound.orderly) (until_map c.core.phase (still_can c core refl refl refl) sound.can_ask)
 
   refused : (found : Option Allocation) (new : Protocol) → IsSound c → new ≡ refused_in found transport ip now c.core → IsRunStep c [] None [] new
   refused None new sound is = still c [] new sound is

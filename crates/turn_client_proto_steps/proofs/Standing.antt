@@ -56,11 +56,12 @@ use Rattle.turn_client_proto_steps.proofs.Asking.{IsMade, IsUnderWay, asked_adds
 use Rattle.turn_client_proto_steps.proofs.Awaited.{IsAskedOf, IsFoundBy, OfLifetime, OfNew, OfRenewal, found_by}
 use Rattle.turn_client_proto_steps.proofs.Granting.{asked_in, granted_step}
 use Rattle.turn_client_proto_steps.proofs.Hearing.{done, over}
-use Rattle.turn_client_proto_steps.proofs.Lessening.{all_renewed, first_less, none_less, one_awaited}
+use Rattle.turn_client_proto_steps.proofs.Lessening.{IsAlike, all_renewed, first_less, none_distinct, none_less, one_awaited, renewed_distinct, same_distinct, same_first_distinct}
+use Rattle.turn_client_proto_channel.specs.Numbers.{AreDistinct}
 use Rattle.turn_client_proto_steps.proofs.Lists.{found_in, inside}
-use Rattle.turn_client_proto_steps.proofs.Permissions.{asking_again_permitting, first_permitting, renewed_permitting, renewing_again_permitting, turned_down_permitting}
-use Rattle.turn_client_proto_steps.proofs.Permits.{made_number, owns}
-use Rattle.turn_client_proto_steps.proofs.Permitting.{ArePermitting, IsPermitting, allocations_permitting, each_permitting, none_asks, one_asks, permitting_orderly}
+use Rattle.turn_client_proto_steps.proofs.Permissions.{asking_again_permitting, first_permitting, renewed_alike, renewed_permitting, renewing_again_permitting, turned_down_alike, turned_down_permitting}
+use Rattle.turn_client_proto_steps.proofs.Permits.{asks_by, made_number, permission_fit}
+use Rattle.turn_client_proto_steps.proofs.Permitting.{ArePermitting, IsPermitting, allocations_permitting, each_permitting, none_asks, none_fit, none_gained, permitting_orderly}
 use Rattle.turn_client_proto_steps.proofs.Orderly.{agent_orderly, allocations_orderly, phase_orderly, until_all}
 use Rattle.turn_client_proto_steps.proofs.Plain.{counts_none, none_told, nothing_drawn, notices, quiet, run_step}
 use Rattle.turn_client_proto_steps.proofs.Polling.{by_test}
@@ -98,14 +99,16 @@ module _ (c : Client) (mid : Protocol) (bytes : List ℕ) (now : ℕ) (under_way
       (allocations_less begun (refresh ∷ []) made_it left less (refresh_made mid number lifetime is))
       (agent_less begun listed agent none)) in
       let orderly = agent_orderly listed agent none (allocations_orderly (refresh ∷ []) made_it left less (refresh_short number lifetime small)
+      (same_first_distinct (awaits_reply (number_at bytes)) (asked_too (Lifetime lifetime) (number_at bytes) number) (λ a. (refl, refl)) mid.allocations under_way.orderly.distinct)
       (asked_orderly mid (Refresh lifetime) number now is (allocated _ mid.phase stands) under_way.orderly)) in
       asks c mid (Refresh lifetime) number under_way is (bytes ∷ []) None core adds orderly refl under_way.can_ask.families refl refl (nothing_drawn begun c)
 
   -- a CREATE_PERMISSION once more
   permits : (what : Asked) (ip : IpAddr) (number : ℕ) → request_for what ≡ CreatePermission ip → IsMade mid (CreatePermission ip) number
-      → ArePermitting (one_asks ip number) mid.allocations (all_asked_too what (number_at bytes) number mid.allocations) → IsRunStep c (bytes ∷ []) None [] (again what number)
+      → ArePermitting none_gained (asks_by (CreatePermission ip) number) mid.allocations (all_asked_too what (number_at bytes) number mid.allocations)
+      → AreDistinct (all_asked_too what (number_at bytes) number mid.allocations) → IsRunStep c (bytes ∷ []) None [] (again what number)
   unfolding challenged asks_again asked
-  permits what ip number same is are =
+  permits what ip number same is are distinct =
       let begun : List run.Message = told_by (request_text mid.auth (CreatePermission ip) number) ∷ [] in
       let made_it : Parts = parts_of (asked (after_number mid) (CreatePermission ip) number now) in
       let left : List Allocation = all_asked_too what (number_at bytes) number mid.allocations in
@@ -115,12 +118,15 @@ module _ (c : Client) (mid : Protocol) (bytes : List ℕ) (now : ℕ) (under_way
       let core : Protocol = record (asked (after_number mid) (CreatePermission ip) number now) { allocations = left; agent = agent; resends = mid.resends + 1 } in
       let adds = adds_both begun (parts_of mid) made_it (parts_of core) (asked_adds mid (CreatePermission ip) number now)
       (adds_both begun made_it listed (parts_of core)
-      (allocations_permitting begun (one_asks ip number) made_it left are (made_number mid ip number now is))
+      (allocations_permitting begun (asks_by (CreatePermission ip) number) made_it left are (made_number mid (CreatePermission ip) number now is))
       (agent_less begun listed agent none)) in
-      let orderly = agent_orderly listed agent none (permitting_orderly (one_asks ip number) made_it left are (owns mid ip number now is)
-      (asked_orderly mid (CreatePermission ip) number now is (allocated _ mid.phase stands) under_way.orderly)) in
+      let orderly = agent_orderly listed agent none (permitting_orderly none_gained (asks_by (CreatePermission ip) number) made_it left are (permission_fit mid ip number now is)
+      (asked_orderly mid (CreatePermission ip) number now is (allocated _ mid.phase stands) under_way.orderly) distinct) in
       subst (λ (request : TurnRequest). IsRunStep c (bytes ∷ []) None [] (challenged bytes (record (asked (after_number mid) request number now) { allocations = left }))) (sym same)
       (asks c mid (CreatePermission ip) number under_way is (bytes ∷ []) None core adds orderly refl under_way.can_ask.families refl refl (nothing_drawn begun c))
+
+  alike_again : (what : Asked) (number : ℕ) → ((a : Allocation) → IsAlike a (asked_too what (number_at bytes) number a)) → AreDistinct (all_asked_too what (number_at bytes) number mid.allocations)
+  alike_again what number alike = same_first_distinct (awaits_reply (number_at bytes)) (asked_too what (number_at bytes) number) alike mid.allocations under_way.orderly.distinct
 
   sent_again : (what : Asked) (handled : Bool) (new : Protocol) → IsFoundBy (number_at bytes) mid.allocations what → IsSentAgain what mid bytes now handled new → IsRunStep c (bytes ∷ []) None [] new
   sent_again (Lifetime lifetime) handled new first h =
@@ -139,22 +145,24 @@ module _ (c : Client) (mid : Protocol) (bytes : List ℕ) (now : ℕ) (under_way
   sent_again (NewPermission transport ip) handled new first h =
       subst (λ (p : Protocol). IsRunStep c (bytes ∷ []) None [] p) (sym h.outcome.1)
       (permits (NewPermission transport ip) ip h.number refl (made c mid (CreatePermission ip) h.number under_way h.lawful tt h.is_next)
-      (first_permitting (one_asks ip h.number) (awaits_reply (number_at bytes)) (asked_too (NewPermission transport ip) (number_at bytes) h.number) mid.allocations are))
+      (first_permitting none_gained (asks_by (CreatePermission ip) h.number) (awaits_reply (number_at bytes)) (asked_too (NewPermission transport ip) (number_at bytes) h.number) mid.allocations are)
+      (alike_again (NewPermission transport ip) h.number (λ a. (refl, refl))))
     where
-      one : (a : Allocation) → IsAskedOf (number_at bytes) a (NewPermission transport ip) → IsPermitting (one_asks ip h.number) a (asked_too (NewPermission transport ip) (number_at bytes) h.number a)
+      one : (a : Allocation) → IsAskedOf (number_at bytes) a (NewPermission transport ip) → IsPermitting none_gained (asks_by (CreatePermission ip) h.number) a (asked_too (NewPermission transport ip) (number_at bytes) h.number a)
       one a (OfLifetime l at same) = absurd (Prim.cc same)
       one a (OfRenewal p at same) = absurd (Prim.cc same)
       one a (OfNew p at same) =
-          subst (λ (x : IpAddr). IsPermitting (one_asks x h.number) a (asked_too (NewPermission transport x) (number_at bytes) h.number a)) (Prim.cc same)
+          subst (λ (x : IpAddr). IsPermitting none_gained (asks_by (CreatePermission x) h.number) a (asked_too (NewPermission transport x) (number_at bytes) h.number a)) (Prim.cc same)
           (asking_again_permitting transport (number_at bytes) h.number a p at)
 
-      are : (a : Allocation) → find (awaits_reply (number_at bytes)) mid.allocations ≡ Some a → IsPermitting (one_asks ip h.number) a (asked_too (NewPermission transport ip) (number_at bytes) h.number a)
+      are : (a : Allocation) → find (awaits_reply (number_at bytes)) mid.allocations ≡ Some a → IsPermitting none_gained (asks_by (CreatePermission ip) h.number) a (asked_too (NewPermission transport ip) (number_at bytes) h.number a)
       are a found = one a (subst (λ (x : Allocation). IsAskedOf (number_at bytes) x (NewPermission transport ip)) (inside (sym first.found ∙ found)) first.is)
   sent_again (Renewal transport ip) handled new first h =
       subst (λ (p : Protocol). IsRunStep c (bytes ∷ []) None [] p) (sym h.outcome.1)
       (permits (Renewal transport ip) ip h.number refl (made c mid (CreatePermission ip) h.number under_way h.lawful tt h.is_next)
-      (first_permitting (one_asks ip h.number) (awaits_reply (number_at bytes)) (asked_too (Renewal transport ip) (number_at bytes) h.number) mid.allocations
-      (λ a found. renewing_again_permitting transport ip (number_at bytes) h.number a)))
+      (first_permitting none_gained (asks_by (CreatePermission ip) h.number) (awaits_reply (number_at bytes)) (asked_too (Renewal transport ip) (number_at bytes) h.number) mid.allocations
+      (λ a found. renewing_again_permitting transport ip (number_at bytes) h.number a))
+      (alike_again (Renewal transport ip) h.number (λ a. (refl, refl))))
 
   asked_again : (what : Option Asked) (handled : Bool) (new : Protocol) → asked_by (number_at bytes) mid.allocations ≡ what → IsAskedAgain what mid bytes now handled new → IsRunStep c (bytes ∷ []) None [] new
   asked_again None handled new is h = done c (bytes ∷ []) mid new under_way h.1
@@ -181,7 +189,7 @@ module _ (c : Client) (mid : Protocol) (bytes : List ℕ) (now : ℕ) (under_way
       (adds_both [] (parts_of mid) gone (parts_of core) (allocations_less [] [] (parts_of mid) [] (none_less mid.allocations) (λ r h. absurd h)) (phase_moved [] gone Ended (λ n h. absurd h))) in
       run_step [] (bytes ∷ []) None [] c c.drawn core
       (quiet None [] c c.drawn core (counts_none c core under_way.rng) adds (nothing_drawn [] c) under_way.told)
-      (phase_orderly gone Ended tt (allocations_orderly [] (parts_of mid) [] (none_less mid.allocations) (λ r h. absurd h) under_way.orderly)) tt
+      (phase_orderly gone Ended tt (allocations_orderly [] (parts_of mid) [] (none_less mid.allocations) (λ r h. absurd h) none_distinct under_way.orderly)) tt
 
   all_renew : IsRunStep c (bytes ∷ []) None [] (record mid { allocations = map (renewed (number_at bytes) now (lifetime_told bytes)) mid.allocations })
   all_renew =
@@ -191,7 +199,8 @@ module _ (c : Client) (mid : Protocol) (bytes : List ℕ) (now : ℕ) (under_way
       let adds = adds_both [] (parts_of c.core) (parts_of mid) (parts_of core) under_way.adds (allocations_less [] [] (parts_of mid) left less (λ r h. absurd h)) in
       run_step [] (bytes ∷ []) None [] c c.drawn core
       (quiet None [] c c.drawn core (counts_none c core under_way.rng) adds (nothing_drawn [] c) under_way.told)
-      (allocations_orderly [] (parts_of mid) left less (λ r h. absurd h) under_way.orderly) (until_all mid.phase (record {
+      (allocations_orderly [] (parts_of mid) left less (λ r h. absurd h)
+      (renewed_distinct (number_at bytes) now (lifetime_told bytes) mid.allocations under_way.orderly.distinct) under_way.orderly) (until_all mid.phase (record {
         account = under_way.can_ask.account;
         texts = under_way.can_ask.texts;
         families = under_way.can_ask.families;
@@ -215,16 +224,16 @@ module _ (c : Client) (mid : Protocol) (bytes : List ℕ) (now : ℕ) (under_way
       ]
 
   -- permissions that stand on, or that are gone
-  permissions_left : (core : Protocol) (left : List Allocation) → ArePermitting none_asks mid.allocations left → core ≡ record mid { allocations = left; events = core.events } → notices core.events ≡ notices mid.events
+  permissions_left : (core : Protocol) (left : List Allocation) → ArePermitting none_gained none_asks mid.allocations left → AreDistinct left → core ≡ record mid { allocations = left; events = core.events } → notices core.events ≡ notices mid.events
       → IsRunStep c (bytes ∷ []) None [] core
-  permissions_left core left are is told =
+  permissions_left core left are distinct is told =
       subst (λ (p : Protocol). IsRunStep c (bytes ∷ []) None [] p) (sym is)
       (run_step [] (bytes ∷ []) None [] c c.drawn (record mid { allocations = left; events = core.events })
       (quiet None [] c c.drawn (record mid { allocations = left; events = core.events })
       (counts_none c (record mid { allocations = left; events = core.events }) under_way.rng)
-      (adds_both [] (parts_of c.core) (parts_of mid) (record (parts_of mid) { allocations = left }) under_way.adds (allocations_permitting [] none_asks (parts_of mid) left are (λ ip n h. absurd h)))
+      (adds_both [] (parts_of c.core) (parts_of mid) (record (parts_of mid) { allocations = left }) under_way.adds (allocations_permitting [] none_asks (parts_of mid) left are (λ held n h. absurd h)))
       (nothing_drawn [] c) (told ∙ under_way.told))
-      (permitting_orderly none_asks (parts_of mid) left are (λ a ip n h. absurd h) under_way.orderly) (until_all mid.phase (record {
+      (permitting_orderly none_gained none_asks (parts_of mid) left are (none_fit mid.agent) under_way.orderly distinct) (until_all mid.phase (record {
         account = under_way.can_ask.account;
         texts = under_way.can_ask.texts;
         families = under_way.can_ask.families;
@@ -236,7 +245,8 @@ module _ (c : Client) (mid : Protocol) (bytes : List ℕ) (now : ℕ) (under_way
   refused_step transport ip new is =
       subst (λ (p : Protocol). IsRunStep c (bytes ∷ []) None [] p) (sym is)
       (permissions_left (refused transport ip (number_at bytes) mid) (map (turned_down (number_at bytes)) mid.allocations)
-      (each_permitting none_asks (turned_down (number_at bytes)) (turned_down_permitting (number_at bytes)) mid.allocations) refl
+      (each_permitting none_gained none_asks (turned_down (number_at bytes)) (turned_down_permitting (number_at bytes)) mid.allocations)
+      (same_distinct (turned_down (number_at bytes)) (turned_down_alike (number_at bytes)) mid.allocations under_way.orderly.distinct) refl
       (none_told mid.events (PermissionCreateFailed transport ip ∷ []) refl))
 
   renews_step : (new : Protocol) → new ≡ renews (number_at bytes) now mid → IsRunStep c (bytes ∷ []) None [] new
@@ -244,7 +254,8 @@ module _ (c : Client) (mid : Protocol) (bytes : List ℕ) (now : ℕ) (under_way
   renews_step new is =
       subst (λ (p : Protocol). IsRunStep c (bytes ∷ []) None [] p) (sym is)
       (permissions_left (renews (number_at bytes) now mid) (map (granted_again.renewed (number_at bytes) now) mid.allocations)
-      (each_permitting none_asks (granted_again.renewed (number_at bytes) now) (renewed_permitting (number_at bytes) now) mid.allocations) refl refl)
+      (each_permitting none_gained none_asks (granted_again.renewed (number_at bytes) now) (renewed_permitting (number_at bytes) now) mid.allocations)
+      (same_distinct (granted_again.renewed (number_at bytes) now) (renewed_alike (number_at bytes) now) mid.allocations under_way.orderly.distinct) refl refl)
 
   refused_for : (what : Option Asked) (handled : Bool) (new : Protocol) → IsRefusedFor what mid (number_at bytes) handled new → IsRunStep c (bytes ∷ []) None [] new
   refused_for None handled new h = done c (bytes ∷ []) mid new under_way h.1

@@ -123,14 +123,78 @@ own_number n = elim (cases_Bool (eqb n n)) [
   | inr differs ↦ absurd (eqb-false n n differs refl)
 ]
 
-awaited_by : (number : ℕ) (a : Allocation) → list_any (asks_for_permission number) a.pending_permissions ≡ true → is_awaited number a ≡ true
-unfolding is_awaited
-awaited_by number a is =
-    let rest : Bool = list_any (asks_for_channel number) a.pending_channels
-    || (list_any (is_refresh number) a.pending_refreshes || (list_any (is_connecting number) a.connecting || (list_any (is_attempt number) a.waiting || list_any (is_binding number) a.connections))) in
-    ap (λ b. list_any (renews_permission number) a.permissions || (list_any (renews_channel number) a.channels || (b || rest))) is
-    ∙ ap (λ b. list_any (renews_permission number) a.permissions || b) (or_true (list_any (renews_channel number) a.channels))
-    ∙ or_true (list_any (renews_permission number) a.permissions)
+has_own : (n : ℕ) (numbers : List ℕ) → IsIn n numbers → has_number n numbers ≡ true
+has_own n numbers h = any_passes (λ m. eqb m n) numbers n h (own_number n)
+
+same_number : (n m : ℕ) → n ≡ m → eqb n m ≡ true
+same_number n m is = ap (λ k. eqb k m) is ∙ own_number m
+
+first_true : (x y : Bool) → x ≡ true → (x || y) ≡ true
+first_true x y is = ap (λ b. b || y) is
+
+later_true : (x y : Bool) → y ≡ true → (x || y) ≡ true
+later_true x y is = ap (λ b. x || b) is ∙ or_true x
+
+-- what an allocation awaits, kind by kind
+module _ (number : ℕ) (a : Allocation) where
+  abbrev from_bindings : Bool
+  from_bindings = list_any (is_binding number) a.connections
+
+  abbrev from_attempts : Bool
+  from_attempts = list_any (is_attempt number) a.waiting || from_bindings
+
+  abbrev from_connecting : Bool
+  from_connecting = list_any (is_connecting number) a.connecting || from_attempts
+
+  abbrev from_refreshes : Bool
+  from_refreshes = list_any (is_refresh number) a.pending_refreshes || from_connecting
+
+  abbrev from_new_channels : Bool
+  from_new_channels = list_any (asks_for_channel number) a.pending_channels || from_refreshes
+
+  abbrev from_new_permissions : Bool
+  from_new_permissions = list_any (asks_for_permission number) a.pending_permissions || from_new_channels
+
+  abbrev from_channels : Bool
+  from_channels = list_any (renews_channel number) a.channels || from_new_permissions
+
+  abbrev from_permissions : Bool
+  from_permissions = list_any (renews_permission number) a.permissions || from_channels
+
+  all_from_permissions : from_permissions ≡ true → is_awaited number a ≡ true
+  unfolding is_awaited
+  all_from_permissions h = h
+
+  all_from_channels : from_channels ≡ true → is_awaited number a ≡ true
+  all_from_channels h = all_from_permissions (later_true (list_any (renews_permission number) a.permissions) from_channels h)
+
+  all_from_new_permissions : from_new_permissions ≡ true → is_awaited number a ≡ true
+  all_from_new_permissions h = all_from_channels (later_true (list_any (renews_channel number) a.channels) from_new_permissions h)
+
+  all_from_new_channels : from_new_channels ≡ true → is_awaited number a ≡ true
+  all_from_new_channels h = all_from_new_permissions (later_true (list_any (asks_for_permission number) a.pending_permissions) from_new_channels h)
+
+  all_from_refreshes : from_refreshes ≡ true → is_awaited number a ≡ true
+  all_from_refreshes h = all_from_new_channels (later_true (list_any (asks_for_channel number) a.pending_channels) from_refreshes h)
+
+  all_from_connecting : from_connecting ≡ true → is_awaited number a ≡ true
+  all_from_connecting h = all_from_refreshes (later_true (list_any (is_refresh number) a.pending_refreshes) from_connecting h)
+
+  all_from_attempts : from_attempts ≡ true → is_awaited number a ≡ true
+  all_from_attempts h = all_from_connecting (later_true (list_any (is_connecting number) a.connecting) from_attempts h)
+
+  all_from_bindings : from_bindings ≡ true → is_awaited number a ≡ true
+  all_from_bindings h = all_from_attempts (later_true (list_any (is_attempt number) a.waiting) from_bindings h)
+
+  awaited_by : IsPending number a → is_awaited number a ≡ true
+  awaited_by (OfPermission p listed has) = all_from_permissions (first_true (list_any (renews_permission number) a.permissions) from_channels (any_passes (renews_permission number) a.permissions p listed (has_own number p.renewals has)))
+  awaited_by (OfChannel c listed has) = all_from_channels (first_true (list_any (renews_channel number) a.channels) from_new_permissions (any_passes (renews_channel number) a.channels c listed (has_own number c.renewals has)))
+  awaited_by (OfNewPermission p listed has) = all_from_new_permissions (first_true (list_any (asks_for_permission number) a.pending_permissions) from_new_channels (any_passes (asks_for_permission number) a.pending_permissions p listed (has_own number p.numbers has)))
+  awaited_by (OfNewChannel c listed has) = all_from_new_channels (first_true (list_any (asks_for_channel number) a.pending_channels) from_refreshes (any_passes (asks_for_channel number) a.pending_channels c listed (has_own number c.numbers has)))
+  awaited_by (OfRefresh r listed is) = all_from_refreshes (first_true (list_any (is_refresh number) a.pending_refreshes) from_connecting (any_passes (is_refresh number) a.pending_refreshes r listed (same_number r.number number is)))
+  awaited_by (OfConnect c listed is) = all_from_connecting (first_true (list_any (is_connecting number) a.connecting) from_attempts (any_passes (is_connecting number) a.connecting c listed (same_number c.number number is)))
+  awaited_by (OfAttempt w listed is) = all_from_attempts (first_true (list_any (is_attempt number) a.waiting) from_bindings (any_passes (is_attempt number) a.waiting w listed (ap (is_number number) is ∙ own_number number)))
+  awaited_by (OfBinding c listed b awaited is) = all_from_bindings (any_passes (is_binding number) a.connections c listed (ap (is_bound_by number) awaited ∙ same_number b.number number is))
 
 listed_taken : (p : Protocol) (number : ℕ) → is_any_awaited number p.allocations ≡ true → is_taken p number ≡ true
 unfolding is_taken
@@ -139,13 +203,10 @@ listed_taken p number is =
     ∙ ap (λ b. is_some (map.get p.agent.outstanding number) || b) (or_true (awaits number p.phase))
     ∙ or_true (is_some (map.get p.agent.outstanding number))
 
--- a number that is not taken asks for no permission
+-- a number that is not taken is awaited by no allocation
 pub free_by : (p : Protocol) (number : ℕ) → is_taken p number ≡ false → IsFree (parts_of p) number
-free_by p number none a listed pending there has =
-    let one = any_passes (λ n. eqb n number) pending.numbers number has (own_number number) in
-    let two = any_passes (asks_for_permission number) a.pending_permissions pending there one in
-    let three = any_passes (is_awaited number) p.allocations a listed (awaited_by number a two) in
-    Prim.cc (sym none ∙ listed_taken p number three)
+free_by p number none a listed pending =
+    Prim.cc (sym none ∙ listed_taken p number (any_passes (is_awaited number) p.allocations a listed (awaited_by number a pending)))
 
 -- nothing is outstanding under it
 pub none_outstanding : (p : Protocol) (number : ℕ) (found : Option Transaction) → map.get p.agent.outstanding number ≡ found → is_taken p number ≡ false → found ≡ None

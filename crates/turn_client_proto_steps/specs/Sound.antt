@@ -13,13 +13,16 @@ use Rattle.stun_proto.specs.Numbers.{ShowsNumbers}
 use Rattle.stun_proto.specs.State.{Agent}
 use Rattle.turn_types.specs.TurnRegistry.{allocate_method}
 use Rattle.turn_client_proto_poll.specs.Members.{IsIn}
-use Rattle.turn_client_proto_poll.specs.Messages.{Asks, Holds, Permission}
+use Rattle.std.specs.Net.Socket.{IsSocketAddr, socket_flowinfo, socket_scope_id}
+use Rattle.std.specs.declared.net.socket_addr.SocketAddr.{SocketAddr}
+use Rattle.turn_client_proto_channel.specs.Numbers.{AreDistinct}
+use Rattle.turn_client_proto_poll.specs.Messages.{Asks, Held, Holds, Permission, Channel as ChannelHeld}
 use Rattle.turn_client_proto_poll.specs.StunWire.{told_by}
 use Rattle.turn_client_proto_poll.specs.Core.Waiting.{Queued}
 use Rattle.turn_client_proto_poll.specs.Core.declared.protocol.Phase.{Phase}
 use Rattle.turn_client_proto_poll.specs.Core.declared.protocol.Phase.TheVariants.{Initial, InitialSent, Authenticating, Authenticated, Ended}
 use Rattle.turn_client_proto_poll.specs.Request.ShortTexts.{HasShortTexts}
-use Rattle.turn_client_proto_steps.specs.Held.{Allocation, PendingPermission, PendingRefresh}
+use Rattle.turn_client_proto_steps.specs.Held.{Allocation, Channel, PendingChannel, PendingPermission, PendingRefresh}
 use Rattle.turn_client_proto_steps.specs.RunClient.{Client, Parts, parts_of}
 
 -- ---- what is outstanding
@@ -47,14 +50,37 @@ AreShort refreshes = (r : PendingRefresh) → IsIn r refreshes → r.lifetime < 
 
 -- ---- what is asked for
 
+-- what is outstanding under a number, if anything is, asks for this
+abbrev pub AsksFor : Agent → Held → ℕ → Type 0
+AsksFor agent held number = (t : Transaction) → map.get agent.outstanding number ≡ Some t
+    → Asks (told_by t.bytes) (Holds held)
+
 -- an outstanding request under a number of a permission that was asked for asks for that very permission
 abbrev pub AreAsked : Agent → Allocation → Type 0
 AreAsked agent a = (p : PendingPermission) → IsIn p a.pending_permissions → (number : ℕ) → IsIn number p.numbers
-    → (t : Transaction) → map.get agent.outstanding number ≡ Some t
-    → Asks (told_by t.bytes) (Holds (Permission a.transport p.ip))
+    → AsksFor agent (Permission a.transport p.ip) number
+
+-- an outstanding request under a number of a channel, which was asked for or is to be renewed, asks for that very channel
+pub record AreBinding (agent : Agent) (a : Allocation) : Type 0 where
+  pub asked : (c : PendingChannel) → IsIn c a.pending_channels → (number : ℕ) → IsIn number c.numbers
+      → AsksFor agent (ChannelHeld c.channel c.peer) number
+  pub renewed : (c : Channel) → IsIn c a.channels → (number : ℕ) → IsIn number c.renewals
+      → AsksFor agent (ChannelHeld c.number c.peer) number
+
+-- an address that XOR-PEER-ADDRESS carries whole: it has no flow information and no scope
+pub record IsWhole (peer : SocketAddr) : Type 0 where
+  pub own : IsSocketAddr peer
+  pub flow : socket_flowinfo peer ≡ 0
+  pub scope : socket_scope_id peer ≡ 0
+
+-- the peers of an allocation's channels are read back from requests, in which they are named
+pub record AreWhole (a : Allocation) : Type 0 where
+  pub asked : (c : PendingChannel) → IsIn c a.pending_channels → IsWhole c.peer
+  pub standing : (c : Channel) → IsIn c a.channels → IsWhole c.peer
 
 -- each outstanding request is a message, kept under its own number; until the server has allocated it is an
--- ALLOCATE for the client's transport; what waits to be sent is requests; and what allocations await was asked for
+-- ALLOCATE for the client's transport; what waits to be sent is requests; what allocations await was asked for; the
+-- peers of channels can be named in requests; and no two channels have one number
 pub record IsOrderly (p : Parts) : Type 0 where
   pub numbers : ShowsNumbers p.agent
   pub messages : AreMessages p.agent
@@ -62,6 +88,9 @@ pub record IsOrderly (p : Parts) : Type 0 where
   pub queued : (q : Queued) → IsIn q p.queue → q.is_request ≡ true
   pub lifetimes : (a : Allocation) → IsIn a p.allocations → AreShort a.pending_refreshes
   pub permissions : (a : Allocation) → IsIn a p.allocations → AreAsked p.agent a
+  pub channels : (a : Allocation) → IsIn a p.allocations → AreBinding p.agent a
+  pub peers : (a : Allocation) → IsIn a p.allocations → AreWhole a
+  pub distinct : AreDistinct p.allocations
 
 -- ---- what a client needs to ask for something
 

@@ -1,0 +1,5 @@
+pub mod Distinct
+pub mod Earliest
+pub mod Marks
+pub mod Places
+pub mod Walks

@@ -1,0 +1,7 @@
+pub mod Binding
+pub mod Channels
+pub mod Granted
+pub mod Lapsing
+pub mod Numbers
+pub mod Shown
+pub mod Wanting

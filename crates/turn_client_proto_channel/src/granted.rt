@@ -1,0 +1,127 @@
+//! What the response to a CHANNEL_BIND makes of channels (RFC 8656, section 12.3).
+
+ghost use Rattle.std.specs.Prelude.{◌≡◌, ◌++◌, OnOk, OnErr, filter, map};
+ghost use Rattle.turn_client_proto_allocation.specs.Awaited.{renews_channel};
+ghost use Rattle.turn_client_proto_channel.specs.Channels.{lapsed_of, renewed_channel};
+ghost use Rattle.turn_client_proto_channel.specs.Granted.{bound, channel_end, let_lapse, permission_asked, renewed, turned_down};
+
+use crate::one;
+use std::alloc::Global;
+use std::net::{IpAddr, SocketAddr};
+use std::time::Duration;
+use stun_types::message::TransactionId;
+use stun_types::{ListOf, NoMemory};
+use turn_client_proto_allocation::allocation::Allocation;
+use turn_client_proto_allocation::channel::{Channel, ChannelId, LapsedChannel};
+use turn_client_proto_api::Instant;
+
+/// A channel stands so long, in seconds, unless it is renewed (RFC 8656, section 12).
+const CHANNEL_LIFETIME: u64 = 600;
+
+/// The end of a channel that is granted at a moment.
+fn channel_end(now: Instant) -> Instant
+    ensures { result ≡ channel_end now }
+{
+    now.saturating_add(Duration::from_secs(CHANNEL_LIFETIME))
+}
+
+/// The address of the first permission that the request of this number asks for, in an allocation.
+/// A CHANNEL_BIND may ask for one with its channel.
+pub fn permission_asked(a: &Allocation, number: TransactionId) -> Option<IpAddr>
+    ensures { result ≡ permission_asked number a.now }
+{
+    let pending = a.pending_permissions.as_slice();
+    let p = pending.iter().find(|p| p.is_asked_by(number))?;
+    Some(p.ip)
+}
+
+/// A channel to a peer was granted in an allocation, for which the request of this number asks: it
+/// stands there, and the channels go that the request asked for. Where memory is refused, nothing
+/// changes.
+pub fn bind(
+    alloc: Global,
+    a: &mut Allocation,
+    number: ChannelId,
+    peer: SocketAddr,
+    request: TransactionId,
+    now: Instant,
+) -> Result<(), NoMemory>
+    ensures ok { OnOk result (a.new ≡ bound number peer request now a.old) }
+    ensures err { OnErr result (a.new ≡ a.old) }
+{
+    let channel = Channel {
+        number,
+        peer,
+        expiry: channel_end(now),
+        renewals: ListOf::new(alloc),
+    };
+    a.channels.push(channel)?;
+    a.pending_channels.retain(|c| !one::is_asked_by(c, request));
+    Ok(())
+}
+
+/// Those of some channels that the request of this number was to renew stand until this moment.
+fn renew_each(channels: &mut [Channel], number: TransactionId, expiry: Instant)
+    ensures { channels.new ≡ map (renewed_channel number expiry) channels.old }
+{
+    for channel in channels.iter_mut() {
+        one::renew(channel, number, expiry);
+    }
+}
+
+/// The request of this number was granted: in each allocation, each channel that it was to renew
+/// stands on, and no request is to renew it any more.
+#[tactic(auto, unfolding(crate::specs::Granted::renewed))]
+pub fn renew(allocations: &mut [Allocation], number: TransactionId, now: Instant)
+    ensures { allocations.new ≡ map (renewed number now) allocations.old }
+{
+    for allocation in allocations.iter_mut() {
+        renew_each(allocation.channels.as_mut_slice(), number, channel_end(now));
+    }
+}
+
+/// The request of this number was refused: in each allocation, each channel that it asked for goes.
+#[tactic(auto, unfolding(crate::specs::Granted::turned_down))]
+pub fn turn_down(allocations: &mut [Allocation], number: TransactionId)
+    ensures { allocations.new ≡ map (turned_down number) allocations.old }
+{
+    for allocation in allocations.iter_mut() {
+        allocation
+            .pending_channels
+            .retain(|c| !one::is_asked_by(c, number));
+    }
+}
+
+/// Those of some channels that the request of this number was to renew are among the lapsed ones,
+/// too. Where memory is refused, `NoMemory`.
+fn add_lapsed(
+    lapsed: &mut ListOf<LapsedChannel>,
+    channels: &[Channel],
+    number: TransactionId,
+) -> Result<(), NoMemory>
+    ensures { OnOk result (lapsed.new
+        ≡ lapsed.old ++ map lapsed_of (filter (renews_channel number) channels.now)) }
+{
+    for channel in channels {
+        if one::is_renewed_by(channel, number) {
+            lapsed.push(one::lapsed_of(channel))?;
+        }
+    }
+    Ok(())
+}
+
+/// The request of this number was refused: in each allocation, each channel that it was to renew is
+/// one that has lapsed, with its end as it is. Where memory is refused, `NoMemory`, and some of them
+/// may have lapsed.
+pub fn let_lapse(allocations: &mut [Allocation], number: TransactionId) -> Result<(), NoMemory>
+    ensures { OnOk result (allocations.new ≡ map (let_lapse number) allocations.old) }
+{
+    for allocation in allocations.iter_mut() {
+        let channels = allocation.channels.as_slice();
+        add_lapsed(&mut allocation.lapsed_channels, channels, number)?;
+        allocation
+            .channels
+            .retain(|c| !one::is_renewed_by(c, number));
+    }
+    Ok(())
+}
