@@ -4,8 +4,9 @@
 It knows nothing of the repository's code. Messages are written here by RFC 8489 and RFC 8656, signed by
 HMAC, and numbered from ChaCha20 words of a seed of zeros, three a number, the first of them highest. The
 moments were worked out by hand, from the waits that a client is documented to have. It was run once, and
-what it wrote is stored: four examples, and the traces of a client and a desk in the stored run of
-`turn_traces`, behind those of a desk alone. The traces of permissions are in `permissions.py`.
+what it wrote is stored: five examples, and the traces of a client and a desk in the stored run of
+`turn_traces`, behind those of a desk alone. The traces of permissions are in `permissions.py`, those of
+channels in `channels.py`.
 """
 
 import hashlib
@@ -23,9 +24,9 @@ NONCES = {bits: b"obMatJos2" + bits + b"gyiDbICXwPDaQ1ha" for bits in (b"AAAA", 
 CLIENT, SERVER, RELAYED = "192.168.0.1:1000", "10.0.0.2:2000", "203.0.113.5:50000"
 OTHER, SIXTH = "10.0.0.4:40000", "[::1]:40000"
 
-BINDING, ALLOCATE, REFRESH, CREATE_PERMISSION = 0x001, 0x003, 0x004, 0x008
+BINDING, ALLOCATE, REFRESH, CREATE_PERMISSION, CHANNEL_BIND = 0x001, 0x003, 0x004, 0x008, 0x009
 SUCCESS, ERROR, INDICATION = 0x100, 0x110, 0x010
-USERNAME, INTEGRITY, ERROR_CODE, UNKNOWN, LIFETIME, PEER = 0x06, 0x08, 0x09, 0x0A, 0x0D, 0x12
+USERNAME, INTEGRITY, ERROR_CODE, UNKNOWN, CHANNEL, LIFETIME, PEER = 0x06, 0x08, 0x09, 0x0A, 0x0C, 0x0D, 0x12
 REALM, NONCE, RELAYED_KIND, FAMILY, TRANSPORT, DONT_FRAGMENT = 0x14, 0x15, 0x16, 0x17, 0x19, 0x1A
 INTEGRITY_SHA256, PASSWORD_ALGORITHM, USERHASH, MAPPED = 0x1C, 0x1D, 0x1E, 0x20
 ADDITIONAL_FAMILY, PASSWORD_ALGORITHMS = 0x8000, 0x8002
@@ -58,10 +59,12 @@ def block(number):
     return [(a + b) & 0xFFFFFFFF for a, b in zip(w, start)]
 
 
-WORDS = [word for k in range(5) for word in block(k)]
+WORDS = []
 
 
 def number(k):
+    while len(WORDS) < 3 * k + 3:
+        WORDS.extend(block(len(WORDS) // 16))
     return struct.pack(">III", *WORDS[3 * k : 3 * k + 3])
 
 
@@ -144,14 +147,19 @@ def create_permission(k, ip, credentials=HASHED):
     return message(CREATE_PERMISSION, number(k), [(PEER, peer), *credentials], SHA1)
 
 
+def channel_bind(k, channel, peer, credentials=HASHED, by=SHA1):
+    told = [(CHANNEL, struct.pack(">HH", channel, 0)), (PEER, xored(peer, number(k)))]
+    return message(CHANNEL_BIND, number(k), [*told, *credentials], by)
+
+
 def challenge(k, bits=b"QAAA", lists=(), reason=code(401, b"Unauthorized"), method=ALLOCATE):
     """The desk's own."""
     return message(method | ERROR, number(k), [reason, (REALM, b"realm"), (NONCE, NONCES[bits]), *lists])
 
 
-def grant(k, by=SHA1, addresses=(RELAYED,)):
+def grant(k, by=SHA1, addresses=(RELAYED,), seconds=600):
     """The desk's own."""
-    told = [*(relayed(it, k) for it in addresses), lifetime(600), (MAPPED, xored(CLIENT, number(k)))]
+    told = [*(relayed(it, k) for it in addresses), lifetime(seconds), (MAPPED, xored(CLIENT, number(k)))]
     return message(ALLOCATE | SUCCESS, number(k), told, by)
 
 
@@ -247,6 +255,18 @@ class Trace:
         self.permission(now, ip)
         return self.draw(now + 50 * MS, create_permission(k, ip, credentials))
 
+    def bind(self, now, peer, answer="ok", transport="udp"):
+        return self.say(f"bind {now} {transport} {peer}", answer)
+
+    def binds(self, now, k, channel, peer, credentials=HASHED):
+        """A channel is asked for, and its request drawn as soon as may be behind a message of that moment."""
+        self.bind(now, peer)
+        return self.draw(now + 50 * MS, channel_bind(k, channel, peer, credentials))
+
+    def channels(self, *channels):
+        """The client holds these channels, each a number and a peer."""
+        return self.say("channels", " ".join(["channels", *(f"{channel} {peer}" for channel, peer in channels)]))
+
     # ---- with a desk
 
     def is_granted(self, now, k, credentials, by=SHA1):
@@ -269,16 +289,16 @@ class Trace:
         drawn = self.draw(500 * MS, first())
         return self.ask(500 * MS, f"@{drawn}", "refuse 400", challenge(0))
 
-    def granted(self):
+    def granted(self, seconds=600):
         """The first challenge, and the ALLOCATE that is signed, and granted: the number of the reply's line."""
         self.hear(0, f"@{self.challenged()}")
         self.poll(0, 50 * MS)
         drawn = self.draw(50 * MS, signed_allocate(1, hashed(b"QAAA")))
-        return self.ask(50 * MS, f"@{drawn}", f"allocate {RELAYED} 600", grant(1))
+        return self.ask(50 * MS, f"@{drawn}", f"allocate {RELAYED} {seconds}", grant(1, seconds=seconds))
 
-    def held(self):
+    def held(self, seconds=600):
         """The same, and the client is told."""
-        line = self.granted()
+        line = self.granted(seconds)
         self.hear(50 * MS, f"@{line}")
         self.is_created(RELAYED)
         return line
@@ -858,7 +878,8 @@ def each_setting():
 
 
 def good_traces():
-    # it takes its words from this file
+    # they take their words from this file
+    from channels import channel_traces
     from permissions import permission_traces
 
     yield from (
@@ -871,7 +892,7 @@ def good_traces():
         *signed_answered(), signed_request(), expired(), stale_allocate(), half_stale(),
         family_unknown(), family_not_supported(), both_families(), refresh_times_out(),
         *refreshes_answered(), stale_refresh(), stale_refresh_lost(), stale_deletion(),
-        mismatched_deletion(), *each_setting(), *permission_traces(),
+        mismatched_deletion(), *each_setting(), *permission_traces(), *channel_traces(),
     )
 
 
@@ -901,6 +922,14 @@ def bad_traces():
     yield "A bad peer, at a moment out of range", BOTH + f"permission {2**62 + 1} udp x\n", "", 5
     yield "A permission is looked for at a moment", BOTH + "have 0 udp 10.0.0.1\n", "", 5
     yield "Permissions of an address without a port", BOTH + "permissions udp 203.0.113.5\n", "", 5
+    yield "A channel to no peer", BOTH + "bind 0 udp\n", "", 5
+    yield "A channel, and no transport", BOTH + "bind 0 10.0.0.3:9000\n", "", 5
+    yield "A channel over another transport", BOTH + "bind 0 sctp 10.0.0.3:9000\n", "", 5
+    yield "A channel to an address without a port", BOTH + "bind 0 udp 10.0.0.3\n", "", 5
+    yield "A channel of a number that the trace tells", BOTH + "bind 0 udp 10.0.0.3:9000 16384\n", "", 5
+    yield "A bad peer of a channel, at a moment out of range", BOTH + f"bind {2**62 + 1} udp x\n", "", 5
+    yield "Channels at a moment", BOTH + "channels 0\n", "", 5
+    yield "Channels of one allocation", BOTH + "channels udp 203.0.113.5:50000\n", "", 5
 
 
 def all_traces():
@@ -912,12 +941,14 @@ def all_traces():
 
 
 def examples():
+    from channels import granted_channel_again
     from permissions import granted_reply_again
 
     yield "handshake", handshake()
     yield "forged", forged_challenge()
     yield "lost", lost_replies()
     yield "permission", granted_reply_again()
+    yield "channel", granted_channel_again()
 
 
 def store_examples():

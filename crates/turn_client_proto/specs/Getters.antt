@@ -1,11 +1,12 @@
 -- What a client's getters give.
-use Rattle.std.specs.Prelude.{Bool, List}
+use Rattle.std.specs.Prelude.{ℕ, Bool, List}
 use Rattle.std.specs.List.{list_any}
 use Rattle.std.specs.declared.net.ip_addr.IpAddr.{IpAddr}
 use Rattle.std.specs.declared.net.socket_addr.SocketAddr.{SocketAddr}
 use Rattle.stun_types.specs.declared.transport.TransportType.{TransportType}
 use Rattle.turn_client_proto_poll.specs.Core.declared.protocol.Protocol.{Protocol}
 use Rattle.turn_client_proto_poll.specs.Allocation.Listed.{relayed_shown}
+use Rattle.turn_client_proto_poll.specs.Channel.Shown.{channels_shown}
 use Rattle.turn_client_proto_poll.specs.Permission.Asking.{permits_over}
 use Rattle.turn_client_proto_poll.specs.Permission.Shown.{addresses_of, permissions_at}
 
@@ -20,3 +21,7 @@ has_permission transport ip p = list_any (permits_over transport ip) p.allocatio
 -- the addresses whose permissions a client shows, of the allocation of a transport and a relayed address
 abbrev pub permissions_of : TransportType → SocketAddr → Protocol → List IpAddr
 permissions_of transport relayed p = addresses_of (permissions_at transport relayed p.allocations)
+
+-- the channels that a client shows, each by its number and its peer
+abbrev pub channels_of : Protocol → List (ℕ × SocketAddr)
+channels_of p = channels_shown p.allocations

@@ -6,6 +6,7 @@ pub mod HandingIn
 pub mod Receipts
 pub mod Refusals
 pub use Rattle.turn_client_proto_poll.specs.Core.Beginning
+pub use Rattle.turn_client_proto_poll.specs.Core.Binding
 pub use Rattle.turn_client_proto_poll.specs.Core.Deleting
 pub use Rattle.turn_client_proto_poll.specs.Drawing
 pub use Rattle.turn_client_proto_poll.specs.Core.Ending
@@ -15,6 +16,7 @@ pub use Rattle.turn_client_proto_poll.specs.Api.Config
 pub mod Kept
 pub use Rattle.turn_client_proto_poll.specs.Allocation
 pub use Rattle.turn_client_proto_poll.specs.Api
+pub use Rattle.turn_client_proto_poll.specs.Channel
 pub use Rattle.turn_client_proto_poll.specs.Permission
 -- What stands above this crate has these through it.
 pub use Rattle.turn_client_proto_poll.specs.Headline

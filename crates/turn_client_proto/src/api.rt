@@ -2,17 +2,18 @@
 
 ghost use Rattle.std.specs.Prelude.{◌≡◌, ◌≢◌, ◌++◌, ℕ, [], Err, Ok, None, IfNone, IfOk, OnErr, OnOk, option_to_list};
 ghost use Rattle.std.specs.Option.{option_map};
+ghost use Rattle.turn_client_proto_poll.specs.Core.Binding.{IsBindAnswered};
 ghost use Rattle.turn_client_proto_poll.specs.Core.Deleting.{IsDeleteAnswered};
 ghost use Rattle.turn_client_proto_poll.specs.Drawing.{HasToSend, IsDrawn, sent_of};
 ghost use Rattle.turn_client_proto_poll.specs.Core.Ending.{HasFailed, ended};
 ghost use Rattle.turn_client_proto_poll.specs.Core.Permitting.{IsPermissionAnswered};
 ghost use Rattle.turn_client_proto_poll.specs.Polling.{IsPolled};
 ghost use Rattle.turn_client_proto_poll.specs.Core.declared.protocol.Protocol.{Protocol};
-ghost use Rattle.turn_client_proto.specs.Getters.{has_permission, permissions_of, relayed_of};
+ghost use Rattle.turn_client_proto.specs.Getters.{channels_of, has_permission, permissions_of, relayed_of};
 ghost use Rattle.turn_client_proto.specs.Receipts.{IsReceived};
 ghost use Rattle.turn_client_proto.specs.Refusals.{IsAnsweredStill, IsTurnedDown};
 
-pub use crate::getters::{PermissionAddressesIter, RelayedAddressesIter};
+pub use crate::getters::{ChannelsIter, PermissionAddressesIter, RelayedAddressesIter};
 use std::convert::AsSlice;
 use std::fmt::Debug;
 use std::net::{IpAddr, SocketAddr};
@@ -37,8 +38,8 @@ pub const CLIENT_END: u64 = 1 << 62;
 /// `poll_transmit` answers, hands in what came by `recv`, waits as `poll` tells, and asks for what
 /// happened by `poll_event`.
 ///
-/// No client has channels or connections, or sends to peers, yet: calls that ask for one are refused, with
-/// the error of a client that has no allocation or permission of the kind, and change nothing.
+/// No client has connections, or sends to peers, yet: calls that ask for one are refused, with the error
+/// of a client that has no allocation or permission of the kind, and change nothing.
 pub trait TurnClientApi: Debug + Send {
     ghost protocol: { Self → Protocol };
 
@@ -98,16 +99,36 @@ pub trait TurnClientApi: Debug + Send {
     ) -> PermissionAddressesIter<'_>
         ensures { result ≡ permissions_of transport relayed (protocol self.now) };
 
-    /// Asks for a channel to a peer (RFC 8656, section 12.1). There are none yet: it is refused with
-    /// `NoAllocation`.
+    /// Asks for a channel to a peer (RFC 8656, section 12.1), in the first allocation of a transport
+    /// whose relayed address is of the peer's family, under the least number from 0x4000 to 0x7FFF that
+    /// is free; and for a permission for the peer's address, where none stands there or was asked for.
+    /// A channel stands for 600 seconds once the server has granted it, and the client renews it a
+    /// minute before its end. When it has ended, neither its number nor its peer is bound anew for 300
+    /// seconds.
+    ///
+    /// Refused with `NoAllocation` where there is no such allocation, or its time is over: then it is
+    /// marked as expired; with `AlreadyExists` where a channel to the peer stands there (one that was
+    /// asked for is no bar: the peer gets another number); with `ExpiredChannelExists` where one to the
+    /// peer ended there, until and at the moment that it tells; with `NoAllocation` where the client has
+    /// ended; and with `NoChannel` where no number is free. Where memory is refused, `NoMemory`, and
+    /// nothing changes but the words that were drawn.
+    ///
+    /// A request tells the peer's IP and port alone: flow information and scope of an IPv6 address are
+    /// kept by the client, and not told to the server.
     fn bind_channel(
         &mut self,
         transport: TransportType,
         peer_addr: SocketAddr,
         now: Instant,
     ) -> Result<(), BindChannelError>
-        ensures { IsTurnedDown result BindChannelError.NoAllocation (protocol self.old)
+        ensures { IsBindAnswered (protocol self.old) transport peer_addr now result
             (protocol self.new) };
+
+    /// The numbers and the peers of the channels that stand, in the order in which they were granted,
+    /// one allocation after another. Allocations that are marked as expired are passed over. It takes no
+    /// memory.
+    fn channels(&self) -> ChannelsIter<'_>
+        ensures { result ≡ channels_of (protocol self.now) };
 
     /// Asks for a connection to a peer (RFC 6062, section 4.3). There are none yet: it is refused with
     /// `NoAllocation`.

@@ -3,9 +3,10 @@
 ghost use Rattle.turn_client_proto.specs.Clients.{protocol_of};
 
 use crate::api::{
-    BindChannelError, CreatePermissionError, DelayedMessageOrChannelSend, DeleteError,
-    PermissionAddressesIter, RelayedAddressesIter, SendError, Socket5Tuple, TcpAllocateError,
-    TcpConnectError, TurnClientApi, TurnEvent, TurnPeerData, TurnPollRet, TurnRecvRet,
+    BindChannelError, ChannelsIter, CreatePermissionError, DelayedMessageOrChannelSend,
+    DeleteError, PermissionAddressesIter, RelayedAddressesIter, SendError, Socket5Tuple,
+    TcpAllocateError, TcpConnectError, TurnClientApi, TurnEvent, TurnPeerData, TurnPollRet,
+    TurnRecvRet,
 };
 use crate::udp::TurnClientUdp;
 use std::convert::AsSlice;
@@ -104,6 +105,12 @@ impl TurnClientApi for TurnClient {
     ) -> Result<(), BindChannelError> {
         match self {
             TurnClient::Udp(client) => client.bind_channel(transport, peer_addr, now),
+        }
+    }
+
+    fn channels(&self) -> ChannelsIter<'_> {
+        match self {
+            TurnClient::Udp(client) => client.channels(),
         }
     }
 

@@ -2,13 +2,16 @@
 
 ghost use Rattle.std.specs.Prelude.{◌≡◌};
 ghost use Rattle.turn_client_proto_poll.specs.Allocation.Listed.{relayed_shown};
+ghost use Rattle.turn_client_proto_poll.specs.Channel.Shown.{channels_shown};
 ghost use Rattle.turn_client_proto_poll.specs.Permission.Shown.{addresses_of};
 
 use std::marker::Model;
 use std::net::{IpAddr, SocketAddr};
 use stun_types::TransportType;
 use turn_client_proto_poll::allocation::allocation::Allocation;
+use turn_client_proto_poll::allocation::channel::Channel;
 use turn_client_proto_poll::allocation::permission::Permission;
+use turn_client_proto_poll::channel::shown::channels_of;
 
 /// The relayed addresses of a client with their transports, in the order in which they were granted.
 /// Those of allocations that are marked as expired are passed over. Contracts see the list of what is
@@ -100,5 +103,60 @@ impl<'a> Iterator for PermissionAddressesIter<'a> {
         let (first, others) = self.left.split_first()?;
         self.left = others;
         Some(first.ip)
+    }
+}
+
+/// The channels of a client, each by its number and its peer, in the order in which they were granted,
+/// one allocation after another. Those of allocations that are marked as expired are passed over.
+/// Contracts see the list of what is left.
+#[derive(Debug, Drop)]
+pub struct ChannelsIter<'a> {
+    here: &'a [Channel],
+    left: &'a [Allocation],
+}
+
+impl<'a> Model for ChannelsIter<'a> {
+    ghost use Rattle.std.specs.Prelude.{ℕ, List, ◌++◌};
+    ghost use Rattle.std.specs.declared.net.socket_addr.SocketAddr.{SocketAddr};
+    ghost use Rattle.turn_client_proto_poll.specs.Channel.Shown.{channels_shown, pairs_of};
+
+    ghost Value = { List (ℕ × SocketAddr) };
+
+    ghost view = { λ it. pairs_of it.here.now ++ channels_shown it.left.now };
+}
+
+impl<'a> ChannelsIter<'a> {
+    /// The channels of these allocations.
+    pub fn new(allocations: &'a [Allocation]) -> ChannelsIter<'a>
+        ensures { result ≡ channels_shown allocations.now }
+    {
+        ChannelsIter {
+            here: &[],
+            left: allocations,
+        }
+    }
+}
+
+impl<'a> Iterator for ChannelsIter<'a> {
+    ghost use Rattle.std.specs.Iterator.{YieldsFirst, item_count};
+
+    type Item = (u16, SocketAddr);
+
+    ghost next_gives = { YieldsFirst (λ left. left) };
+
+    ghost remaining = { item_count (λ left. left) };
+
+    fn next(&mut self) -> Option<(u16, SocketAddr)> {
+        let mut here = self.here;
+        let mut left = self.left;
+        while here.is_empty() {
+            let (first, others) = left.split_first()?;
+            here = channels_of(first);
+            left = others;
+        }
+        let (first, others) = here.split_first()?;
+        self.here = others;
+        self.left = left;
+        Some((first.number.number(), first.peer))
     }
 }

@@ -12,9 +12,10 @@ ghost use Rattle.turn_client_proto.specs.HandingIn.{IsHandedIn};
 ghost use Rattle.turn_client_proto.specs.Receipts.{IsOfServer, IsReceived};
 
 use crate::api::{
-    BindChannelError, CreatePermissionError, DelayedMessageOrChannelSend, DeleteError,
-    PermissionAddressesIter, RelayedAddressesIter, SendError, Socket5Tuple, TcpAllocateError,
-    TcpConnectError, TurnClientApi, TurnConfig, TurnEvent, TurnPeerData, TurnPollRet, TurnRecvRet,
+    BindChannelError, ChannelsIter, CreatePermissionError, DelayedMessageOrChannelSend,
+    DeleteError, PermissionAddressesIter, RelayedAddressesIter, SendError, Socket5Tuple,
+    TcpAllocateError, TcpConnectError, TurnClientApi, TurnConfig, TurnEvent, TurnPeerData,
+    TurnPollRet, TurnRecvRet,
 };
 use std::alloc::Global;
 use std::convert::AsSlice;
@@ -142,11 +143,15 @@ impl TurnClientApi for TurnClientUdp {
 
     fn bind_channel(
         &mut self,
-        _transport: TransportType,
-        _peer_addr: SocketAddr,
-        _now: Instant,
+        transport: TransportType,
+        peer_addr: SocketAddr,
+        now: Instant,
     ) -> Result<(), BindChannelError> {
-        Err(BindChannelError::NoAllocation)
+        self.protocol.bind_channel(transport, peer_addr, now)
+    }
+
+    fn channels(&self) -> ChannelsIter<'_> {
+        ChannelsIter::new(self.protocol.allocations.as_slice())
     }
 
     fn tcp_connect(

@@ -1,20 +1,28 @@
 -- No two channels of a client have one number: what is asked for under a free number, and what moves or takes away
 -- channels, leaves it so.
-use Rattle.std.proofs.Common.{◌≡◌, ℕ, zero, suc, ◌+◌, ◌≤◌, Bool, true, false, ◌||◌, not, List, [], ◌∷◌, ◌++◌, map, filter, eqb, Option, Some, None, if◌then◌else◌, slice_get, slice_set, refl, sym, ◌∙◌, ap, arith, inl, inr}
+use Rattle.std.proofs.Common.{◌≡◌, ℕ, zero, suc, ◌+◌, ◌≤◌, Bool, true, false, ◌||◌, not, List, [], ◌∷◌, ◌++◌, map, filter, eqb, Option, Some, None, if◌then◌else◌, slice_get, slice_set, refl, sym, ◌∙◌, ap, subst, arith, inl, inr}
 use Rattle.std.proofs.lemmas.Bool.{cases_Bool, eqb-true}
 use Rattle.std.specs.List.{list_any, remove}
 use Rattle.std.specs.Prelude.{find}
-use Rattle.turn_client_proto_allocation.specs.Awaited.{asks_for_channel, is_among, renews_channel}
+use Rattle.std.specs.Option.{option_and_then, option_map, option_or}
+use Rattle.std.specs.declared.net.socket_addr.SocketAddr.{SocketAddr}
+use Rattle.stun_types.specs.declared.transport.TransportType.{TransportType}
+use Rattle.turn_client_proto_allocation.specs.Awaited.{asks_for_channel, asks_for_permission, is_among, renews_channel, renews_permission}
 use Rattle.turn_client_proto_allocation.specs.Changes.{change_first}
-use Rattle.turn_client_proto_allocation.specs.Refreshing.{ended}
+use Rattle.turn_client_proto_allocation.specs.Refreshing.{ended, lifetime_asked}
 use Rattle.turn_client_proto_allocation.specs.declared.allocation.Allocation.{Allocation}
 use Rattle.turn_client_proto_allocation.specs.declared.channel.Channel.{Channel}
 use Rattle.turn_client_proto_allocation.specs.declared.channel.PendingChannel.{PendingChannel}
+use Rattle.turn_client_proto_allocation.specs.declared.permission.PendingPermission.{PendingPermission}
+use Rattle.turn_client_proto_allocation.specs.declared.permission.Permission.{Permission}
+use Rattle.turn_client_proto_channel.specs.Awaited.{asked_by, asked_of, asked_too, awaits_reply, permission_too}
 use Rattle.turn_client_proto_channel.specs.Binding.{asking}
-use Rattle.turn_client_proto_channel.specs.Channels.{awaiting, has_lapsed, is_over, polled_channel, renewed_channel, wants_renewal}
-use Rattle.turn_client_proto_channel.specs.Granted.{bound, channel_end, granted_to, let_lapse, renewed, turned_down}
+use Rattle.turn_client_proto_channel.specs.Channels.{asked_again, awaiting, has_lapsed, is_over, polled_channel, renewed_again, renewed_channel, wants_renewal, with_number}
+use Rattle.turn_client_proto_channel.specs.Granted.{all_bound, bound, channel_end, granted_to, let_lapse, renewed, turned_down}
 use Rattle.turn_client_proto_channel.specs.Lapsing.{lapsed, last_place, polled, without}
 use Rattle.turn_client_proto_channel.specs.Wanting.{renewing}
+use Rattle.turn_client_proto_channel.specs.declared.awaited.Asked.{Asked}
+use Rattle.turn_client_proto_channel.specs.declared.awaited.Asked.TheVariants.{ChannelRenewal, Lifetime, NewChannel, NewPermission, Renewal}
 use Rattle.turn_client_proto_channel.specs.Numbers.{AreDistinct, IsLeastFree, counted, is_asked_as, is_numbered, is_taken, is_taken_in, uses, uses_in}
 
 -- ---- how many elements pass
@@ -248,6 +256,59 @@ renewing_uses_less now request a number =
     let same = counted_first (is_numbered number) (wants_renewal now) (awaiting request) (λ c. refl) a.channels in
     omega (arith, same)
 
+too_uses_less : (old request : ℕ) (a : Allocation) → UsesLess (permission_too old request a) a
+unfolding permission_too
+too_uses_less old request a number =
+    elim (cases_Bool (list_any (asks_for_permission old) a.pending_permissions)) [ inl is ↦ rw is (omega arith) | inr not ↦ rw not (omega arith) ]
+
+-- what is asked for is asked for by another request, too
+pub asked_too_uses_less : (asked : Asked) (old request : ℕ) (a : Allocation) → UsesLess (asked_too asked old request a) a
+asked_too_uses_less (Lifetime lifetime) old request a number = omega arith
+asked_too_uses_less (NewChannel transport channel peer) old request a number =
+    let same = counted_first (is_asked_as number) (asks_for_channel old) (with_number request) (λ c. refl) a.pending_channels in
+    let few = too_uses_less old request (record a { pending_channels = asked_again old request a.pending_channels }) number in
+    omega (arith, same, few)
+asked_too_uses_less (ChannelRenewal transport channel peer) old request a number =
+    let same = counted_first (is_numbered number) (renews_channel old) (awaiting request) (λ c. refl) a.channels in
+    let few = too_uses_less old request (record a { channels = renewed_again old request a.channels }) number in
+    omega (arith, same, few)
+asked_too_uses_less (NewPermission transport ip) old request a number = omega arith
+asked_too_uses_less (Renewal transport ip) old request a number = omega arith
+
 -- one that ends has no channels that stand
 pub ended_uses_less : (now : ℕ) (a : Allocation) → UsesLess (ended now a) a
 ended_uses_less now a number = omega arith
+
+-- ---- a channel that was asked for is granted
+
+-- what a request asks for, where it is a channel
+abbrev pub IsPending : ℕ → Allocation → ℕ → SocketAddr → Type 0
+IsPending request a channel peer =
+    (c : PendingChannel) × (find (asks_for_channel request) a.pending_channels ≡ Some c) × (c.channel ≡ channel) × (c.peer ≡ peer)
+
+pending_by : (request : ℕ) (a : Allocation) (lifetime : Option ℕ) (found : Option PendingChannel) (renewal : Option Channel) (asked : Option PendingPermission) (again : Option Permission) (transport : TransportType) (channel : ℕ) (peer : SocketAddr)
+    → option_or (option_map Lifetime lifetime) (option_or (option_map (λ (c : PendingChannel). NewChannel a.transport c.channel c.peer) found)
+    (option_or (option_map (λ (c : Channel). ChannelRenewal a.transport c.number c.peer) renewal)
+    (option_or (option_map (λ (p : PendingPermission). NewPermission a.transport p.ip) asked) (option_map (λ (p : Permission). Renewal a.transport p.ip) again))))
+    ≡ Some (NewChannel transport channel peer)
+    → (c : PendingChannel) × (found ≡ Some c) × (c.channel ≡ channel) × (c.peer ≡ peer)
+pending_by request a (Some lifetime) found renewal asked again transport channel peer is = absurd (Prim.cc is)
+pending_by request a None (Some c) renewal asked again transport channel peer is = (c, refl, Prim.cc is, Prim.cc is)
+pending_by request a None None (Some c) asked again transport channel peer is = absurd (Prim.cc is)
+pending_by request a None None None (Some p) again transport channel peer is = absurd (Prim.cc is)
+pending_by request a None None None None (Some p) transport channel peer is = absurd (Prim.cc is)
+pending_by request a None None None None None transport channel peer is = absurd (Prim.cc is)
+
+pub channel_pending : (request : ℕ) (a : Allocation) (transport : TransportType) (channel : ℕ) (peer : SocketAddr) → asked_of request a ≡ Some (NewChannel transport channel peer) → IsPending request a channel peer
+unfolding asked_of
+channel_pending request a transport channel peer is =
+    pending_by request a (lifetime_asked request a.pending_refreshes) (find (asks_for_channel request) a.pending_channels) (find (renews_channel request) a.channels)
+    (find (asks_for_permission request) a.pending_permissions) (find (renews_permission request) a.permissions) transport channel peer is
+
+pub bound_stay_distinct : (all : List Allocation) (transport : TransportType) (channel : ℕ) (peer : SocketAddr) (request now : ℕ) → asked_by request all ≡ Some (NewChannel transport channel peer) → AreDistinct all → AreDistinct (all_bound channel peer request now all)
+bound_stay_distinct all transport channel peer request now is =
+    first_stay_distinct all (awaits_reply request) (bound channel peer request now) (λ a found.
+    let asked : asked_of request a ≡ Some (NewChannel transport channel peer) = ap (option_and_then (asked_of request)) (sym found) ∙ is in
+    let pending = channel_pending request a transport channel peer asked in
+    let less = bound_uses_less request now a pending.0 pending.1 in
+    subst (λ n. UsesLess (bound n peer request now a) a) pending.2 (subst (λ p. UsesLess (bound pending.0.channel p request now a) a) pending.3 less))

@@ -1,7 +1,7 @@
 -- The earliest of the moments at which channels have something to do.
 use Rattle.std.proofs.Common.{◌≡◌, ℕ, List, [], ◌∷◌, ◌++◌, Option, fold, map, min, refl, sym, ap, ◌∙◌}
 use Rattle.std.specs.List.{flat_map}
-use Rattle.turn_client_proto_api.specs.Least.{IsLeastOf}
+use Rattle.turn_client_proto_permission.specs.Api.Least.{IsLeastOf}
 use Rattle.stun_proto_agent.proofs.Leasts.{least_is, least_of}
 use Rattle.turn_client_proto_channel.specs.Channels.{next_of_channel}
 use Rattle.turn_client_proto_allocation.specs.declared.allocation.Allocation.{Allocation}

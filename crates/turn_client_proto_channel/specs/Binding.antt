@@ -6,8 +6,8 @@ use Rattle.turn_client_proto_allocation.specs.declared.allocation.Allocation.{Al
 use Rattle.turn_client_proto_allocation.specs.declared.channel.Channel.{Channel}
 use Rattle.turn_client_proto_allocation.specs.declared.channel.LapsedChannel.{LapsedChannel}
 use Rattle.turn_client_proto_allocation.specs.declared.channel.PendingChannel.{PendingChannel}
-use Rattle.turn_client_proto_api.specs.declared.error.BindChannelError.{BindChannelError}
-use Rattle.turn_client_proto_api.specs.declared.error.BindChannelError.TheVariants.{AlreadyExists, ExpiredChannelExists}
+use Rattle.turn_client_proto_permission.specs.Api.declared.error.BindChannelError.{BindChannelError}
+use Rattle.turn_client_proto_permission.specs.Api.declared.error.BindChannelError.TheVariants.{AlreadyExists, ExpiredChannelExists}
 use Rattle.turn_client_proto_permission.specs.Same.{is_same_address}
 use Rattle.turn_client_proto_channel.specs.Channels.{protected_until}
 

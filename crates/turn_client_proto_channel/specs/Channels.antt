@@ -1,6 +1,6 @@
 -- Channels, and lists of them (RFC 8656, section 12).
 use Rattle.std.specs.Prelude.{ℕ, ◌*◌, ◌-◌, nat_le, nat_lt, max, Bool, not, ◌&&◌, List, [], ◌∷◌, ◌++◌, filter, Option, if◌then◌else◌}
-use Rattle.turn_client_proto_api.specs.Moments.{moment_after}
+use Rattle.turn_client_proto_permission.specs.Api.Moments.{moment_after}
 use Rattle.turn_client_proto_allocation.specs.Awaited.{asks_for_channel, is_among, renews_channel}
 use Rattle.turn_client_proto_allocation.specs.Changes.{change_first}
 use Rattle.turn_client_proto_allocation.specs.Permissions.{are_none}

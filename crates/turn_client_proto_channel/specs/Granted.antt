@@ -1,13 +1,21 @@
--- What the response to a CHANNEL_BIND makes of channels (RFC 8656, section 12.3).
-use Rattle.std.specs.Prelude.{ℕ, [], ◌∷◌, ◌++◌, map, filter, find, Option}
+-- What the response to a CREATE_PERMISSION or a CHANNEL_BIND makes of permissions and channels (RFC 8656, sections 10.3
+-- and 12.3).
+use Rattle.std.specs.Prelude.{ℕ, List, [], ◌∷◌, ◌++◌, map, filter, find, Option}
 use Rattle.std.specs.Option.{option_map}
 use Rattle.std.specs.declared.net.ip_addr.IpAddr.{IpAddr}
 use Rattle.std.specs.declared.net.socket_addr.SocketAddr.{SocketAddr}
-use Rattle.turn_client_proto_api.specs.Moments.{moment_after}
+use Rattle.turn_client_proto_permission.specs.Api.Moments.{moment_after}
 use Rattle.turn_client_proto_allocation.specs.Awaited.{asks_for_permission, renews_channel}
+use Rattle.turn_client_proto_allocation.specs.Changes.{change_first}
 use Rattle.turn_client_proto_allocation.specs.declared.allocation.Allocation.{Allocation}
 use Rattle.turn_client_proto_allocation.specs.declared.channel.Channel.{Channel}
+use Rattle.turn_client_proto_permission.specs.Granted.{permitted}
+use Rattle.turn_client_proto_channel.specs.Awaited.{awaits_reply}
 use Rattle.turn_client_proto_channel.specs.Channels.{channel_lifetime, lapsed_of, not_asked_by, not_renewed_by, renewed_channel}
+
+-- the first allocation that awaits the response to the request of a number permits an address
+abbrev pub all_permitted : IpAddr → (number now : ℕ) → List Allocation → List Allocation
+all_permitted ip number now allocations = change_first (awaits_reply number) (permitted ip number now) allocations
 
 -- the address of the first permission that the request of a number asks for, as a CHANNEL_BIND may
 abbrev pub permission_asked : ℕ → Allocation → Option IpAddr
@@ -27,6 +35,11 @@ bound channel peer number now a = record a {
   channels = a.channels ++ granted_to channel peer now ∷ [];
   pending_channels = not_asked_by number a.pending_channels;
 }
+
+-- the first allocation that awaits the response to the request of a number binds a channel to a peer
+abbrev pub all_bound : (channel : ℕ) → SocketAddr → (number now : ℕ) → List Allocation → List Allocation
+all_bound channel peer number now allocations =
+    change_first (awaits_reply number) (bound channel peer number now) allocations
 
 -- an allocation after the request of a number was granted: each channel that it was to renew stands on
 unfoldable pub renewed : (number now : ℕ) → Allocation → Allocation

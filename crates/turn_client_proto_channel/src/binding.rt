@@ -1,19 +1,21 @@
 //! Channels that are asked for (RFC 8656, section 12.1).
 
-ghost use Rattle.std.specs.Prelude.{◌≡◌, ◌<◌, List, Some, OnOk, OnErr, IfSome, find, length, slice_get, slice_set};
+ghost use Rattle.std.specs.Prelude.{◌≡◌, ◌<◌, ◌∷◌, [], IfOk, List, Some, OnOk, OnErr, IfSome, find, length, slice_get, slice_set};
 ghost use Rattle.std.specs.List.{list_any};
 ghost use Rattle.turn_client_proto_allocation.specs.declared.allocation.Allocation.{Allocation as Kept};
 ghost use Rattle.turn_client_proto_allocation.specs.declared.channel.PendingChannel.{PendingChannel as Pending};
 ghost use Rattle.turn_client_proto_channel.specs.Binding.{asking, barred_by, barring, bars, is_to};
 
 use crate::one::protected_until;
+use std::alloc::Global;
 use std::net::SocketAddr;
-use stun_types::NoMemory;
+use stun_types::message::TransactionId;
+use stun_types::{ListOf, NoMemory};
 use turn_client_proto_allocation::allocation::Allocation;
-use turn_client_proto_allocation::channel::{Channel, LapsedChannel, PendingChannel};
+use turn_client_proto_allocation::channel::{Channel, ChannelId, LapsedChannel, PendingChannel};
 use turn_client_proto_allocation::listed::Allocations;
-use turn_client_proto_api::Instant;
-use turn_client_proto_api::error::BindChannelError;
+use turn_client_proto_permission::api::Instant;
+use turn_client_proto_permission::api::error::BindChannelError;
 
 /// Whether a channel to a peer stands.
 fn is_any_to(channels: &[Channel], peer: SocketAddr) -> bool
@@ -44,6 +46,26 @@ pub fn barring(a: &Allocation, peer: SocketAddr, now: Instant) -> Option<BindCha
         return Some(BindChannelError::AlreadyExists);
     }
     barred(a.lapsed_channels.as_slice(), peer, now)
+}
+
+/// A channel of a number to a peer, for which the request of another number asks. Where memory is
+/// refused, `NoMemory`.
+pub fn pending_channel(
+    alloc: Global,
+    channel: ChannelId,
+    peer: SocketAddr,
+    number: TransactionId,
+) -> Result<PendingChannel, NoMemory>
+    ensures { IfOk result (λ pending.
+        pending ≡ record { channel = channel; peer = peer; numbers = number ∷ [] }) }
+{
+    let mut numbers = ListOf::new(alloc);
+    numbers.push(number)?;
+    Ok(PendingChannel {
+        channel,
+        peer,
+        numbers,
+    })
 }
 
 /// A channel is asked for in the allocation at a place. Where memory is refused, nothing changes.

@@ -8,7 +8,7 @@ ghost use Rattle.turn_client_proto_channel.specs.Numbers.{AreMarked, IsLeastFree
 use crate::one::protected_until;
 use turn_client_proto_allocation::allocation::Allocation;
 use turn_client_proto_allocation::channel::{Channel, ChannelId, LapsedChannel, PendingChannel};
-use turn_client_proto_api::Instant;
+use turn_client_proto_permission::api::Instant;
 use turn_types::registry::{GREATEST_CHANNEL, LEAST_CHANNEL};
 
 /// How many numbers there are.

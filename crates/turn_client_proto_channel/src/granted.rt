@@ -1,9 +1,11 @@
-//! What the response to a CHANNEL_BIND makes of channels (RFC 8656, section 12.3).
+//! What the response to a CREATE_PERMISSION or a CHANNEL_BIND makes of permissions and channels (RFC
+//! 8656, sections 10.3 and 12.3).
 
-ghost use Rattle.std.specs.Prelude.{◌≡◌, ◌++◌, OnOk, OnErr, filter, map};
+ghost use Rattle.std.specs.Prelude.{◌≡◌, ◌<◌, ◌++◌, OnOk, OnErr, Some, filter, length, map, position};
 ghost use Rattle.turn_client_proto_allocation.specs.Awaited.{renews_channel};
+ghost use Rattle.turn_client_proto_channel.specs.Awaited.{awaits_reply};
 ghost use Rattle.turn_client_proto_channel.specs.Channels.{lapsed_of, renewed_channel};
-ghost use Rattle.turn_client_proto_channel.specs.Granted.{bound, channel_end, let_lapse, permission_asked, renewed, turned_down};
+ghost use Rattle.turn_client_proto_channel.specs.Granted.{all_bound, all_permitted, bound, channel_end, let_lapse, permission_asked, renewed, turned_down};
 
 use crate::one;
 use std::alloc::Global;
@@ -13,7 +15,8 @@ use stun_types::message::TransactionId;
 use stun_types::{ListOf, NoMemory};
 use turn_client_proto_allocation::allocation::Allocation;
 use turn_client_proto_allocation::channel::{Channel, ChannelId, LapsedChannel};
-use turn_client_proto_api::Instant;
+use turn_client_proto_permission::api::Instant;
+use turn_client_proto_permission::one::permit as permit_in;
 
 /// A channel stands so long, in seconds, unless it is renewed (RFC 8656, section 12).
 const CHANNEL_LIFETIME: u64 = 600;
@@ -35,10 +38,28 @@ pub fn permission_asked(a: &Allocation, number: TransactionId) -> Option<IpAddr>
     Some(p.ip)
 }
 
-/// A channel to a peer was granted in an allocation, for which the request of this number asks: it
-/// stands there, and the channels go that the request asked for. Where memory is refused, nothing
+/// A permission for an address was granted: it stands in the allocation at a place, which is the
+/// first that awaits the response to the request of this number. Where memory is refused, nothing
 /// changes.
-pub fn bind(
+#[tactic(auto, using(turn_client_proto_allocation::proofs::Changes::first_by_place))]
+pub fn permit(
+    alloc: Global,
+    allocations: &mut [Allocation],
+    place: usize,
+    ip: IpAddr,
+    number: TransactionId,
+    now: Instant,
+) -> Result<(), NoMemory>
+    requires { position (awaits_reply number) allocations.old ≡ Some place }
+    ensures ok { OnOk result (allocations.new ≡ all_permitted ip number now allocations.old) }
+    ensures err { OnErr result (allocations.new ≡ allocations.old) }
+{
+    permit_in(alloc, &mut allocations[place], ip, number, now)
+}
+
+/// A channel to a peer was granted in an allocation, for which the request of this number asks.
+/// Where memory is refused, nothing changes.
+fn bind_in(
     alloc: Global,
     a: &mut Allocation,
     number: ChannelId,
@@ -58,6 +79,27 @@ pub fn bind(
     a.channels.push(channel)?;
     a.pending_channels.retain(|c| !one::is_asked_by(c, request));
     Ok(())
+}
+
+/// A channel to a peer was granted: it stands in the allocation at a place, which is the first that
+/// awaits the response to this request, and the channels go that the request asked for there. Where
+/// memory is refused, nothing changes.
+#[tactic(auto, using(turn_client_proto_allocation::proofs::Changes::first_by_place))]
+pub fn bind(
+    alloc: Global,
+    allocations: &mut [Allocation],
+    place: usize,
+    number: ChannelId,
+    peer: SocketAddr,
+    request: TransactionId,
+    now: Instant,
+) -> Result<(), NoMemory>
+    requires { position (awaits_reply request) allocations.old ≡ Some place }
+    ensures ok { OnOk result (allocations.new
+        ≡ all_bound number peer request now allocations.old) }
+    ensures err { OnErr result (allocations.new ≡ allocations.old) }
+{
+    bind_in(alloc, &mut allocations[place], number, peer, request, now)
 }
 
 /// Those of some channels that the request of this number was to renew stand until this moment.

@@ -1,8 +1,8 @@
 //! What becomes of channels as time goes on (RFC 8656, section 12), and what is told of it.
 
 ghost use Rattle.std.specs.Prelude.{◌≡◌, ◌≢◌, ◌<◌, ◌++◌, [], IfSome, OnOk, OnErr, length, map, take};
-ghost use Rattle.turn_client_proto_api.specs.Least.{IsLeastOf};
-ghost use Rattle.turn_client_proto_api.specs.declared.event.TurnEvent.TheVariants.{ChannelCreateFailed};
+ghost use Rattle.turn_client_proto_permission.specs.Api.Least.{IsLeastOf};
+ghost use Rattle.turn_client_proto_permission.specs.Api.declared.event.TurnEvent.TheVariants.{ChannelCreateFailed};
 ghost use Rattle.turn_client_proto_channel.specs.Channels.{has_lapsed, polled_channel};
 ghost use Rattle.turn_client_proto_channel.specs.Lapsing.{all_lapsing, all_nexts, earlier_of, lapsed, last_place, peer_lapsing, peers_lapsing, peers_over, polled};
 
@@ -13,9 +13,9 @@ use stun_types::{NoMemory, TransportType};
 use turn_client_proto_allocation::allocation::Allocation;
 use turn_client_proto_allocation::channel::{Channel, PendingChannel};
 use turn_client_proto_allocation::numbers::is_among;
-use turn_client_proto_api::Instant;
-use turn_client_proto_api::event::TurnEvent;
-use turn_client_proto_queue::queue::QueueOf;
+use turn_client_proto_permission::api::Instant;
+use turn_client_proto_permission::api::event::TurnEvent;
+use turn_client_proto_permission::queue::queue::QueueOf;
 
 /// The place of the last channel whose time is over.
 fn place_lapsing(channels: &[Channel], now: Instant) -> Option<usize>

@@ -8,7 +8,7 @@ use std::time::Duration;
 use stun_types::message::TransactionId;
 use turn_client_proto_allocation::channel::{Channel, LapsedChannel, PendingChannel};
 use turn_client_proto_allocation::numbers::{has_number, is_among};
-use turn_client_proto_api::Instant;
+use turn_client_proto_permission::api::Instant;
 
 /// So long before it lapses a channel is renewed, in nanoseconds.
 const RENEWED_BEFORE: u64 = 60_000_000_000;

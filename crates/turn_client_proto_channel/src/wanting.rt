@@ -12,7 +12,7 @@ use stun_types::NoMemory;
 use stun_types::message::TransactionId;
 use turn_client_proto_allocation::allocation::Allocation;
 use turn_client_proto_allocation::channel::{Channel, ChannelId};
-use turn_client_proto_api::Instant;
+use turn_client_proto_permission::api::Instant;
 
 /// Number and peer of the first channel that is to be renewed at a moment.
 fn first_renewal(channels: &[Channel], now: Instant) -> Option<(ChannelId, SocketAddr)>

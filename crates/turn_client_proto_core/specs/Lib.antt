@@ -2,6 +2,7 @@ pub mod Allocating
 pub mod Asking
 pub mod Authenticating
 pub mod Beginning
+pub mod Binding
 pub mod Deleting
 pub mod Ending
 pub mod Numbering
@@ -14,7 +15,8 @@ pub mod Waiting
 -- What stands above this crate has these through it.
 pub use Rattle.turn_client_proto_allocation.specs as Allocation
 pub use Rattle.turn_client_proto_api.specs as Api
-pub use Rattle.turn_client_proto_permission.specs as Permission
+pub use Rattle.turn_client_proto_channel.specs as Channel
+pub use Rattle.turn_client_proto_channel.specs.Permission
 pub use Rattle.turn_client_proto_request.specs as Request
 pub use Rattle.turn_client_proto_response.specs as Response
 pub use Rattle.turn_client_proto_api.specs.AgentPolls

@@ -12,11 +12,12 @@ use Rattle.turn_client_proto_allocation.specs.declared.allocation.Allocation.{Al
 use Rattle.turn_client_proto_api.specs.declared.error.CreatePermissionError.{CreatePermissionError}
 use Rattle.turn_client_proto_api.specs.declared.error.CreatePermissionError.TheVariants.{AlreadyExists, NoAllocation, NoMemory}
 use Rattle.turn_client_proto_api.specs.declared.event.TurnEvent.TheVariants.{PermissionCreated, PermissionCreateFailed}
-use Rattle.turn_client_proto_permission.specs.Asking.{asking, is_of, is_past, knows, marked}
-use Rattle.turn_client_proto_permission.specs.Awaited.{asked_by}
-use Rattle.turn_client_proto_permission.specs.Granted.{all_permitted, renewed, turned_down}
-use Rattle.turn_client_proto_permission.specs.declared.awaited.Asked.{Asked}
-use Rattle.turn_client_proto_permission.specs.declared.awaited.Asked.TheVariants.{Lifetime, NewPermission, Renewal}
+use Rattle.turn_client_proto_channel.specs.Permission.Asking.{asking, is_of, is_past, knows, marked}
+use Rattle.turn_client_proto_channel.specs.Awaited.{asked_by}
+use Rattle.turn_client_proto_channel.specs.Granted.{all_permitted}
+use Rattle.turn_client_proto_channel.specs.Permission.Granted.{renewed, turned_down}
+use Rattle.turn_client_proto_channel.specs.declared.awaited.Asked.{Asked}
+use Rattle.turn_client_proto_channel.specs.declared.awaited.Asked.TheVariants.{ChannelRenewal, Lifetime, NewChannel, NewPermission, Renewal}
 use Rattle.turn_client_proto_request.specs.ToldRequests.{IsLawfulRequest}
 use Rattle.turn_client_proto_request.specs.declared.request.TurnRequest.TheVariants.{CreatePermission}
 use Rattle.turn_client_proto_core.specs.Asking.{asked}
@@ -104,6 +105,8 @@ IsGrantedFor (Some (NewPermission transport ip)) p number now handled new =
     IsHandled (granted transport ip number now p) handled new
 IsGrantedFor (Some (Renewal transport ip)) p number now handled new = IsHandled (renews number now p) handled new
 IsGrantedFor (Some (Lifetime lifetime)) p number now handled new = IsIgnored p handled new
+IsGrantedFor (Some (NewChannel transport channel peer)) p number now handled new = IsIgnored p handled new
+IsGrantedFor (Some (ChannelRenewal transport channel peer)) p number now handled new = IsIgnored p handled new
 IsGrantedFor None p number now handled new = IsIgnored p handled new
 
 -- the request of a number was refused, by what it asks for
@@ -112,6 +115,8 @@ IsRefusedFor (Some (NewPermission transport ip)) p number handled new =
     IsHandled (refused transport ip number p) handled new
 IsRefusedFor (Some (Renewal transport ip)) p number handled new = IsHandled (refused transport ip number p) handled new
 IsRefusedFor (Some (Lifetime lifetime)) p number handled new = IsIgnored p handled new
+IsRefusedFor (Some (NewChannel transport channel peer)) p number handled new = IsIgnored p handled new
+IsRefusedFor (Some (ChannelRenewal transport channel peer)) p number handled new = IsIgnored p handled new
 IsRefusedFor None p number handled new = IsIgnored p handled new
 
 -- the response to a CREATE_PERMISSION, by its class

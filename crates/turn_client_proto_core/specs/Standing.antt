@@ -9,16 +9,17 @@ use Rattle.stun_types.specs.Attributes.{kind_at}
 use Rattle.stun_types.specs.Grammar.{number_at}
 use Rattle.stun_types.specs.Registry.{allocation_mismatch_code}
 use Rattle.stun_types.specs.Types.{class_of, method_of}
-use Rattle.turn_types.specs.TurnRegistry.{create_permission_method, refresh_method}
+use Rattle.turn_types.specs.TurnRegistry.{channel_bind_method, create_permission_method, refresh_method}
 use Rattle.turn_client_proto_allocation.specs.Refreshing.{ends_by, renewed}
-use Rattle.turn_client_proto_permission.specs.Awaited.{all_asked_too, asked_by}
-use Rattle.turn_client_proto_permission.specs.declared.awaited.Asked.{Asked}
-use Rattle.turn_client_proto_permission.specs.declared.awaited.Asked.TheVariants.{Lifetime, NewPermission, Renewal}
+use Rattle.turn_client_proto_channel.specs.Awaited.{all_asked_too, asked_by}
+use Rattle.turn_client_proto_channel.specs.declared.awaited.Asked.{Asked}
+use Rattle.turn_client_proto_channel.specs.declared.awaited.Asked.TheVariants.{ChannelRenewal, Lifetime, NewChannel, NewPermission, Renewal}
 use Rattle.turn_client_proto_request.specs.ToldRequests.{IsLawfulRequest}
 use Rattle.turn_client_proto_request.specs.declared.request.TurnRequest.{TurnRequest}
-use Rattle.turn_client_proto_request.specs.declared.request.TurnRequest.TheVariants.{CreatePermission, Refresh}
+use Rattle.turn_client_proto_request.specs.declared.request.TurnRequest.TheVariants.{ChannelBind, CreatePermission, Refresh}
 use Rattle.turn_client_proto_response.specs.Told.{first_code, is_code, lifetime_told}
 use Rattle.turn_client_proto_core.specs.Asking.{asked}
+use Rattle.turn_client_proto_core.specs.Binding.{IsBindResponded}
 use Rattle.turn_client_proto_core.specs.Ending.{ended}
 use Rattle.turn_client_proto_core.specs.Numbering.{IsNextNumber, after_number}
 use Rattle.turn_client_proto_core.specs.Outcomes.{IsHandled, IsIgnored}
@@ -32,6 +33,8 @@ use Rattle.turn_client_proto_core.specs.declared.protocol.Protocol.{Protocol}
 -- the request by which something is asked for
 abbrev pub request_for : Asked → TurnRequest
 request_for (Lifetime lifetime) = Refresh lifetime
+request_for (NewChannel transport channel peer) = ChannelBind channel peer
+request_for (ChannelRenewal transport channel peer) = ChannelBind channel peer
 request_for (NewPermission transport ip) = CreatePermission ip
 request_for (Renewal transport ip) = CreatePermission ip
 
@@ -91,7 +94,9 @@ IsRequestAnswered p bytes now handled new = MatchBool (method_of (kind_at bytes)
     (IsHandled (after_refresh bytes now p) handled new)
     (MatchBool (method_of (kind_at bytes) == create_permission_method)
     (IsPermissionResponded p bytes now handled new)
-    (IsIgnored p handled new))
+    (MatchBool (method_of (kind_at bytes) == channel_bind_method)
+    (IsBindResponded p bytes now handled new)
+    (IsIgnored p handled new)))
 
 -- a response that validates counts where its number is outstanding; a request does not
 abbrev pub IsTakenUp : Protocol → List ℕ → ℕ → Bool → Protocol → Type 0

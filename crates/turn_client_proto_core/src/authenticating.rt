@@ -7,16 +7,10 @@ ghost use Rattle.stun_types.specs.Grammar.{number_at};
 ghost use Rattle.stun_types.specs.Types.{class_of};
 ghost use Rattle.turn_client_proto_request.specs.declared.request.TurnRequest.TheVariants.{Allocate};
 ghost use Rattle.turn_client_proto_core.specs.Asking.{asked};
-ghost use Rattle.turn_client_proto_core.specs.Authenticating.{IsAccepted, IsAllocateAnswered};
-ghost use Rattle.turn_client_proto_core.specs.Authenticating.{IsChallenged, IsErrorAnswered};
-ghost use Rattle.turn_client_proto_core.specs.Authenticating.{IsFirstJudged, IsSignedJudged};
-ghost use Rattle.turn_client_proto_core.specs.Authenticating.{IsTurnedAway, allocates_again};
-ghost use Rattle.turn_client_proto_core.specs.Authenticating.{allocates_other, family_left};
-ghost use Rattle.turn_client_proto_core.specs.Authenticating.{numbers_sent, other_family};
+ghost use Rattle.turn_client_proto_core.specs.Authenticating.{IsAccepted, IsAllocateAnswered, IsChallenged, IsErrorAnswered, IsFirstJudged, IsSignedJudged, IsTurnedAway, allocates_again, allocates_other, family_left, numbers_sent, other_family};
 ghost use Rattle.turn_client_proto_core.specs.Ending.{IsUnderWay};
 ghost use Rattle.turn_client_proto_core.specs.Numbering.{IsNextNumber, after_number};
-ghost use Rattle.turn_client_proto_core.specs.Receiving.{GrowsBy, GrowsFirst, GrowsSigned};
-ghost use Rattle.turn_client_proto_core.specs.Receiving.{IsFollowed};
+ghost use Rattle.turn_client_proto_core.specs.Receiving.{GrowsBy, GrowsFirst, GrowsSigned, IsFollowed};
 ghost use Rattle.turn_client_proto_core.specs.Responding.{accepted, answered, is_tired};
 
 use crate::protocol::{Phase, Protocol};

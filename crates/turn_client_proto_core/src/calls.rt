@@ -4,8 +4,7 @@ ghost use Rattle.std.specs.Prelude.{◌≡◌, ◌++◌, [], IfNone, OnOk, OnErr
 ghost use Rattle.turn_client_proto_allocation.specs.Refreshing.{deleted, ended, refreshing};
 ghost use Rattle.turn_client_proto_request.specs.declared.request.TurnRequest.TheVariants.{Refresh};
 ghost use Rattle.turn_client_proto_core.specs.Asking.{asked};
-ghost use Rattle.turn_client_proto_core.specs.Deleting.{IsDeleteAnswered, after_delete};
-ghost use Rattle.turn_client_proto_core.specs.Deleting.{delete_refusal, is_authenticated};
+ghost use Rattle.turn_client_proto_core.specs.Deleting.{IsDeleteAnswered, after_delete, delete_refusal, is_authenticated};
 ghost use Rattle.turn_client_proto_core.specs.Numbering.{IsUnused, after_number};
 
 use crate::protocol::{Phase, Protocol};

@@ -1,17 +1,15 @@
 //! Permissions that a client is asked for, and the responses to its requests for them (RFC 8656,
 //! section 10).
 
-ghost use Rattle.std.specs.Prelude.{◌≡◌, ◌<◌, ℕ, ◌∷◌, [], List, IfOk, IfSome, OnErr, OnOk};
-ghost use Rattle.std.specs.Prelude.{length, slice_get, slice_set};
-ghost use Rattle.turn_client_proto_permission.specs.Asking.{asking};
-ghost use Rattle.turn_client_proto_permission.specs.Awaited.{asked_by};
+ghost use Rattle.std.specs.Prelude.{◌≡◌, ◌<◌, ℕ, ◌∷◌, [], List, IfOk, IfSome, OnErr, OnOk, length, slice_get, slice_set};
+ghost use Rattle.turn_client_proto_channel.specs.Permission.Asking.{asking};
+ghost use Rattle.turn_client_proto_channel.specs.Awaited.{asked_by};
 ghost use Rattle.turn_client_proto_request.specs.ToldRequests.{IsLawfulRequest};
 ghost use Rattle.turn_client_proto_request.specs.declared.request.TurnRequest.TheVariants.{CreatePermission};
 ghost use Rattle.turn_client_proto_core.specs.Asking.{asked};
 ghost use Rattle.turn_client_proto_core.specs.Ending.{IsUnderWay};
 ghost use Rattle.turn_client_proto_core.specs.Numbering.{IsNextNumber, IsUnused, after_number};
-ghost use Rattle.turn_client_proto_core.specs.Permitting.{IsGrantedFor, IsPermissionAnswered};
-ghost use Rattle.turn_client_proto_core.specs.Permitting.{IsPermissionResponded, IsRefusedFor};
+ghost use Rattle.turn_client_proto_core.specs.Permitting.{IsGrantedFor, IsPermissionAnswered, IsPermissionResponded, IsRefusedFor};
 
 use crate::protocol::Protocol;
 use std::net::IpAddr;
@@ -21,8 +19,9 @@ use turn_client_proto_allocation::permission::PendingPermission;
 use turn_client_proto_api::Instant;
 use turn_client_proto_api::error::CreatePermissionError;
 use turn_client_proto_api::event::TurnEvent;
-use turn_client_proto_permission::awaited::{Asked, asked_by};
-use turn_client_proto_permission::{asking, granted, one};
+use turn_client_proto_channel::awaited::{Asked, asked_by};
+use turn_client_proto_channel::granted::permit;
+use turn_client_proto_channel::permission::{asking, granted, one};
 use turn_client_proto_request::laws::requests_are_lawful;
 use turn_client_proto_request::request::TurnRequest;
 
@@ -75,30 +74,31 @@ impl Protocol {
             })) }
         ensures err { OnErr result (self.new ≡ after_number self.old) }
     {
+        let request = TurnRequest::CreatePermission(ip);
+        requests_are_lawful(&request);
         let number = self.draw_number()?;
-        self.ask_by(place, ip, number, now)
+        self.ask_by(place, ip, request, number, now)
     }
 
-    /// The same, by a request of this number. Where memory is refused, nothing changes.
-    fn ask_by(
+    /// Makes a request of this number, by which a permission for an address is asked for in the
+    /// allocation at a place. Where memory is refused, nothing changes.
+    pub(crate) fn ask_by(
         &mut self,
         place: usize,
         ip: IpAddr,
+        request: TurnRequest,
         number: TransactionId,
         now: Instant,
     ) -> Result<(), NoMemory>
         requires there { place < length self.old.allocations }
         requires unused { IsUnused self.old.agent number }
-        ensures lawful { IsLawfulRequest (CreatePermission ip) }
         ensures ok { OnOk result (IfSome (slice_get self.old.allocations place) (λ a. self.new
-            ≡ record (asked self.old (CreatePermission ip) number now) {
+            ≡ record (asked self.old request number now) {
               allocations = slice_set self.old.allocations place
                   (asking (record { ip = ip; numbers = number ∷ [] }) a);
             })) }
         ensures err { OnErr result (self.new ≡ self.old) }
     {
-        let request = TurnRequest::CreatePermission(ip);
-        requests_are_lawful(&request);
         let pending = PendingPermission::new(self.alloc, ip, number)?;
         asking::ask(&mut self.allocations, place, pending)?;
         match self.ask(number, request, now) {
@@ -140,12 +140,14 @@ impl Protocol {
             return Ok(false);
         };
         match asked {
-            Asked::Lifetime(_) => Ok(false),
+            Asked::Lifetime(_) | Asked::NewChannel(_, _, _) | Asked::ChannelRenewal(_, _, _) => {
+                Ok(false)
+            }
             Asked::NewPermission(transport, ip) => {
                 self.events
                     .push_back(TurnEvent::PermissionCreated(transport, ip))?;
                 let allocations = self.allocations.as_mut_slice();
-                granted::permit(self.alloc, allocations, place, ip, number, now)?;
+                permit(self.alloc, allocations, place, ip, number, now)?;
                 Ok(true)
             }
             Asked::Renewal(_, _) => {
@@ -166,7 +168,9 @@ impl Protocol {
             return Ok(false);
         };
         match asked {
-            Asked::Lifetime(_) => Ok(false),
+            Asked::Lifetime(_) | Asked::NewChannel(_, _, _) | Asked::ChannelRenewal(_, _, _) => {
+                Ok(false)
+            }
             Asked::NewPermission(transport, ip) | Asked::Renewal(transport, ip) => {
                 self.events
                     .push_back(TurnEvent::PermissionCreateFailed(transport, ip))?;

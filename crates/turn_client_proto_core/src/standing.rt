@@ -6,10 +6,8 @@ ghost use Rattle.turn_client_proto_api.specs.Handling.{is_awaited, is_response};
 ghost use Rattle.turn_client_proto_core.specs.Ending.{IsUnderWay};
 ghost use Rattle.turn_client_proto_core.specs.Numbering.{IsNextNumber};
 ghost use Rattle.turn_client_proto_core.specs.Receiving.{GrowsBy, GrowsStanding, IsFollowed};
-ghost use Rattle.turn_client_proto_core.specs.Standing.{IsJudgedStanding, IsRechallenged};
-ghost use Rattle.turn_client_proto_core.specs.Standing.{IsTakenUp, after_refresh, asks_again};
-ghost use Rattle.turn_client_proto_core.specs.Standing.{deallocated, is_refreshed, refreshed, request_for};
-ghost use Rattle.turn_client_proto_permission.specs.Awaited.{awaits_reply};
+ghost use Rattle.turn_client_proto_core.specs.Standing.{IsJudgedStanding, IsRechallenged, IsTakenUp, after_refresh, asks_again, deallocated, is_refreshed, refreshed, request_for};
+ghost use Rattle.turn_client_proto_channel.specs.Awaited.{awaits_reply};
 ghost use Rattle.turn_client_proto_request.specs.ToldRequests.{IsLawfulRequest};
 
 use crate::protocol::{Phase, Protocol};
@@ -18,11 +16,11 @@ use stun_types::message::{Message, MessageClass, TransactionId};
 use stun_types::registry::ALLOCATION_MISMATCH;
 use turn_client_proto_api::Instant;
 use turn_client_proto_api::auth::{LongTermClientAuthError, LongTermClientValidation};
-use turn_client_proto_permission::awaited::{Asked, ask_too, asked_by};
+use turn_client_proto_channel::awaited::{Asked, ask_too, asked_by};
 use turn_client_proto_request::laws::requests_are_lawful;
 use turn_client_proto_request::request::TurnRequest;
 use turn_client_proto_response::told::{first_code, lifetime_told};
-use turn_types::message::{CREATE_PERMISSION, REFRESH};
+use turn_types::message::{CHANNEL_BIND, CREATE_PERMISSION, REFRESH};
 
 /// Whether a REFRESH is granted by its response: by a success, or by the error that there is no
 /// allocation.
@@ -36,12 +34,15 @@ fn is_refreshed(message: &Message<'_>) -> bool
 }
 
 /// The request by which something is asked for.
-fn request_for(asked: Asked) -> TurnRequest
-    ensures { result ≡ request_for asked }
+fn request_for(asked: &Asked) -> TurnRequest
+    ensures { result ≡ request_for asked.now }
 {
     match asked {
-        Asked::Lifetime(lifetime) => TurnRequest::Refresh(lifetime),
-        Asked::NewPermission(_, ip) | Asked::Renewal(_, ip) => TurnRequest::CreatePermission(ip),
+        Asked::Lifetime(lifetime) => TurnRequest::Refresh(*lifetime),
+        Asked::NewChannel(_, channel, peer) | Asked::ChannelRenewal(_, channel, peer) => {
+            TurnRequest::ChannelBind(channel.number(), *peer)
+        }
+        Asked::NewPermission(_, ip) | Asked::Renewal(_, ip) => TurnRequest::CreatePermission(*ip),
     }
 }
 
@@ -103,7 +104,7 @@ impl Protocol {
         ensures err { OnErr result (IsUnderWay self.old self.new) }
     {
         let number = self.draw_number()?;
-        let request = request_for(asked);
+        let request = request_for(&asked);
         requests_are_lawful(&request);
         self.ask(number, request, now)?;
         ask_too(self.allocations.as_mut_slice(), place, asked, old, number)?;
@@ -128,6 +129,9 @@ impl Protocol {
         }
         if message.method() == CREATE_PERMISSION {
             return self.take_permission(message, now);
+        }
+        if message.method() == CHANNEL_BIND {
+            return self.take_channel(message, now);
         }
         Ok(false)
     }

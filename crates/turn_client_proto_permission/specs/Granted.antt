@@ -1,12 +1,10 @@
 -- What the response to a CREATE_PERMISSION makes of permissions (RFC 8656, section 10.3).
-use Rattle.std.specs.Prelude.{ℕ, List, [], ◌∷◌, ◌++◌, map}
+use Rattle.std.specs.Prelude.{ℕ, [], ◌∷◌, ◌++◌, map}
 use Rattle.std.specs.declared.net.ip_addr.IpAddr.{IpAddr}
 use Rattle.turn_client_proto_api.specs.Moments.{moment_after}
-use Rattle.turn_client_proto_allocation.specs.Changes.{change_first}
 use Rattle.turn_client_proto_allocation.specs.Permissions.{not_asked_by, not_renewed_by, permission_lifetime, renewed_permission}
 use Rattle.turn_client_proto_allocation.specs.declared.allocation.Allocation.{Allocation}
 use Rattle.turn_client_proto_allocation.specs.declared.permission.Permission.{Permission}
-use Rattle.turn_client_proto_permission.specs.Awaited.{awaits_reply}
 
 -- the end of a permission that is granted at a moment
 abbrev pub permission_end : ℕ → ℕ
@@ -22,10 +20,6 @@ permitted ip number now a = record a {
   permissions = a.permissions ++ granted_for ip now ∷ [];
   pending_permissions = not_asked_by number a.pending_permissions;
 }
-
--- the first allocation that awaits the response to the request of a number permits an address
-abbrev pub all_permitted : IpAddr → (number now : ℕ) → List Allocation → List Allocation
-all_permitted ip number now allocations = change_first (awaits_reply number) (permitted ip number now) allocations
 
 -- an allocation after the request of a number was granted: the permissions that it was to renew stand on
 unfoldable pub renewed : (number now : ℕ) → Allocation → Allocation

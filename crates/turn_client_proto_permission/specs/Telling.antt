@@ -1,13 +1,11 @@
--- What becomes of permissions as time goes on (RFC 8656, section 9), and what is told of it.
-use Rattle.std.specs.Prelude.{ℕ, min, List, ◌++◌, map, filter, fold, Option}
+-- What becomes of permissions as time goes on (RFC 8656, section 9).
+use Rattle.std.specs.Prelude.{ℕ, min, List, map, filter, fold, Option}
 use Rattle.std.specs.List.{flat_map}
 use Rattle.std.specs.declared.net.ip_addr.IpAddr.{IpAddr}
 use Rattle.turn_client_proto_allocation.specs.Permissions.{has_lapsed, is_over, next_of_permission, not_over, polled_permissions}
 use Rattle.turn_client_proto_allocation.specs.declared.allocation.Allocation.{Allocation}
 use Rattle.turn_client_proto_allocation.specs.declared.permission.PendingPermission.{PendingPermission}
 use Rattle.turn_client_proto_allocation.specs.declared.permission.Permission.{Permission}
-use Rattle.turn_client_proto_api.specs.declared.event.TurnEvent.{TurnEvent}
-use Rattle.turn_client_proto_api.specs.declared.event.TurnEvent.TheVariants.{PermissionCreateFailed}
 
 -- the addresses whose permissions were asked for, and whose request ended without a response
 abbrev pub addresses_over : Option ℕ → List PendingPermission → List IpAddr
@@ -16,14 +14,6 @@ addresses_over ended pending = map (λ p. p.ip) (filter (is_over ended) pending)
 -- the addresses whose permissions have lapsed
 abbrev pub addresses_lapsed : ℕ → List Permission → List IpAddr
 addresses_lapsed now permissions = map (λ p. p.ip) (filter (has_lapsed now) permissions)
-
--- what is told of an allocation: the requests that ended, and then the permissions that lapsed
-unfoldable pub failures : Option ℕ → ℕ → Allocation → List TurnEvent
-failures ended now a = map (PermissionCreateFailed a.transport) (addresses_over ended a.pending_permissions)
-    ++ map (PermissionCreateFailed a.transport) (addresses_lapsed now a.permissions)
-
-abbrev pub all_failures : Option ℕ → ℕ → List Allocation → List TurnEvent
-all_failures ended now allocations = flat_map (failures ended now) allocations
 
 -- an allocation with the permissions that are left, and with those whose request may still be answered
 unfoldable pub polled : Option ℕ → ℕ → Allocation → Allocation

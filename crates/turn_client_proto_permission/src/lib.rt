@@ -4,9 +4,12 @@
 #![tactic(auto)]
 
 pub mod asking;
-pub mod awaited;
 pub mod granted;
 pub mod one;
 pub mod shown;
 pub mod telling;
 pub mod wanting;
+
+// What stands above this crate has these through it.
+pub use turn_client_proto_api as api;
+pub use turn_client_proto_queue as queue;

@@ -1,16 +1,10 @@
 //! The permissions of one allocation.
 
-ghost use Rattle.std.specs.Prelude.{◌≡◌, OnOk, OnErr, find};
-ghost use Rattle.std.specs.Option.{option_map};
-ghost use Rattle.turn_client_proto_allocation.specs.Permissions.{wants_renewal};
-ghost use Rattle.turn_client_proto_allocation.specs.declared.permission.Permission.{Permission as Standing};
-ghost use Rattle.turn_client_proto_allocation.specs.Refreshing.{wants_refresh};
+ghost use Rattle.std.specs.Prelude.{◌≡◌, OnOk, OnErr};
 ghost use Rattle.turn_client_proto_permission.specs.Asking.{asks_for, is_of, is_past, knows, permits, permits_over};
 ghost use Rattle.turn_client_proto_permission.specs.Granted.{permission_end, permitted, renewed, turned_down};
 ghost use Rattle.turn_client_proto_permission.specs.Telling.{polled};
-ghost use Rattle.turn_client_proto_permission.specs.Wanting.{renewal_wanted, want, wants};
 
-use crate::wanting::Want;
 use std::alloc::Global;
 use std::net::IpAddr;
 use std::time::Duration;
@@ -76,7 +70,7 @@ pub(crate) fn permits_over(a: &Allocation, transport: TransportType, ip: IpAddr)
 
 /// A permission for an address was granted, for which the request of this number asks. Where memory
 /// is refused, nothing changes.
-pub(crate) fn permit(
+pub fn permit(
     alloc: Global,
     a: &mut Allocation,
     ip: IpAddr,
@@ -121,45 +115,4 @@ pub(crate) fn poll(a: &mut Allocation, ended: &Option<TransactionId>, now: Insta
     a.permissions.retain(|p| !p.has_lapsed(now));
     permissions::poll(a.permissions.as_mut_slice(), ended);
     a.pending_permissions.retain(|p| !p.is_over(ended));
-}
-
-/// The address of the first permission that is to be renewed at a moment.
-fn first_renewal(permissions: &[Permission], now: Instant) -> Option<IpAddr>
-    ensures { result ≡ option_map (λ (p : Standing). p.ip)
-        (find (wants_renewal now) permissions.now) }
-{
-    let found = permissions.iter().find(|p| p.wants_renewal(now))?;
-    Some(found.ip)
-}
-
-/// The address of the first permission that is to be renewed at a moment, where the allocation
-/// stands.
-#[tactic(auto, unfolding(crate::specs::Wanting::renewal_wanted))]
-fn renewal_wanted(a: &Allocation, now: Instant) -> Option<IpAddr>
-    ensures { result ≡ renewal_wanted now a.now }
-{
-    if !a.is_expired && now <= a.expiry {
-        first_renewal(a.permissions.as_slice(), now)
-    } else {
-        None
-    }
-}
-
-/// What is to be sent for an allocation at a moment.
-#[tactic(auto, unfolding(crate::specs::Wanting::want))]
-pub(crate) fn want(a: &Allocation, now: Instant) -> Option<Want>
-    ensures { result ≡ want now a.now }
-{
-    if a.wants_refresh(now) {
-        return Some(Want::Refresh);
-    }
-    let ip = renewal_wanted(a, now)?;
-    Some(Want::Permission(ip))
-}
-
-/// Whether something is to be sent for an allocation at a moment.
-pub(crate) fn wants(a: &Allocation, now: Instant) -> bool
-    ensures { result ≡ wants now a.now }
-{
-    want(a, now).is_some()
 }

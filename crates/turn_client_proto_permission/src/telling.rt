@@ -3,7 +3,7 @@
 ghost use Rattle.std.specs.Prelude.{◌≡◌, ◌≢◌, ◌++◌, [], OnOk, OnErr, length, map, take};
 ghost use Rattle.turn_client_proto_api.specs.Least.{IsLeastOf};
 ghost use Rattle.turn_client_proto_api.specs.declared.event.TurnEvent.TheVariants.{PermissionCreateFailed};
-ghost use Rattle.turn_client_proto_permission.specs.Telling.{addresses_lapsed, addresses_over, all_failures, all_nexts, earlier_of, failures, polled};
+ghost use Rattle.turn_client_proto_permission.specs.Telling.{addresses_lapsed, addresses_over, all_nexts, earlier_of, polled};
 
 use crate::one;
 use stun_types::message::TransactionId;
@@ -15,9 +15,10 @@ use turn_client_proto_api::event::TurnEvent;
 use turn_client_proto_queue::queue::QueueOf;
 
 /// Tells the permissions whose request ended without a response. Where memory is refused,
-/// `NoMemory`, and the events that were there still come first.
+/// `NoMemory`, and the events that were there still come first. It is refused only where there is
+/// something to tell.
 #[tactic(auto, using(crate::proofs::Fronts::fronts))]
-fn tell_over(
+pub fn tell_over(
     events: &mut QueueOf<TurnEvent>,
     transport: TransportType,
     pending: &[PendingPermission],
@@ -37,9 +38,9 @@ fn tell_over(
 }
 
 /// Tells the permissions that have lapsed. Where memory is refused, `NoMemory`, and the events that
-/// were there still come first.
+/// were there still come first. It is refused only where there is something to tell.
 #[tactic(auto, using(crate::proofs::Fronts::fronts))]
-fn tell_lapsed(
+pub fn tell_lapsed(
     events: &mut QueueOf<TurnEvent>,
     transport: TransportType,
     permissions: &[Permission],
@@ -54,44 +55,6 @@ fn tell_lapsed(
         if permission.has_lapsed(now) {
             events.push_back(TurnEvent::PermissionCreateFailed(transport, permission.ip))?;
         }
-    }
-    Ok(())
-}
-
-/// Tells the permissions of an allocation that go. Where memory is refused, `NoMemory`, and the
-/// events that were there still come first.
-#[tactic(auto, using(crate::proofs::Fronts::fronts), unfolding(crate::specs::Telling::failures))]
-fn tell_of(
-    events: &mut QueueOf<TurnEvent>,
-    a: &Allocation,
-    ended: &Option<TransactionId>,
-    now: Instant,
-) -> Result<(), NoMemory>
-    ensures ok { OnOk result (events.new ≡ events.old ++ failures ended.now now a.now) }
-    ensures err { OnErr result (take (length events.old) events.new ≡ events.old) }
-    ensures told { OnErr result (failures ended.now now a.now ≢ []) }
-{
-    tell_over(events, a.transport, a.pending_permissions.as_slice(), ended)?;
-    tell_lapsed(events, a.transport, a.permissions.as_slice(), now)
-}
-
-/// Tells the permissions that go, of each allocation: those whose request ended without a response,
-/// and then those that have lapsed. Where memory is refused, `NoMemory`, and the events that were
-/// there still come first. It is refused only where there is something to tell.
-#[tactic(auto, using(crate::proofs::Fronts::fronts))]
-pub fn tell_failures(
-    events: &mut QueueOf<TurnEvent>,
-    allocations: &[Allocation],
-    ended: &Option<TransactionId>,
-    now: Instant,
-) -> Result<(), NoMemory>
-    ensures ok { OnOk result (events.new
-        ≡ events.old ++ all_failures ended.now now allocations.now) }
-    ensures err { OnErr result (take (length events.old) events.new ≡ events.old) }
-    ensures told { OnErr result (all_failures ended.now now allocations.now ≢ []) }
-{
-    for allocation in allocations {
-        tell_of(events, allocation, ended, now)?;
     }
     Ok(())
 }

@@ -1,11 +1,12 @@
 -- Nothing is sent before the moment until which a client waits.
 use Rattle.std.proofs.Common.{◌≡◌, ℕ, suc, ◌<◌, ◌≤◌, arith, Bool, true, false, List, [], ◌∷◌, ◌++◌, Option, Some, None, cond, zero, refl, sym, ap, ◌∙◌, subst, map}
 use Rattle.std.specs.Prelude.{find, is_some, nat_le, nat_lt, not, ◌&&◌, max, min, if◌then◌else◌}
-use Rattle.std.specs.Option.{option_and_then, option_map}
+use Rattle.std.specs.Option.{option_and_then, option_map, option_or}
 use Rattle.std.specs.Bool.{MatchBool}
 use Rattle.std.specs.List.{All, cons_option, filter_map}
 use Rattle.std.proofs.lemmas.Bool.{and_right, lt-leb, ltb-false}
 use Rattle.std.specs.FinMap as finite
+use Rattle.std.specs.declared.net.socket_addr.SocketAddr.{SocketAddr}
 use Rattle.turn_client_proto_core.specs.Agents.{Transaction, is_ended}
 use Rattle.turn_client_proto_core.specs.AgentPolls.{StunAgentPollRet, TransactionCancelled, TransactionTimedOut, WaitUntil}
 use Rattle.turn_client_proto_core.specs.Moments.{moment_after}
@@ -14,10 +15,16 @@ use Rattle.turn_client_proto_core.specs.State as agents
 use Rattle.turn_client_proto_core.specs.Allocation.Awaited.{is_among}
 use Rattle.turn_client_proto_core.specs.Allocation.Permissions.{are_none, has_lapsed, next_of_permission, permission_renewal, polled_permission, polled_permissions, standing, wants_renewal}
 use Rattle.turn_client_proto_core.specs.Allocation.declared.permission.Permission.{Permission}
+use Rattle.turn_client_proto_core.specs.Allocation.declared.channel.Channel.{Channel}
+use Rattle.turn_client_proto_core.specs.Channel.Channels as channel
+use Rattle.turn_client_proto_core.specs.Channel.Lapsing as channels
+use Rattle.turn_client_proto_core.specs.Channel.Wanting as bindings
 use Rattle.turn_client_proto_core.specs.Permission.Telling as permissions
-use Rattle.turn_client_proto_core.specs.Permission.Wanting.{renewal_wanted, stands, want, wanted, wants}
-use Rattle.turn_client_proto_core.specs.Permission.declared.wanting.Want.{Want}
-use Rattle.turn_client_proto_core.specs.Permission.declared.wanting.Want.TheVariants.{Refresh, Permission as Renewal}
+use Rattle.turn_client_proto_core.specs.Permission.Wanting.{renewal_wanted, stands}
+use Rattle.turn_client_proto_poll.specs.Telling as telling
+use Rattle.turn_client_proto_poll.specs.Wanting.{channel_wanted, permission_wanted, want, wanted, wants}
+use Rattle.turn_client_proto_poll.specs.declared.wanting.Want.{Want}
+use Rattle.turn_client_proto_poll.specs.declared.wanting.Want.TheVariants.{Refresh, Channel as Binding, Permission as Renewal}
 use Rattle.turn_client_proto_core.specs.Allocation.Polling.{has_ended, kept, next_of, polled}
 use Rattle.turn_client_proto_core.specs.Allocation.Refreshing.{is_settled, renewal, wants_refresh}
 use Rattle.turn_client_proto_core.specs.Allocation.declared.allocation.Allocation.{Allocation}
@@ -104,6 +111,49 @@ module _ (earliest ready now moment : ℕ) (begins : ready ≤ moment) (before :
         | false ↦ later_ones
       ]
 
+  -- ---- channels
+
+  -- a channel that has nothing to do stands on, and isn't to be renewed
+  not_bound_again : (c : Channel) → earliest ≤ channel.next_of_channel None ready now c → (channel.has_lapsed now c ≡ false) × (channel.wants_renewal moment c ≡ false)
+  unfolding channel.next_of_channel
+  not_bound_again c within =
+      elim c.renewals as (λ (rs : List ℕ).
+      earliest ≤ (if channel.has_lapsed now c then now else (if is_among None rs then ready else (if are_none rs then max (channel.channel_renewal c) ready else c.expiry)))
+      → (channel.has_lapsed now c ≡ false) × ((nat_le moment c.expiry && (are_none rs && nat_le (channel.channel_renewal c) moment)) ≡ false)) [
+        | [] ↦ elim (channel.has_lapsed now c) as (λ (b : Bool). earliest ≤ (if b then now else max (channel.channel_renewal c) ready) → (b ≡ false) × ((nat_le moment c.expiry && nat_le (channel.channel_renewal c) moment) ≡ false)) [
+          | true ↦ λ short. absurd (omega (arith, short, later))
+          | false ↦ λ long.
+              let less : moment < channel.channel_renewal c = omega (arith, long, begins, before) in
+              (refl, and_right (nat_le moment c.expiry) (nat_le (channel.channel_renewal c) moment) (lt-leb (channel.channel_renewal c) moment less))
+        ]
+        | r ∷ rs ↦ elim (channel.has_lapsed now c) as (λ (b : Bool). earliest ≤ (if b then now else c.expiry) → (b ≡ false) × ((nat_le moment c.expiry && false) ≡ false)) [
+          | true ↦ λ short. absurd (omega (arith, short, later))
+          | false ↦ λ long. (refl, and_right (nat_le moment c.expiry) false refl)
+        ]
+      ] within
+
+  -- none of the channels lapses
+  none_lapses : (all : List Channel) → All (λ n. earliest ≤ n) (map (channel.next_of_channel None ready now) all) → channels.last_place (channel.has_lapsed now) all ≡ None
+  none_lapses [] every = refl
+  none_lapses (c ∷ rest) every =
+      let none = none_lapses rest (behind_head (channel.next_of_channel None ready now c) (map (channel.next_of_channel None ready now) rest) every) in
+      let not_it = (not_bound_again c (every 0 0 (omega arith))).0 in
+      rw (none, not_it) refl
+
+  -- and none is to be renewed
+  none_bound_again : (all : List Channel) → All (λ n. earliest ≤ n) (map (channel.next_of_channel None ready now) all) → find (channel.wants_renewal moment) (map (channel.polled_channel None) all) ≡ None
+  unfolding channel.polled_channel
+  none_bound_again [] every = refl
+  none_bound_again (c ∷ rest) every =
+      let later_ones = none_bound_again rest (behind_head (channel.next_of_channel None ready now c) (map (channel.next_of_channel None ready now) rest) every) in
+      ap (λ (b : Bool). cond b (Some c) (find (channel.wants_renewal moment) (map (channel.polled_channel None) rest))) (not_bound_again c (every 0 0 (omega arith))).1 ∙ later_ones
+
+  none_bound_left : (all : List Channel) → All (λ n. earliest ≤ n) (map (channel.next_of_channel None ready now) all)
+      → find (channel.wants_renewal moment) (map (channel.polled_channel None) (channels.without all (channels.last_place (channel.has_lapsed now) all))) ≡ None
+  none_bound_left all every =
+      ap (λ (o : Option ℕ). find (channel.wants_renewal moment) (map (channel.polled_channel None) (channels.without all o))) (none_lapses all every)
+      ∙ none_bound_again all every
+
 module _ (next ready now moment : ℕ) (begins : ready ≤ moment) (before : moment < next) where
   not_due : (a : Allocation) (rest : List ℕ) → All (λ n. next ≤ n) (cons_option (next_of None ready now a) rest) → wants_refresh moment (polled None a) ≡ false
   unfolding next_of wants_refresh polled
@@ -123,15 +173,18 @@ module _ (next ready now moment : ℕ) (begins : ready ≤ moment) (before : mom
   behind_first None rest all = all
   behind_first (Some n) rest all = λ k d less. all (suc k) d (omega (arith, less))
 
-  -- nothing is to be sent for one allocation: it is not to be renewed, and none of its permissions is
-  nothing_wanted : (a : Allocation) → wants_refresh moment a ≡ false → find (wants_renewal moment) (polled_permissions None now a.permissions) ≡ None → want moment (permissions.polled None now a) ≡ None
-  unfolding want renewal_wanted wants_refresh permissions.polled renewal
-  nothing_wanted a not_it none =
-      ap (λ (b : Bool). if b then Some Refresh else option_map Renewal (renewal_wanted moment (permissions.polled None now a))) not_it
-      ∙ ap (λ (o : Option Permission). option_map Renewal (if stands moment a then option_map (λ (p : Permission). p.ip) o else None)) none
+  -- nothing is to be sent for one allocation: it is not to be renewed, and none of its channels and permissions is
+  nothing_wanted : (a : Allocation) → wants_refresh moment a ≡ false
+      → find (channel.wants_renewal moment) (map (channel.polled_channel None) (channels.without a.channels (channels.last_place (channel.has_lapsed now) a.channels))) ≡ None
+      → find (wants_renewal moment) (polled_permissions None now a.permissions) ≡ None → want moment (telling.polled None now a) ≡ None
+  unfolding want renewal_wanted bindings.renewal_wanted wants_refresh permissions.polled channels.polled channels.lapsed renewal
+  nothing_wanted a not_it no_channel no_permission =
+      ap (λ (b : Bool). if b then Some Refresh else option_or (channel_wanted moment (telling.polled None now a)) (permission_wanted moment (telling.polled None now a))) not_it
+      ∙ ap (λ (o : Option Channel). option_or (option_map (λ (c : ℕ × SocketAddr). Binding c.0 c.1) (if stands moment a then option_map (λ (c : Channel). (c.number, c.peer)) o else None)) (permission_wanted moment (telling.polled None now a))) no_channel
+      ∙ ap (λ (o : Option Permission). option_or (option_map (λ (c : ℕ × SocketAddr). Binding c.0 c.1) (if stands moment a then None else None)) (option_map Renewal (if stands moment a then option_map (λ (p : Permission). p.ip) o else None))) no_permission
       ∙ neither (stands moment a)
     where
-      neither : (b : Bool) → option_map Renewal (if b then None else None) ≡ None
+      neither : (b : Bool) → option_or (option_map (λ (c : ℕ × SocketAddr). Binding c.0 c.1) (if b then None else None)) (option_map Renewal (if b then None else None)) ≡ None
       neither true = refl
       neither false = refl
 
@@ -145,16 +198,22 @@ module _ (next ready now moment : ℕ) (begins : ready ≤ moment) (before : mom
       first n one here there zero d less = here
       first n one here there (suc k) d less = there k d (omega (arith, less))
 
-  module _ (earliest : ℕ) (sooner : moment < earliest) (later : now < earliest) where
-    pub none_due : (all : List Allocation) → All (λ n. next ≤ n) (filter_map (next_of None ready now) all) → All (λ n. earliest ≤ n) (permissions.all_nexts None ready now (map (polled None) all))
-        → find (wants moment) (map (permissions.polled None now) (map (polled None) all)) ≡ None
+  module _ (sooner earliest : ℕ) (before_permissions : moment < sooner) (later_permissions : now < sooner) (before_channels : moment < earliest) (later_channels : now < earliest) where
+    pub none_due : (all : List Allocation) → All (λ n. next ≤ n) (filter_map (next_of None ready now) all)
+        → All (λ n. sooner ≤ n) (permissions.all_nexts None ready now (map (polled None) all))
+        → All (λ n. earliest ≤ n) (channels.all_nexts None ready now (map (polled None) all))
+        → find (wants moment) (map (telling.polled None now) (map (polled None) all)) ≡ None
     unfolding polled
-    none_due [] every every_permission = refl
-    none_due (a ∷ rest) every every_permission =
-        let both = front_of_both earliest (permissions.nexts None ready now a) (permissions.all_nexts None ready now (map (polled None) rest)) every_permission in
-        let none = nothing_wanted a (not_due a (filter_map (next_of None ready now) rest) every) (none_renewed earliest ready now moment begins sooner later a.permissions both.0) in
-        ap (λ (o : Option Want). cond (is_some o) (Some (permissions.polled None now a)) (find (wants moment) (map (permissions.polled None now) (map (polled None) rest)))) none
-        ∙ none_due rest (behind_first (next_of None ready now a) (filter_map (next_of None ready now) rest) every) both.1
+    none_due [] every every_permission every_channel = refl
+    none_due (a ∷ rest) every every_permission every_channel =
+        let left = map (polled None) rest in
+        let of_permissions = front_of_both sooner (permissions.nexts None ready now a) (permissions.all_nexts None ready now left) every_permission in
+        let of_channels = front_of_both earliest (channels.nexts None ready now a) (channels.all_nexts None ready now left) every_channel in
+        let none = nothing_wanted a (not_due a (filter_map (next_of None ready now) rest) every)
+        (none_bound_left earliest ready now moment begins before_channels later_channels a.channels of_channels.0)
+        (none_renewed sooner ready now moment begins before_permissions later_permissions a.permissions of_permissions.0) in
+        ap (λ (o : Option Want). cond (is_some o) (Some (telling.polled None now a)) (find (wants moment) (map (telling.polled None now) left))) none
+        ∙ none_due rest (behind_first (next_of None ready now a) (filter_map (next_of None ready now) rest) every) of_permissions.1 of_channels.1
 
 ready_by : (last : Option ℕ) (now moment : ℕ) → now ≤ moment → is_resting last moment ≡ false → ready_after last now ≤ moment
 ready_by None now moment from free = from
@@ -226,12 +285,16 @@ module _ (quiet : AgentsWait) (old new after : Protocol) (now until moment : ℕ
         let most = no_longer (left None now ticked) polling.earliest polling.outcome.0 in
         let least = polling.least.within in
         let least_of_permissions = polling.least_of_permissions.within in
-        let within : until ≤ min pause wait = omega (arith, most, least, least_of_permissions) in
-        let sooner : moment < polling.earliest = omega (arith, before, most) in
-        let before_next : moment < polling.next = omega (arith, sooner, least_of_permissions) in
-        let longer : now < polling.earliest = omega (arith, later, most) in
+        let least_of_channels = polling.least_of_channels.within in
+        let within : until ≤ min pause wait = omega (arith, most, least, least_of_permissions, least_of_channels) in
+        let before_channels : moment < polling.earliest = omega (arith, before, most) in
+        let before_permissions : moment < polling.sooner = omega (arith, before_channels, least_of_channels) in
+        let before_next : moment < polling.next = omega (arith, before_permissions, least_of_permissions) in
+        let later_channels : now < polling.earliest = omega (arith, later, most) in
+        let later_permissions : now < polling.sooner = omega (arith, later_channels, least_of_channels) in
         same_client p polling.outcome.1 (by_draw p after moment sent (agent_quiet within) (λ free going.
-        let none = none_due polling.next (ready_after old.last_send now) now moment (ready_by old.last_send now moment from free) before_next polling.earliest sooner longer all polling.least.below polling.least_of_permissions.below in
+        let none = none_due polling.next (ready_after old.last_send now) now moment (ready_by old.last_send now moment from free) before_next polling.sooner polling.earliest
+        before_permissions later_permissions before_channels later_channels all polling.least.below polling.least_of_permissions.below polling.least_of_channels.below in
         let begun : IsRenewed (wanted moment p.allocations) p moment sent after = begun_by p after moment sent Authenticated is (empty_queue within free) going in
         subst (λ (o : Option Want). IsRenewed o p moment sent after) (ap (option_and_then (want moment)) none) begun))
 

@@ -1,4 +1,4 @@
--- What a client sends (RFC 8489, section 6.2.1; RFC 8656, sections 7.1 and 8.1).
+-- What a client sends (RFC 8489, section 6.2.1; RFC 8656, sections 7.1, 8.1, 10.1 and 12.1).
 use Rattle.std.specs.Prelude.{◌≡◌, ◌≢◌, ◌⊎◌, ℕ, nat_lt, Bool, false, List, [], ◌∷◌, Option, Some, None, MatchOption}
 use Rattle.std.specs.Bool.{MatchBool}
 use Rattle.std.specs.declared.net.ip_addr.IpAddr.{IpAddr}
@@ -13,16 +13,16 @@ use Rattle.stun_types.specs.declared.data.Data.{Data}
 use Rattle.stun_types.specs.declared.transmit.Transmit.{Transmit}
 use Rattle.stun_types.specs.declared.transport.TransportType.{TransportType}
 use Rattle.turn_client_proto_core.specs.Allocation.declared.allocation.Allocation.{Allocation}
-use Rattle.turn_client_proto_core.specs.Permission.Wanting.{refreshed_first, renewal_first, wanted}
-use Rattle.turn_client_proto_core.specs.Permission.declared.wanting.Want.{Want}
-use Rattle.turn_client_proto_core.specs.Permission.declared.wanting.Want.TheVariants.{Refresh, Permission}
 use Rattle.turn_client_proto_core.specs.Request.Requests.{allocation_lifetime, request_text}
 use Rattle.turn_client_proto_core.specs.Request.declared.request.TurnRequest.{TurnRequest}
-use Rattle.turn_client_proto_core.specs.Request.declared.request.TurnRequest.TheVariants.{CreatePermission, FirstAllocate}
+use Rattle.turn_client_proto_core.specs.Request.declared.request.TurnRequest.TheVariants.{ChannelBind, CreatePermission, FirstAllocate}
 use Rattle.turn_client_proto_core.specs.Request.declared.request.TurnRequest.TheVariants.{Refresh as RefreshRequest}
 use Rattle.turn_client_proto_core.specs.Request.ToldRequests.{IsLawfulRequest}
 use Rattle.turn_client_proto_core.specs.Numbering.{IsNextNumber, after_number}
 use Rattle.turn_client_proto_poll.specs.Polling.{cadence}
+use Rattle.turn_client_proto_poll.specs.Wanting.{channel_renewal_first, refreshed_first, renewal_first, wanted}
+use Rattle.turn_client_proto_poll.specs.declared.wanting.Want.{Want}
+use Rattle.turn_client_proto_poll.specs.declared.wanting.Want.TheVariants.{Refresh, Channel, Permission}
 use Rattle.turn_client_proto_core.specs.Waiting.{Queued}
 use Rattle.turn_client_proto_core.specs.declared.protocol.Phase.{Phase}
 use Rattle.turn_client_proto_core.specs.declared.protocol.Phase.TheVariants.{Initial, InitialSent, Authenticated}
@@ -125,6 +125,19 @@ pub record IsRenewalSent (old : Protocol) (ip : IpAddr) (now : ℕ) (sent : Sent
   pub made : IsMade old (CreatePermission ip) number sent
   pub after : new ≡ after_sending now (first_permitted ip number now old)
 
+-- a CHANNEL_BIND for the first channel that is to be renewed
+unfoldable pub first_bound : (channel : ℕ) → SocketAddr → ℕ → ℕ → Protocol → Protocol
+first_bound channel peer number now p = record (sent_at_once (after_number p) (ChannelBind channel peer) number now) {
+  allocations = channel_renewal_first now number p.allocations;
+}
+
+pub record IsChannelRenewalSent (old : Protocol) (channel : ℕ) (peer : SocketAddr) (now : ℕ) (sent : Sent)
+    (new : Protocol) : Type 0 where
+  pub number : ℕ
+  pub lawful : IsLawfulRequest (ChannelBind channel peer)
+  pub made : IsMade old (ChannelBind channel peer) number sent
+  pub after : new ≡ after_sending now (first_bound channel peer number now old)
+
 -- ---- all of it
 
 -- nothing is sent, and nothing changes
@@ -135,10 +148,12 @@ IsStill old answer new = (answer ≡ None) × (new ≡ old)
 abbrev pub Sends : Option Sent → (Sent → Type 0) → Type 0
 Sends answer Is = MatchOption answer ⊥ Is
 
--- by what is to be renewed: an allocation, or a permission of an address
+-- by what is to be renewed: an allocation, a channel to a peer, or a permission of an address
 abbrev pub IsRenewed : Option Want → Protocol → ℕ → Option Sent → Protocol → Type 0
 IsRenewed None old now answer new = IsStill old answer new
 IsRenewed (Some Refresh) old now answer new = Sends answer (λ sent. IsRefreshSent old now sent new)
+IsRenewed (Some (Channel channel peer)) old now answer new =
+    Sends answer (λ sent. IsChannelRenewalSent old channel peer now sent new)
 IsRenewed (Some (Permission ip)) old now answer new = Sends answer (λ sent. IsRenewalSent old ip now sent new)
 
 -- by how far the client is: the first ALLOCATE, or what is to be renewed

@@ -1,9 +1,12 @@
 pub mod Drawing
 pub mod Polling
+pub mod Telling
+pub mod Wanting
 -- What stands above this crate has these through it.
 pub use Rattle.turn_client_proto_core.specs as Core
 pub use Rattle.turn_client_proto_core.specs.Allocation
 pub use Rattle.turn_client_proto_core.specs.Api
+pub use Rattle.turn_client_proto_core.specs.Channel
 pub use Rattle.turn_client_proto_core.specs.Permission
 pub use Rattle.turn_client_proto_core.specs.Request
 pub use Rattle.turn_client_proto_core.specs.Response

@@ -11,12 +11,14 @@ use Rattle.turn_client_proto_core.specs.Allocation.declared.allocation.Allocatio
 use Rattle.turn_client_proto_core.specs.Api.declared.answer.TurnPollRet.{TurnPollRet}
 use Rattle.turn_client_proto_core.specs.Api.declared.answer.TurnPollRet.TheVariants as answer
 use Rattle.turn_client_proto_core.specs.Api.declared.event.TurnEvent.{TurnEvent}
+use Rattle.turn_client_proto_core.specs.Channel.Lapsing as channels
 use Rattle.turn_client_proto_core.specs.Permission.Telling as permissions
 use Rattle.turn_client_proto_core.specs.Ending.{HasFailed, ended}
 use Rattle.turn_client_proto_core.specs.Waiting.{Queued}
 use Rattle.turn_client_proto_core.specs.declared.protocol.Phase.{Phase}
 use Rattle.turn_client_proto_core.specs.declared.protocol.Phase.TheVariants.{Initial, InitialSent, Authenticating, Authenticated, Ended}
 use Rattle.turn_client_proto_core.specs.declared.protocol.Protocol.{Protocol}
+use Rattle.turn_client_proto_poll.specs.Telling as telling
 
 -- messages are sent this far apart, in nanoseconds
 abbrev pub cadence : ℕ
@@ -79,22 +81,26 @@ answer_of (a ∷ rest) over now wait = waits_until over now (max wait now)
 abbrev pub left : Option ℕ → ℕ → Protocol → List Allocation
 left over now p = map (polled over) (kept over now p.allocations)
 
--- a client with the allocations and the permissions that are left, after the permissions that are gone were told
+-- a client with the allocations that are left, and with their permissions and channels that are, after those that are
+-- gone were told
 unfoldable pub after_time : Option ℕ → ℕ → Protocol → Protocol
 after_time over now p = record p {
-  allocations = map (permissions.polled over now) (left over now p);
-  events = p.events ++ permissions.all_failures over now (left over now p);
+  allocations = map (telling.polled over now) (left over now p);
+  events = p.events ++ telling.all_failures over now (left over now p);
 }
 
--- the earliest moment at which an allocation that is left, or the client, has something to do; and then that at which a
--- permission has
+-- the earliest moment at which an allocation that is left, or the client, has something to do; then that at which a
+-- permission has, too; and then that at which a channel has, too
 pub record IsPolledStanding (over : Option ℕ) (wait : ℕ) (p : Protocol) (now : ℕ) (ret : TurnPollRet) (new : Protocol)
     : Type 0 where
   pub next : ℕ
   pub least : IsLeastOf wait (nexts over (ready_after p.last_send now) now (kept over now p.allocations)) next
-  pub earliest : ℕ
+  pub sooner : ℕ
   pub least_of_permissions : IsLeastOf next
-      (permissions.all_nexts over (ready_after p.last_send now) now (left over now p)) earliest
+      (permissions.all_nexts over (ready_after p.last_send now) now (left over now p)) sooner
+  pub earliest : ℕ
+  pub least_of_channels : IsLeastOf sooner
+      (channels.all_nexts over (ready_after p.last_send now) now (left over now p)) earliest
   pub outcome : Answers (answer_of (left over now p) over now earliest) (after_time over now p) ret new
 
 -- by how far the client is
@@ -123,12 +129,12 @@ IsPolledBy (e ∷ events) old now ret new = Answers (answer.WaitUntil now) old r
 -- ---- when memory may be refused
 
 -- what is to be told where a transaction may have ended, by how far the client is: that no address is allocated, where
--- it was an ALLOCATE; or that a permission goes, of an allocation that is left
+-- it was an ALLOCATE; or that a permission or a channel goes, of an allocation that is left
 abbrev pub HasToTellIn : Phase → Option ℕ → Protocol → ℕ → Type 0
 HasToTellIn Initial over p now = ⊥
 HasToTellIn (InitialSent numbers) over p now = (is_among over numbers ≡ true) × (p.families ≢ [])
 HasToTellIn (Authenticating numbers) over p now = (is_among over numbers ≡ true) × (p.families ≢ [])
-HasToTellIn Authenticated over p now = permissions.all_failures over now (left over now p) ≢ []
+HasToTellIn Authenticated over p now = telling.all_failures over now (left over now p) ≢ []
 HasToTellIn Ended over p now = ⊥
 
 -- the agent is polled, and then something is to be told

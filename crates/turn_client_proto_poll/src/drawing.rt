@@ -3,35 +3,37 @@
 ghost use Rattle.std.specs.Prelude.{◌≡◌, ◌≢◌, [], ℕ, IfOk, MatchOption, OnErr, OnOk, Some, None};
 ghost use Rattle.std.specs.Option.{option_map};
 ghost use Rattle.turn_client_proto_core.specs.Sending.{NoneDue};
-ghost use Rattle.turn_client_proto_core.specs.Permission.Wanting.{wanted};
 ghost use Rattle.turn_client_proto_core.specs.Request.Requests.{request_text};
 ghost use Rattle.turn_client_proto_poll.specs.Drawing.{HasToBegin, HasToRepeat, HasToSend, IsBegun};
-ghost use Rattle.turn_client_proto_poll.specs.Drawing.{IsDrawn, IsFirstSent, IsFreshSent};
+ghost use Rattle.turn_client_proto_poll.specs.Drawing.{IsChannelRenewalSent, IsDrawn, IsFirstSent, IsFreshSent};
 ghost use Rattle.turn_client_proto_poll.specs.Drawing.{IsNextSent, IsRefreshSent, IsRenewalSent};
 ghost use Rattle.turn_client_proto_poll.specs.Drawing.{IsRenewed, IsRepeated, after_sending};
-ghost use Rattle.turn_client_proto_poll.specs.Drawing.{first_allocated, first_permitted};
+ghost use Rattle.turn_client_proto_poll.specs.Drawing.{first_allocated, first_bound, first_permitted};
 ghost use Rattle.turn_client_proto_poll.specs.Drawing.{first_refreshed, is_resting, sent_at_once};
 ghost use Rattle.turn_client_proto_poll.specs.Drawing.{sent_of};
+ghost use Rattle.turn_client_proto_poll.specs.Wanting.{wanted};
 ghost use Rattle.turn_client_proto_core.specs.Ending.{HasFailed, IsUnderWay};
 ghost use Rattle.turn_client_proto_core.specs.Numbering.{IsNextNumber, IsUnused};
 
 use crate::polling::next_send;
+use crate::wanting::{Want, refresh_first, renew_channel_first, renew_first, wanted};
 use std::net::{IpAddr, SocketAddr};
 use stun_types::data::{Data, DataOwned};
 use stun_types::message::TransactionId;
 use stun_types::{ListOf, NoMemory, Transmit, TransportType};
 use turn_client_proto_core::Instant;
 use turn_client_proto_core::agent::StunError;
+use turn_client_proto_core::allocation::channel::ChannelId;
 use turn_client_proto_core::allocation::refresh::PendingRefresh;
-use turn_client_proto_core::permission::wanting::{Want, refresh_first, renew_first, wanted};
 use turn_client_proto_core::protocol::{Phase, Protocol};
 use turn_client_proto_core::request::laws::requests_are_lawful;
 use turn_client_proto_core::request::request::{ALLOCATION_LIFETIME, TurnRequest};
 
 /// What is to be sent at a moment, where there is something. A request that is due again comes
 /// first; then, 50 ms after the last message at the earliest, what waits longest; then the first
-/// ALLOCATE, or what renews something whose time has come: a REFRESH for an allocation, or a
-/// CREATE_PERMISSION for a permission. Call it again until it answers `None`.
+/// ALLOCATE, or what renews something whose time has come: a REFRESH for an allocation, a
+/// CHANNEL_BIND for a channel, or a CREATE_PERMISSION for a permission, for the first allocation
+/// for which there is one, in this order. Call it again until it answers `None`.
 ///
 /// Memory is asked for where a request is due again, and where one is made. A message that waits
 /// takes none, and neither does a call that answers `None`. Where it is refused, `NoMemory`, and
@@ -139,17 +141,23 @@ fn begin(protocol: &mut Protocol, now: Instant) -> Result<Option<Transmit<Data<'
     }
 }
 
-/// A REFRESH for an allocation, or a CREATE_PERMISSION for a permission, whose time has come.
+/// A REFRESH for an allocation, a CHANNEL_BIND for a channel, or a CREATE_PERMISSION for a
+/// permission, whose time has come.
 fn renew(protocol: &mut Protocol, now: Instant) -> Result<Option<Transmit<Data<'static>>>, NoMemory>
     ensures ok { IfOk result (λ answer. IsRenewed (wanted now protocol.old.allocations)
         protocol.old now (option_map sent_of answer) protocol.new) }
     ensures err { OnErr result (IsUnderWay protocol.old protocol.new) }
     ensures memory { OnErr result (wanted now protocol.old.allocations ≢ None) }
 {
-    match wanted(protocol.allocations.as_slice(), now) {
-        None => Ok(None),
-        Some(Want::Refresh) => Ok(Some(send_refresh(protocol, now)?)),
-        Some(Want::Permission(ip)) => Ok(Some(send_renewal(protocol, ip, now)?)),
+    let Some(want) = wanted(protocol.allocations.as_slice(), now) else {
+        return Ok(None);
+    };
+    match want {
+        Want::Refresh => Ok(Some(send_refresh(protocol, now)?)),
+        Want::Channel(channel, peer) => {
+            Ok(Some(send_channel_renewal(protocol, channel, peer, now)?))
+        }
+        Want::Permission(ip) => Ok(Some(send_renewal(protocol, ip, now)?)),
     }
 }
 
@@ -205,6 +213,26 @@ fn send_renewal(
     requests_are_lawful(&request);
     let sent = send_at_once(protocol, number, request, now)?;
     renew_first(protocol.allocations.as_mut_slice(), now, number)?;
+    protocol.last_send = Some(now);
+    Ok(sent)
+}
+
+/// Sends a CHANNEL_BIND of a number to a peer, by which the first channel that is to be renewed is.
+fn send_channel_renewal(
+    protocol: &mut Protocol,
+    channel: ChannelId,
+    peer: SocketAddr,
+    now: Instant,
+) -> Result<Transmit<Data<'static>>, NoMemory>
+    ensures ok { IfOk result (λ sent.
+        IsChannelRenewalSent protocol.old channel peer now (sent_of sent) protocol.new) }
+    ensures err { OnErr result (IsUnderWay protocol.old protocol.new) }
+{
+    let number = protocol.draw_number()?;
+    let request = TurnRequest::ChannelBind(channel.number(), peer);
+    requests_are_lawful(&request);
+    let sent = send_at_once(protocol, number, request, now)?;
+    renew_channel_first(protocol.allocations.as_mut_slice(), now, number)?;
     protocol.last_send = Some(now);
     Ok(sent)
 }

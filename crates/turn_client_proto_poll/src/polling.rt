@@ -2,7 +2,6 @@
 
 ghost use Rattle.std.specs.Prelude.{◌≡◌, ◌≢◌, [], IfOk, OnErr, max, min};
 ghost use Rattle.turn_client_proto_core.specs.Moments.{moment_after};
-ghost use Rattle.turn_client_proto_core.specs.Permission.Telling.{all_failures};
 ghost use Rattle.turn_client_proto_core.specs.Ending.{IsUnderWay};
 ghost use Rattle.turn_client_proto_poll.specs.Polling.{HasToTell, HasToTellIn, IsPolled};
 ghost use Rattle.turn_client_proto_poll.specs.Polling.{IsPolledBy, IsPolledIn, IsPolledSent};
@@ -10,7 +9,9 @@ ghost use Rattle.turn_client_proto_poll.specs.Polling.{IsPolledStanding, IsTicke
 ghost use Rattle.turn_client_proto_poll.specs.Polling.{cadence, ended_of, left, longest_pause};
 ghost use Rattle.turn_client_proto_poll.specs.Polling.{ready_after, wait_of};
 ghost use Rattle.turn_client_proto_poll.specs.Polling.{wait_to_send, waits_until};
+ghost use Rattle.turn_client_proto_poll.specs.Telling.{all_failures};
 
+use crate::telling;
 use std::time::Duration;
 use stun_types::NoMemory;
 use stun_types::message::TransactionId;
@@ -19,7 +20,8 @@ use turn_client_proto_core::agent::StunAgentPollRet;
 use turn_client_proto_core::allocation::allocation::Allocation;
 use turn_client_proto_core::allocation::numbers::is_among;
 use turn_client_proto_core::api::answer::TurnPollRet;
-use turn_client_proto_core::permission::telling;
+use turn_client_proto_core::channel::lapse;
+use turn_client_proto_core::permission::telling as permissions;
 use turn_client_proto_core::protocol::{Phase, Protocol};
 
 /// Messages are sent this far apart, in milliseconds.
@@ -93,13 +95,14 @@ fn answer_of(
 
 /// What is to be done at a moment. Where an event waits, the answer is to wait for that very
 /// moment: `poll_event` gives it. Else a request that has ended without a response is given up, and
-/// allocations and permissions whose time is over go. The answer is `Closed` where the client has
-/// ended or has no allocation left, and else the moment until which nothing is to be done, at most
-/// 9999 seconds from now; it is now where a request has ended.
+/// allocations, permissions and channels whose time is over go; of the channels of one allocation,
+/// one at each call. The answer is `Closed` where the client has ended or has no allocation left,
+/// and else the moment until which nothing is to be done, at most 9999 seconds from now; it is now
+/// where a request has ended.
 ///
 /// Memory is asked for where no event waits and something is to be told: that an ALLOCATE ended
-/// without a response, or that a permission did, or has lapsed. Where it is refused, `NoMemory`,
-/// and the client has failed.
+/// without a response; or that a permission or a channel did, or has lapsed. Where it is refused,
+/// `NoMemory`, and the client has failed.
 pub fn poll(protocol: &mut Protocol, now: Instant) -> TurnPollRet
     ensures { IsPolled protocol.old now result protocol.new }
 {
@@ -178,7 +181,7 @@ fn follow(
     }
 }
 
-/// Lets time come to a moment for the allocations and their permissions.
+/// Lets time come to a moment for the allocations, their permissions and their channels.
 fn poll_allocations(
     protocol: &mut Protocol,
     ended: &Option<TransactionId>,
@@ -195,9 +198,10 @@ fn poll_allocations(
     let ready = ready_after(protocol, now);
     let next = protocol.allocations.poll(ended, ready, now, wait);
     let allocations = protocol.allocations.as_slice();
-    let earliest = telling::earliest(allocations, ended, ready, now, next);
+    let sooner = permissions::earliest(allocations, ended, ready, now, next);
+    let earliest = lapse::earliest(allocations, ended, ready, now, sooner);
     let answer = answer_of(allocations, ended, now, earliest);
     telling::tell_failures(&mut protocol.events, allocations, ended, now)?;
-    telling::poll(protocol.allocations.as_mut_slice(), ended, now);
+    telling::poll(protocol.allocations.as_mut_slice(), ended, now)?;
     Ok(answer)
 }

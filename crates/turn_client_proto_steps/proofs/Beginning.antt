@@ -32,7 +32,7 @@ use Rattle.turn_client_proto_steps.specs.ClientWords.{IsAttempted, IsWaiting, Is
 use Rattle.turn_client_proto_steps.specs.Held.{Allocation}
 use Rattle.turn_client_proto_steps.specs.RunClient.{parts_of}
 use Rattle.turn_client_proto_steps.specs.Sound.{IsOrderly, IsSound, stream_from}
-use Rattle.turn_client_proto_channel.specs.Numbers.{AreDistinct}
+use Rattle.turn_client_proto_poll.specs.Channel.Numbers.{AreDistinct}
 use Rattle.turn_client_proto_steps.proofs.Lessening.{none_distinct}
 use Rattle.turn_client_proto_steps.proofs.Orderly.{before_all, until_all}
 use Rattle.turn_client_proto_steps.proofs.Plain.{notices}

@@ -1,7 +1,7 @@
 -- What is drawn to be sent is a step of a run.
 use Rattle.std.proofs.Common.{◌≡◌, ℕ, true, false, List, [], ◌∷◌, Option, Some, None, refl, sym, ap, ◌∙◌, subst, arith, inl, inr}
 use Rattle.std.specs.Option.{option_map}
-use Rattle.stun_proto.specs.Sending.{kept_under}
+use Rattle.stun_proto.specs.Sending.{kept_under, with_request}
 use Rattle.stun_proto.specs.Agents.{transmitted}
 use Rattle.stun_proto.specs.Numbers.{NothingNew}
 use Rattle.stun_proto.specs.State.{Agent, is_tcp}
@@ -10,15 +10,23 @@ use Rattle.turn_client_proto_poll.specs.Members.{IsIn}
 use Rattle.turn_client_proto_poll.specs.Messages as run
 use Rattle.turn_client_proto_poll.specs.Steps.{MayDraw}
 use Rattle.turn_client_proto_poll.specs.StunWire.{stun_wire, told_by}
+use Rattle.std.specs.List.{find}
 use Rattle.std.specs.declared.net.ip_addr.IpAddr.{IpAddr}
+use Rattle.std.specs.declared.net.socket_addr.SocketAddr.{SocketAddr}
 use Rattle.turn_client_proto_poll.specs.Allocation.Refreshing.{refreshing}
-use Rattle.turn_client_proto_poll.specs.Permission.Wanting.{refreshed_first, renewal_first, renewing, wanted, wants}
-use Rattle.turn_client_proto_poll.specs.Permission.declared.wanting.Want.{Want}
-use Rattle.turn_client_proto_poll.specs.Permission.declared.wanting.Want.TheVariants as want
+use Rattle.turn_client_proto_poll.specs.Channel.Channels.{wants_renewal}
+use Rattle.turn_client_proto_poll.specs.Channel.Numbers.{AreDistinct}
+use Rattle.turn_client_proto_poll.specs.Channel.Wanting as channels
+use Rattle.turn_client_proto_poll.specs.Permission.Wanting.{renewing}
+use Rattle.turn_client_proto_poll.specs.Wanting.{channel_renewal_first, refreshed_first, renewal_first, wanted, wants}
+use Rattle.turn_client_proto_poll.specs.declared.wanting.Want.{Want}
+use Rattle.turn_client_proto_poll.specs.declared.wanting.Want.TheVariants as want
+use Rattle.turn_client_proto_poll.proofs.Channel.Distinct.{first_stay_distinct, renewing_uses_less}
+use Rattle.turn_client_proto_poll.proofs.Request.Peers.{peer_read}
 use Rattle.turn_client_proto_poll.specs.Request.Requests.{allocation_lifetime, request_text}
 use Rattle.turn_client_proto_poll.specs.Request.declared.request.TurnRequest.{TurnRequest}
-use Rattle.turn_client_proto_poll.specs.Request.declared.request.TurnRequest.TheVariants.{CreatePermission, FirstAllocate, Refresh}
-use Rattle.turn_client_proto_poll.specs.Drawing.{Again, Fresh, IsBegun, IsDrawn, IsFirstSent, IsNextSent, IsQueuedSent, IsRefreshSent, IsRenewalSent, IsRenewed, IsRepeated, IsStill, Sends, Sent, after_sending, first_allocated, first_permitted, first_refreshed, is_resting, sent_at_once}
+use Rattle.turn_client_proto_poll.specs.Request.declared.request.TurnRequest.TheVariants.{ChannelBind, CreatePermission, FirstAllocate, Refresh}
+use Rattle.turn_client_proto_poll.specs.Drawing.{Again, Fresh, IsBegun, IsChannelRenewalSent, IsDrawn, IsFirstSent, IsNextSent, IsQueuedSent, IsRefreshSent, IsRenewalSent, IsRenewed, IsRepeated, IsStill, Sends, Sent, after_sending, first_allocated, first_bound, first_permitted, first_refreshed, is_resting, sent_at_once}
 use Rattle.turn_client_proto_poll.specs.Core.Numbering.{after_number}
 use Rattle.turn_client_proto_poll.specs.Core.Waiting.{Queued}
 use Rattle.turn_client_proto_poll.specs.Core.declared.protocol.Phase.{Phase}
@@ -30,16 +38,22 @@ use Rattle.turn_client_proto_steps.specs.RunSteps.{IsRunStep}
 use Rattle.turn_client_proto_steps.specs.Sound.{AreAllocates, BeforeAllocated, CanAsk, IsSound, UntilEnded}
 use Rattle.turn_client_proto_steps.proofs.Adding.{AreLess, HasNumber, adds_both, agent_less, allocations_less, phase_moved, queue_less}
 use Rattle.turn_client_proto_steps.proofs.Agents.{message_read}
-use Rattle.turn_client_proto_steps.proofs.Asking.{asks, at_first, made, sent_adds, sent_orderly}
+use Rattle.turn_client_proto_steps.specs.Held.{Allocation, Channel}
+use Rattle.turn_client_proto_steps.proofs.Asking as written
+use Rattle.turn_client_proto_steps.proofs.Asking.{IsUnderWay, asks, at_first, made, sent_adds, sent_orderly}
+use Rattle.turn_client_proto_steps.proofs.Binding as binding
 use Rattle.turn_client_proto_steps.proofs.Ending.{still, still_can}
 use Rattle.turn_client_proto_steps.proofs.Lessening.{first_less, one_awaited, same_first_distinct}
 use Rattle.turn_client_proto_steps.proofs.Orderly.{IsAllocate, agent_orderly, allocations_orderly, before_all, drawn_orderly, phase_orderly, until_map}
 use Rattle.turn_client_proto_steps.proofs.Permissions.{first_permitting, renewing_permitting}
-use Rattle.turn_client_proto_steps.proofs.Permits.{asks_by, made_number, permission_fit}
-use Rattle.turn_client_proto_steps.proofs.Permitting.{ArePermitting, allocations_permitting, none_gained, permitting_orderly}
+use Rattle.turn_client_proto_steps.proofs.Lists.{inside}
+use Rattle.turn_client_proto_steps.proofs.Permits.{asks_by, channel_fit, made_number, permission_fit}
+use Rattle.turn_client_proto_steps.proofs.Fitting.{AreFit, permitting_orderly}
+use Rattle.turn_client_proto_steps.proofs.Permitting.{ArePermitting, allocations_permitting, none_gained}
 use Rattle.turn_client_proto_steps.proofs.Plain.{counts_none, quiet, run_step}
 use Rattle.turn_client_proto_steps.proofs.Polling.{by_test}
 use Rattle.turn_client_proto_steps.proofs.Refreshing.{allocated, refresh_made, refresh_of, refresh_short}
+use Rattle.turn_client_proto_steps.proofs.Wanting.{IsToRenew, first_to_renew, renewal_whole}
 
 -- the bytes that are sent
 abbrev pub bytes_of : Option Sent → Option (List ℕ)
@@ -141,27 +155,58 @@ refresh_sent c now sent new sound at is =
     subst (λ (p : Protocol). IsRunStep c [] (Some sent.bytes) [] p) (sym is.after)
     (asks c c.core (Refresh allocation_lifetime) is.number under_way written [] (Some sent.bytes) core adds orderly refl can.families refl refl (draws_own c text sent.bytes own))
 
+-- a request that renews something
+module _ (c : Client) (request : TurnRequest) (number now : ℕ) (left : List Allocation) (sound : IsSound c) (at : c.core.phase ≡ Authenticated) (under_way : IsUnderWay c c.core) (is : written.IsMade c.core request number) where
+  abbrev text_of : List ℕ
+  text_of = request_text c.core.auth request number
+
+  -- the client that sent it, with these allocations
+  abbrev renewed_with : Protocol
+  renewed_with = after_sending now (record (sent_at_once (after_number c.core) request number now) { allocations = left })
+
+  renews : ArePermitting none_gained (asks_by request number) c.core.allocations left → AreFit none_gained (asks_by request number) (with_request c.core.agent text_of c.core.server now) → AreDistinct left
+      → (sent : List ℕ) → sent ≡ text_of → IsRunStep c [] (Some sent) [] renewed_with
+  unfolding sent_at_once
+  renews are fit distinct sent own =
+      let mid : Parts = parts_of (sent_at_once (after_number c.core) request number now) in
+      let adds = adds_both (told_by text_of ∷ []) (parts_of c.core) mid (parts_of renewed_with) (sent_adds c.core request number now)
+      (allocations_permitting (told_by text_of ∷ []) (asks_by request number) mid left are (made_number c.core request number now is)) in
+      let orderly = permitting_orderly none_gained (asks_by request number) mid left are fit
+      (sent_orderly c.core request number now is (allocated _ c.core.phase at) sound.orderly) distinct in
+      asks c c.core request number under_way is [] (Some sent) renewed_with adds orderly refl under_way.can_ask.families refl refl (draws_own c text_of sent own)
+
 renewal_sent : (c : Client) (ip : IpAddr) (now : ℕ) (sent : Sent) (new : Protocol) → IsSound c → c.core.phase ≡ Authenticated → IsRenewalSent c.core ip now sent new → IsRunStep c [] (Some sent.bytes) [] new
-unfolding first_permitted sent_at_once
+unfolding first_permitted
 renewal_sent c ip now sent new sound at is =
-    let can : CanAsk c = subst (λ (f : Phase). UntilEnded f (CanAsk c)) at sound.can_ask in
-    let under_way = at_first c sound.orderly can in
+    let under_way = at_first c sound.orderly (subst (λ (f : Phase). UntilEnded f (CanAsk c)) at sound.can_ask) in
     let number = is.number in
-    let written = made c c.core (CreatePermission ip) number under_way is.lawful tt is.made.is_next in
-    let text = request_text c.core.auth (CreatePermission ip) number in
-    let own : sent.bytes ≡ text = ap (λ (s : Sent). s.bytes) is.made.is_sent in
-    let mid : Parts = parts_of (sent_at_once (after_number c.core) (CreatePermission ip) number now) in
-    let left = renewal_first now number c.core.allocations in
-    let are : ArePermitting none_gained (asks_by (CreatePermission ip) number) c.core.allocations left =
+    let made_it = made c c.core (CreatePermission ip) number under_way is.lawful tt is.made.is_next in
+    let are : ArePermitting none_gained (asks_by (CreatePermission ip) number) c.core.allocations (renewal_first now number c.core.allocations) =
     first_permitting none_gained (asks_by (CreatePermission ip) number) (wants now) (renewing now number) c.core.allocations (λ a found. renewing_permitting ip now number a) in
-    let core : Protocol = after_sending now (first_permitted ip number now c.core) in
-    let adds = adds_both (told_by text ∷ []) (parts_of c.core) mid (parts_of core) (sent_adds c.core (CreatePermission ip) number now)
-    (allocations_permitting (told_by text ∷ []) (asks_by (CreatePermission ip) number) mid left are (made_number c.core (CreatePermission ip) number now written)) in
-    let orderly = permitting_orderly none_gained (asks_by (CreatePermission ip) number) mid left are (permission_fit c.core ip number now written)
-    (sent_orderly c.core (CreatePermission ip) number now written (allocated _ c.core.phase at) sound.orderly)
-    (same_first_distinct (wants now) (renewing now number) (λ a. (refl, refl)) c.core.allocations sound.orderly.distinct) in
     subst (λ (p : Protocol). IsRunStep c [] (Some sent.bytes) [] p) (sym is.after)
-    (asks c c.core (CreatePermission ip) number under_way written [] (Some sent.bytes) core adds orderly refl can.families refl refl (draws_own c text sent.bytes own))
+    (renews c (CreatePermission ip) number now (renewal_first now number c.core.allocations) sound at under_way made_it are (permission_fit c.core ip number now made_it)
+    (same_first_distinct (wants now) (renewing now number) (λ a. (refl, refl)) c.core.allocations sound.orderly.distinct) sent.bytes (ap (λ (s : Sent). s.bytes) is.made.is_sent))
+
+channel_sent : (c : Client) (channel : ℕ) (peer : SocketAddr) (now : ℕ) (sent : Sent) (new : Protocol) → IsSound c → c.core.phase ≡ Authenticated → wanted now c.core.allocations ≡ Some (want.Channel channel peer)
+    → IsChannelRenewalSent c.core channel peer now sent new → IsRunStep c [] (Some sent.bytes) [] new
+unfolding first_bound
+channel_sent c channel peer now sent new sound at wants_it is =
+    let under_way = at_first c sound.orderly (subst (λ (f : Phase). UntilEnded f (CanAsk c)) at sound.can_ask) in
+    let number = is.number in
+    let whole = renewal_whole now channel peer (parts_of c.core) wants_it sound.orderly in
+    let made_it = made c c.core (ChannelBind channel peer) number under_way is.lawful (peer_read number peer whole.own whole.flow whole.scope) is.made.is_next in
+    let left = channel_renewal_first now number c.core.allocations in
+    let are : ArePermitting none_gained (asks_by (ChannelBind channel peer) number) c.core.allocations left =
+    first_permitting none_gained (asks_by (ChannelBind channel peer) number) (wants now) (channels.renewing now number) c.core.allocations
+    (λ a found. binding.renewing_permitting channel peer number now a (first_is a (first_to_renew now channel peer c.core.allocations wants_it a found))) in
+    let distinct : AreDistinct left = first_stay_distinct c.core.allocations (wants now) (channels.renewing now number) (λ a found. renewing_uses_less now number a) sound.orderly.distinct in
+    subst (λ (p : Protocol). IsRunStep c [] (Some sent.bytes) [] p) (sym is.after)
+    (renews c (ChannelBind channel peer) number now left sound at under_way made_it are (channel_fit c.core channel peer number now whole made_it) distinct sent.bytes (ap (λ (s : Sent). s.bytes) is.made.is_sent))
+  where
+    first_is : (a : Allocation) → IsToRenew now a channel peer → (b : Channel) → find (wants_renewal now) a.channels ≡ Some b → (b.number ≡ channel) × (b.peer ≡ peer)
+    first_is a first b found =
+        let same : b ≡ first.first = inside (sym found ∙ first.found) in
+        (ap (λ (x : Channel). x.number) same ∙ first.number_is, ap (λ (x : Channel). x.peer) same ∙ first.peer_is)
 
 -- ---- all of it
 
@@ -172,17 +217,18 @@ sends : (c : Client) (Is : Sent → Type 0) (answer : Option Sent) (new : Protoc
 sends c Is None new f h = absurd h
 sends c Is (Some sent) new f h = f sent h
 
-renewed_by : (c : Client) (want : Option Want) (now : ℕ) (answer : Option Sent) (new : Protocol) → IsSound c → c.core.phase ≡ Authenticated → IsRenewed want c.core now answer new → IsRunStep c [] (bytes_of answer) [] new
-renewed_by c None now answer new sound at h = rests c answer new sound h
-renewed_by c (Some want.Refresh) now answer new sound at h = sends c (λ s. IsRefreshSent c.core now s new) answer new (λ s one. refresh_sent c now s new sound at one) h
-renewed_by c (Some (want.Permission ip)) now answer new sound at h = sends c (λ s. IsRenewalSent c.core ip now s new) answer new (λ s one. renewal_sent c ip now s new sound at one) h
+renewed_by : (c : Client) (what : Option Want) (now : ℕ) (answer : Option Sent) (new : Protocol) → IsSound c → c.core.phase ≡ Authenticated → wanted now c.core.allocations ≡ what → IsRenewed what c.core now answer new → IsRunStep c [] (bytes_of answer) [] new
+renewed_by c None now answer new sound at is h = rests c answer new sound h
+renewed_by c (Some want.Refresh) now answer new sound at is h = sends c (λ s. IsRefreshSent c.core now s new) answer new (λ s one. refresh_sent c now s new sound at one) h
+renewed_by c (Some (want.Channel channel peer)) now answer new sound at is h = sends c (λ s. IsChannelRenewalSent c.core channel peer now s new) answer new (λ s one. channel_sent c channel peer now s new sound at is one) h
+renewed_by c (Some (want.Permission ip)) now answer new sound at is h = sends c (λ s. IsRenewalSent c.core ip now s new) answer new (λ s one. renewal_sent c ip now s new sound at one) h
 
 begun : (c : Client) (phase : Phase) (now : ℕ) (answer : Option Sent) (new : Protocol) → IsSound c → c.core.phase ≡ phase → IsBegun phase c.core now answer new → IsRunStep c [] (bytes_of answer) [] new
 begun c Initial now answer new sound at h = sends c (λ s. IsFirstSent c.core now s new) answer new (λ s is. first_sent c now s new sound at is) h
 begun c (InitialSent numbers) now answer new sound at h = rests c answer new sound h
 begun c (Authenticating numbers) now answer new sound at h = rests c answer new sound h
 begun c Ended now answer new sound at h = rests c answer new sound h
-begun c Authenticated now answer new sound at h = renewed_by c (wanted now c.core.allocations) now answer new sound at h
+begun c Authenticated now answer new sound at h = renewed_by c (wanted now c.core.allocations) now answer new sound at refl h
 
 next_sent : (c : Client) (queue : List Queued) (now : ℕ) (answer : Option Sent) (new : Protocol) → IsSound c → c.core.queue ≡ queue → IsNextSent queue c.core now answer new → IsRunStep c [] (bytes_of answer) [] new
 next_sent c (q ∷ rest) now answer new sound waits h = sends c (λ s. IsQueuedSent c.core now q rest s new) answer new (λ s is. queued_drawn c now q rest s new sound waits is) h

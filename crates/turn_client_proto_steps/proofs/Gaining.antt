@@ -28,7 +28,7 @@ use Rattle.turn_client_proto_poll.specs.Core.Waiting.{Queued}
 use Rattle.turn_client_proto_steps.specs.ClientWords.{Has, HasItself, HasPermission, HasChannel, HasConnection, IsAttempted, IsWaiting, IsAnswered as HasAnswered, IsKept, IsPending, OfPermission, OfChannel, OfNewPermission, OfNewChannel, OfRefresh, OfConnect, OfAttempt, OfBinding, Knows, ByWaiting, ByConnection, Waits}
 use Rattle.turn_client_proto_steps.specs.Held.{Allocation}
 use Rattle.turn_client_proto_steps.specs.Sound.{AreAsked, AreBinding, AreShort, AreWhole, BeforeAllocated}
-use Rattle.turn_client_proto_channel.specs.Numbers.{AreDistinct, uses}
+use Rattle.turn_client_proto_poll.specs.Channel.Numbers.{AreDistinct, uses}
 use Rattle.turn_client_proto_steps.proofs.Lists.{in_filter, in_map}
 use Rattle.turn_client_proto_steps.proofs.Plain.{notices}
 

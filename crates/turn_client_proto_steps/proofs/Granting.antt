@@ -20,9 +20,10 @@ use Rattle.turn_client_proto_poll.specs.Messages as run
 use Rattle.turn_client_proto_poll.specs.Steps.{ClientStep, IsAnswered, Told, WasKnown, told_for}
 use Rattle.turn_client_proto_poll.specs.StunWire.{told_by}
 use Rattle.turn_client_proto_poll.specs.Allocation.Awaited.{asks_for_permission}
-use Rattle.turn_client_proto_poll.specs.Permission.Awaited.{asked_by, awaits_reply}
-use Rattle.turn_client_proto_poll.specs.Permission.Granted.{all_permitted, permitted}
-use Rattle.turn_client_proto_poll.specs.Permission.declared.awaited.Asked.TheVariants.{NewPermission}
+use Rattle.turn_client_proto_poll.specs.Channel.Awaited.{asked_by, awaits_reply}
+use Rattle.turn_client_proto_poll.specs.Channel.Granted.{all_permitted}
+use Rattle.turn_client_proto_poll.specs.Permission.Granted.{permitted}
+use Rattle.turn_client_proto_poll.specs.Channel.declared.awaited.Asked.TheVariants.{NewPermission}
 use Rattle.turn_client_proto_poll.specs.Api.declared.event.TurnEvent.TheVariants.{PermissionCreated}
 use Rattle.turn_client_proto_poll.specs.Core.Permitting.{granted}
 use Rattle.turn_client_proto_poll.specs.Core.Responding.{accepted, judged}
@@ -31,16 +32,17 @@ use Rattle.turn_client_proto_steps.specs.ClientWords.{IsTaken, Outstanding, Allo
 use Rattle.turn_client_proto_steps.specs.Held.{Allocation, PendingPermission}
 use Rattle.turn_client_proto_steps.specs.RunClient.{Client, moved, parts_of}
 use Rattle.turn_client_proto_steps.specs.RunSteps.{IsRunStep, call_of}
-use Rattle.turn_client_proto_channel.specs.Numbers.{AreDistinct}
+use Rattle.turn_client_proto_poll.specs.Channel.Numbers.{AreDistinct}
 use Rattle.turn_client_proto_poll.specs.Api.declared.event.TurnEvent.{TurnEvent}
 use Rattle.turn_client_proto_steps.specs.Sound.{IsOrderly, IsWhole}
 use Rattle.turn_client_proto_steps.proofs.Lessening.{same_first_distinct}
 use Rattle.turn_client_proto_steps.proofs.Permissions.{first_permitting, permitted_permitting}
-use Rattle.turn_client_proto_steps.proofs.Permitting.{ArePermitting, Gaining, attempted_permitting, kept_permitting, none_asks, permitting_orderly, taken_permitting, waits_permitting}
+use Rattle.turn_client_proto_steps.proofs.Fitting.{permitting_orderly}
+use Rattle.turn_client_proto_steps.proofs.Permitting.{ArePermitting, Gaining, attempted_permitting, kept_permitting, none_asks, taken_permitting, waits_permitting}
 use Rattle.turn_client_proto_steps.proofs.Agents.{has_other, message_shown, outstanding_before}
 use Rattle.turn_client_proto_steps.proofs.Allocating.{IsOwn}
 use Rattle.turn_client_proto_steps.proofs.Asking.{IsUnderWay}
-use Rattle.turn_client_proto_steps.proofs.Awaited.{IsAskedOf, IsFoundBy, OfLifetime, OfNew, OfRenewal, found_by}
+use Rattle.turn_client_proto_steps.proofs.Awaited.{IsAskedOf, IsFoundBy, OfAskedChannel, OfLifetime, OfNew, OfRenewal, OfRenewedChannel, found_by}
 use Rattle.turn_client_proto_steps.proofs.Lists.{found_in, found_passes, inside}
 use Rattle.turn_client_proto_steps.proofs.Orderly.{until_all}
 use Rattle.turn_client_proto_steps.proofs.Plain.{counts_none, held_is_kept, joined, notices}
@@ -63,6 +65,8 @@ asked_in number transport ip all h = by (found_by number all (NewPermission tran
   where
     of : (a : Allocation) → find (awaits_reply number) all ≡ Some a → IsAskedOf number a (NewPermission transport ip) → IsAskedIn number transport ip all
     of a there (OfLifetime lifetime at same) = absurd (Prim.cc same)
+    of a there (OfAskedChannel c at same) = absurd (Prim.cc same)
+    of a there (OfRenewedChannel c at same) = absurd (Prim.cc same)
     of a there (OfRenewal p at same) = absurd (Prim.cc same)
     of a there (OfNew p at same) = record {
       allocation = a;

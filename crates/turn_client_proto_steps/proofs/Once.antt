@@ -1,7 +1,9 @@
 -- What a client does is determined: two outcomes of one relation on one state are equal.
 pub mod Agents
 pub mod Allocating
+pub mod Binding
 pub mod Calling
+pub mod Channels
 pub mod Drawing
 pub mod Hearing
 pub mod Judging

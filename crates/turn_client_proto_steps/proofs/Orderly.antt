@@ -9,7 +9,7 @@ use Rattle.stun_proto.specs.State.{Agent}
 use Rattle.stun_proto_agent.proofs.Numbers.{sent, sent_shows, still_shows}
 use Rattle.turn_types.specs.TurnRegistry.{allocate_method}
 use Rattle.turn_client_proto_poll.specs.Members.{IsIn}
-use Rattle.turn_client_proto_channel.specs.Numbers.{AreDistinct}
+use Rattle.turn_client_proto_poll.specs.Channel.Numbers.{AreDistinct}
 use Rattle.turn_client_proto_poll.specs.Messages.{Asks, Held, Holds, Permission, Channel}
 use Rattle.turn_client_proto_poll.specs.StunWire.{told_by}
 use Rattle.turn_client_proto_poll.specs.Core.Waiting.{Queued}

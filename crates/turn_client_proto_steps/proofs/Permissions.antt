@@ -8,8 +8,8 @@ use Rattle.turn_client_proto_poll.specs.Allocation.Awaited.{asks_for_permission,
 use Rattle.turn_client_proto_poll.specs.Allocation.Changes.{change_first}
 use Rattle.turn_client_proto_poll.specs.Allocation.Permissions.{asked_again, awaiting, has_lapsed, is_over, not_asked_by, not_over, not_renewed_by, polled_permission, polled_permissions, renewed_again, renewed_first, renewed_permission, standing, wants_renewal, with_number}
 use Rattle.turn_client_proto_poll.specs.Permission.Asking.{asking}
-use Rattle.turn_client_proto_poll.specs.Permission.Awaited.{asked_too}
-use Rattle.turn_client_proto_poll.specs.Permission.declared.awaited.Asked.TheVariants.{NewPermission, Renewal}
+use Rattle.turn_client_proto_poll.specs.Channel.Awaited.{asked_too}
+use Rattle.turn_client_proto_poll.specs.Channel.declared.awaited.Asked.TheVariants.{NewPermission, Renewal}
 use Rattle.turn_client_proto_poll.specs.Permission.Granted.{granted_for, permission_end, permitted, renewed, turned_down}
 use Rattle.turn_client_proto_poll.specs.Permission.Telling.{polled}
 use Rattle.turn_client_proto_poll.specs.Permission.Wanting.{renewing}
@@ -81,9 +81,9 @@ module _ (Now : Asking) (number : ℕ) (now : IsNow Now number) (old : List Perm
 pub fewer_asked : (Now : Asking) (transport : TransportType) (old : List PendingPermission) (keeps : PendingPermission → Bool) → AreKnown Now transport old (filter keeps old)
 fewer_asked Now transport old keeps p listed n has = known_itself Now transport old p (in_filter keeps p old listed).0 n has
 
--- a permission that was found, of this address, is asked for once more
-module _ (Now : Asking) (transport : TransportType) (before number : ℕ) (old : List PendingPermission) (first : PendingPermission) (at : find (asks_for_permission before) old ≡ Some first)
-    (now : Now (run.Permission transport first.ip) number) where
+-- the first permission that a request asks for is asked for once more
+module _ (Now : Asking) (transport : TransportType) (before number : ℕ) (old : List PendingPermission)
+    (now : (p : PendingPermission) → find (asks_for_permission before) old ≡ Some p → Now (run.Permission transport p.ip) number) where
   pub once_more : AreKnown Now transport old (asked_again before number old)
   once_more p listed n has =
       elim (in_first (asks_for_permission before) (with_number number) p old listed) [
@@ -91,12 +91,11 @@ module _ (Now : Asking) (transport : TransportType) (before number : ℕ) (old :
         | inr changed ↦
             let q : PendingPermission = changed.0 in
             let there : IsIn q old = found_in (asks_for_permission before) old q changed.1 in
-            let own : q.ip ≡ first.ip = ap (λ (x : PendingPermission). x.ip) (inside (sym changed.1 ∙ at)) in
             let same : p.ip ≡ q.ip = ap (λ (x : PendingPermission). x.ip) changed.2 in
             elim (in_either n q.numbers (number ∷ []) (subst (λ (x : PendingPermission). IsIn n x.numbers) changed.2 has)) [
               | inl was ↦ inl (record { before = q; listed = there; ip = same; has = was })
               | inr new ↦ elim new [
-                | inl is ↦ inr (subst (λ (k : ℕ). Now (run.Permission transport p.ip) k) is (subst (λ (x : IpAddr). Now (run.Permission transport x) number) (sym (same ∙ own)) now))
+                | inl is ↦ inr (subst (λ (k : ℕ). Now (run.Permission transport p.ip) k) is (subst (λ (x : IpAddr). Now (run.Permission transport x) number) (sym same) (now q changed.1)))
                 | inr none ↦ absurd none
               ]
             ]
@@ -165,7 +164,8 @@ pub asking_again_permitting : (transport : TransportType) (before number : ℕ) 
 asking_again_permitting transport before number a p at =
     with_lists none_gained (asks_by (CreatePermission p.ip) number) a a.permissions (asked_again before number a.pending_permissions)
     (kin_itself (asks_by (CreatePermission p.ip) number) a.permissions)
-    (once_more (asks_by (CreatePermission p.ip) number) a.transport before number a.pending_permissions p at (permits_ip p.ip number a.transport))
+    (once_more (asks_by (CreatePermission p.ip) number) a.transport before number a.pending_permissions
+    (λ q found. subst (λ (x : PendingPermission). asks_by (CreatePermission p.ip) number (run.Permission a.transport x.ip) number) (inside (sym at ∙ found)) (permits_ip p.ip number a.transport)))
 
 pub asking_permitting : (ip : IpAddr) (number : ℕ) (a : Allocation) → IsPermitting none_gained (asks_by (CreatePermission ip) number) a (asking (record { ip = ip; numbers = number ∷ [] }) a)
 asking_permitting ip number a =

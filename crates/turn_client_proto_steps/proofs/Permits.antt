@@ -3,6 +3,7 @@ use Rattle.std.proofs.Common.{◌≡◌, ℕ, List, [], ◌∷◌, Some, refl, s
 use Rattle.std.specs.FinMap as map
 use Rattle.std.specs.declared.net.ip_addr.IpAddr.{IpAddr}
 use Rattle.std.specs.declared.net.ip_addr.IpAddr.TheVariants.{V4, V6}
+use Rattle.std.specs.declared.net.socket_addr.SocketAddr.{SocketAddr}
 use Rattle.stun_types.specs.declared.transport.TransportType.{TransportType}
 use Rattle.stun_proto.specs.Agents.{Transaction}
 use Rattle.stun_proto.specs.Sending.{with_request}
@@ -15,12 +16,13 @@ use Rattle.turn_client_proto_poll.specs.StunWire.{told_by}
 use Rattle.turn_client_proto_poll.specs.Request.Requests.{peer_of, request_text}
 use Rattle.turn_client_proto_poll.specs.Request.ToldRequests.{told_request}
 use Rattle.turn_client_proto_poll.specs.Request.declared.request.TurnRequest.{TurnRequest}
-use Rattle.turn_client_proto_poll.specs.Request.declared.request.TurnRequest.TheVariants.{CreatePermission, FirstAllocate}
+use Rattle.turn_client_proto_poll.specs.Request.declared.request.TurnRequest.TheVariants.{ChannelBind, CreatePermission, FirstAllocate}
 use Rattle.turn_client_proto_poll.specs.Core.declared.protocol.Protocol.{Protocol}
-use Rattle.turn_client_proto_steps.specs.Sound.{AsksFor}
+use Rattle.turn_client_proto_steps.specs.Sound.{AsksFor, IsWhole}
 use Rattle.turn_client_proto_steps.proofs.Adding.{HasNumber}
 use Rattle.turn_client_proto_steps.proofs.Asking.{IsMade}
-use Rattle.turn_client_proto_steps.proofs.Permitting.{AreFit, Asking, none_gained, one_asks}
+use Rattle.turn_client_proto_steps.proofs.Fitting.{AreFit}
+use Rattle.turn_client_proto_steps.proofs.Permitting.{Asking, none_gained, one_asks}
 use Rattle.turn_client_proto_steps.proofs.Taken.{none_outstanding}
 
 ip_of : (ip : IpAddr) → socket_ip (peer_of ip) ≡ ip
@@ -34,6 +36,21 @@ asks_by request number = one_asks (told_request request number)
 -- a CREATE_PERMISSION asks for a permission of its address, over any transport
 pub permits_ip : (ip : IpAddr) (number : ℕ) (transport : TransportType) → asks_by (CreatePermission ip) number (run.Permission transport ip) number
 permits_ip ip number transport = (inl (refl, record { peer = peer_of ip; listed = inl refl; ip_is = ip_of ip }), refl)
+
+-- a CHANNEL_BIND asks for that channel
+pub binds_channel : (channel : ℕ) (peer : SocketAddr) (number : ℕ) → asks_by (ChannelBind channel peer) number (run.Channel channel peer) number
+binds_channel channel peer number = ((refl, refl, refl), refl)
+
+-- and for a permission of its peer's address, over any transport
+pub permits_peer : (channel : ℕ) (peer : SocketAddr) (ip : IpAddr) (number : ℕ) (transport : TransportType) → socket_ip peer ≡ ip → asks_by (ChannelBind channel peer) number (run.Permission transport ip) number
+permits_peer channel peer ip number transport is = (inr (refl, (peer, refl, is)), refl)
+
+-- a request that asks for a channel and for a permission asks for that of the channel's peer
+pub same_peer : (m : run.Message) (channel : ℕ) (peer : SocketAddr) (transport : TransportType) (ip : IpAddr) → run.Asks m (run.Holds (run.Channel channel peer)) → run.Asks m (run.Holds (run.Permission transport ip)) → socket_ip peer ≡ ip
+same_peer m channel peer transport ip bind (inl create) = let method : create_permission_method ≡ channel_bind_method = sym create.0 ∙ bind.0 in absurd (omega (arith, method))
+same_peer m channel peer transport ip bind (inr other) =
+    let same : peer ≡ other.1.0 = Prim.cc (sym bind.2 ∙ other.1.1) in
+    ap socket_ip same ∙ other.1.2
 
 told_number : (request : TurnRequest) (number : ℕ) → (told_request request number).number ≡ number
 told_number (FirstAllocate transport families) number = refl
@@ -65,4 +82,12 @@ permission_fit mid ip number now is = record {
   asks = own_asks mid (CreatePermission ip) number now is;
   asked = λ channel peer n h. let method : create_permission_method ≡ channel_bind_method = h.0.0 in absurd (omega (arith, method));
   gained = λ channel peer h. absurd h;
+}
+
+pub channel_fit : (mid : Protocol) (channel : ℕ) (peer : SocketAddr) (number now : ℕ) → IsWhole peer → IsMade mid (ChannelBind channel peer) number
+    → AreFit none_gained (asks_by (ChannelBind channel peer) number) (with_request mid.agent (request_text mid.auth (ChannelBind channel peer) number) mid.server now)
+channel_fit mid channel peer number now whole is = record {
+  asks = own_asks mid (ChannelBind channel peer) number now is;
+  asked = λ c to n h. let same : peer ≡ to = Prim.cc h.0.2 in subst IsWhole same whole;
+  gained = λ c to h. absurd h;
 }

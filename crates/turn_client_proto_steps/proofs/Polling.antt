@@ -1,14 +1,18 @@
 -- A poll is a step of a run.
-use Rattle.std.proofs.Common.{◌≡◌, ℕ, Bool, true, false, List, [], ◌∷◌, map, Option, None, refl, sym, ◌∙◌, subst}
+use Rattle.std.proofs.Common.{◌≡◌, ℕ, Bool, true, false, List, [], ◌∷◌, ◌++◌, map, Option, None, refl, sym, ◌∙◌, subst, arith}
 use Rattle.std.specs.Bool.{MatchBool}
 use Rattle.stun_proto.specs.AgentPolls.{StunAgentPollRet}
 use Rattle.stun_proto.specs.State as agents
 use Rattle.stun_proto_agent.proofs.Numbers.{polled_new}
 use Rattle.std.specs.declared.net.ip_addr.IpAddr.{IpAddr}
+use Rattle.std.specs.declared.net.socket_addr.SocketAddr.{SocketAddr}
 use Rattle.stun_types.specs.declared.transport.TransportType.{TransportType}
 use Rattle.turn_client_proto_poll.specs.Allocation.Awaited.{is_among}
+use Rattle.turn_client_proto_poll.specs.Channel.Lapsing as channels
 use Rattle.turn_client_proto_poll.specs.Permission.Telling as permissions
-use Rattle.turn_client_proto_poll.specs.Api.declared.event.TurnEvent.TheVariants.{PermissionCreateFailed}
+use Rattle.turn_client_proto_poll.specs.Telling as telling
+use Rattle.turn_client_proto_poll.proofs.Channel.Distinct.{alike_uses_less, each_stay_distinct, polled_uses_less}
+use Rattle.turn_client_proto_poll.specs.Api.declared.event.TurnEvent.TheVariants.{ChannelCreateFailed, PermissionCreateFailed}
 use Rattle.turn_client_proto_poll.specs.Api.declared.answer.TurnPollRet.{TurnPollRet}
 use Rattle.turn_client_proto_poll.specs.Api.declared.answer.TurnPollRet.TheVariants as answer
 use Rattle.turn_client_proto_poll.specs.Api.declared.event.TurnEvent.{TurnEvent}
@@ -22,12 +26,15 @@ use Rattle.turn_client_proto_steps.specs.RunClient.{Client, Parts, parts_of}
 use Rattle.turn_client_proto_steps.specs.RunSteps.{IsRunStep}
 use Rattle.turn_client_proto_steps.specs.Sound.{IsOrderly, IsSound}
 use Rattle.turn_client_proto_steps.proofs.Adding.{Adds, adds_both, agent_less, allocations_less}
+use Rattle.turn_client_proto_steps.proofs.Binding as binding
+use Rattle.turn_client_proto_steps.proofs.Chaining.{both_permitting}
 use Rattle.turn_client_proto_steps.proofs.Ending.{ends, failed_step, still, still_can}
-use Rattle.turn_client_proto_steps.proofs.Lessening.{all_polled, polled_distinct, same_distinct}
+use Rattle.turn_client_proto_steps.proofs.Lessening.{IsAlike, all_polled, polled_distinct}
 use Rattle.turn_client_proto_steps.proofs.Orderly.{agent_orderly, allocations_orderly, until_map}
 use Rattle.turn_client_proto_steps.proofs.Permissions.{polled_permitting}
-use Rattle.turn_client_proto_steps.proofs.Permitting.{allocations_permitting, each_permitting, none_asks, none_fit, none_gained, permitting_orderly}
-use Rattle.turn_client_proto_channel.specs.Numbers.{AreDistinct}
+use Rattle.turn_client_proto_steps.proofs.Fitting.{none_fit, permitting_orderly}
+use Rattle.turn_client_proto_steps.proofs.Permitting.{IsPermitting, allocations_permitting, each_permitting, none_asks, none_gained}
+use Rattle.turn_client_proto_poll.specs.Channel.Numbers.{AreDistinct}
 use Rattle.turn_client_proto_steps.proofs.Plain.{counts_none, none_told, nothing_drawn, notices, quiet, run_step}
 
 -- ---- by a test
@@ -36,28 +43,54 @@ pub by_test : {P Q R : Type 0} (b : Bool) → (b ≡ true → P → R) → (b �
 by_test true f g h = f refl h
 by_test false f g h = g refl h
 
--- ---- what is told of permissions that go
+-- ---- what is told of permissions and channels that go
 
 none_created : (transport : TransportType) (all : List IpAddr) → notices (map (PermissionCreateFailed transport) all) ≡ []
 none_created transport [] = refl
 none_created transport (ip ∷ all) = none_created transport all
 
-of_one : (over : Option ℕ) (now : ℕ) (a : Allocation) → notices (permissions.failures over now a) ≡ []
-unfolding permissions.failures
-of_one over now a =
-    none_told (map (PermissionCreateFailed a.transport) (permissions.addresses_over over a.pending_permissions)) (map (PermissionCreateFailed a.transport) (permissions.addresses_lapsed now a.permissions))
-    (none_created a.transport (permissions.addresses_lapsed now a.permissions))
-    ∙ none_created a.transport (permissions.addresses_over over a.pending_permissions)
+none_bound : (transport : TransportType) (all : List SocketAddr) → notices (map (ChannelCreateFailed transport) all) ≡ []
+none_bound transport [] = refl
+none_bound transport (peer ∷ all) = none_bound transport all
 
-ends_tell_nothing : (over : Option ℕ) (now : ℕ) (all : List Allocation) → notices (permissions.all_failures over now all) ≡ []
+-- neither of these nor of those
+neither_told : (events more : List TurnEvent) → notices events ≡ [] → notices more ≡ [] → notices (events ++ more) ≡ []
+neither_told events more one other = none_told events more other ∙ one
+
+of_one : (over : Option ℕ) (now : ℕ) (a : Allocation) → notices (telling.failures over now a) ≡ []
+unfolding telling.failures
+of_one over now a =
+    let ips = permissions.addresses_over over a.pending_permissions in
+    let peers = channels.peers_over over a.pending_channels in
+    let lapsed = permissions.addresses_lapsed now a.permissions in
+    let lapsing = channels.peers_lapsing now a in
+    neither_told (map (PermissionCreateFailed a.transport) ips) _ (none_created a.transport ips)
+    (neither_told (map (ChannelCreateFailed a.transport) peers) _ (none_bound a.transport peers)
+    (neither_told (map (PermissionCreateFailed a.transport) lapsed) _ (none_created a.transport lapsed) (none_bound a.transport lapsing)))
+
+ends_tell_nothing : (over : Option ℕ) (now : ℕ) (all : List Allocation) → notices (telling.all_failures over now all) ≡ []
 ends_tell_nothing over now [] = refl
-ends_tell_nothing over now (a ∷ rest) = none_told (permissions.failures over now a) (permissions.all_failures over now rest) (ends_tell_nothing over now rest) ∙ of_one over now a
+ends_tell_nothing over now (a ∷ rest) = neither_told (telling.failures over now a) (telling.all_failures over now rest) (of_one over now a) (ends_tell_nothing over now rest)
+
+-- ---- what becomes of an allocation
+
+-- its permissions first, and then its channels
+both_polled : (over : Option ℕ) (now : ℕ) (a : Allocation) → IsPermitting none_gained none_asks a (telling.polled over now a)
+both_polled over now a =
+    both_permitting none_gained none_asks a (permissions.polled over now a) (telling.polled over now a) (polled_permitting over now a) (binding.polled_permitting over now (permissions.polled over now a))
 
 -- ---- the agent was polled
 
-polled_permissions_alike : (over : Option ℕ) (now : ℕ) (a : Allocation) → ((permissions.polled over now a).channels ≡ a.channels) × ((permissions.polled over now a).pending_channels ≡ a.pending_channels)
+polled_permissions_alike : (over : Option ℕ) (now : ℕ) (a : Allocation) → IsAlike a (permissions.polled over now a)
 unfolding permissions.polled
 polled_permissions_alike over now a = (refl, refl)
+
+-- numbers of channels stay distinct
+both_distinct : (over : Option ℕ) (now : ℕ) (all : List Allocation) → AreDistinct all → AreDistinct (map (telling.polled over now) all)
+both_distinct over now all distinct = each_stay_distinct all (telling.polled over now) (λ a number.
+    let one = alike_uses_less a (permissions.polled over now a) (polled_permissions_alike over now a).0 (polled_permissions_alike over now a).1 number in
+    let other = polled_uses_less over now (permissions.polled over now a) number in
+    omega (arith, one, other)) distinct
 
 module _ (c : Client) (sound : IsSound c) (now : ℕ) (ticked : StunAgentPollRet) (agent : agents.Agent) (is : agents.IsPolled c.core.agent now ticked agent) where
   abbrev mid : Protocol
@@ -86,21 +119,21 @@ module _ (c : Client) (sound : IsSound c) (now : ℕ) (ticked : StunAgentPollRet
   unfolding after_time
   stands over new same =
       let renewed : List Allocation = left over now mid in
-      let last : List Allocation = map (permissions.polled over now) renewed in
+      let last : List Allocation = map (telling.polled over now) renewed in
       let core : Protocol = after_time over now mid in
       let less = all_polled over now c.core.allocations in
       let kept : AreDistinct renewed = polled_distinct over now c.core.allocations sound.orderly.distinct in
       let between : Parts = record (parts_of mid) { allocations = renewed } in
-      let are = each_permitting none_gained none_asks (permissions.polled over now) (polled_permitting over now) renewed in
+      let are = each_permitting none_gained none_asks (telling.polled over now) (both_polled over now) renewed in
       let adds = adds_both [] (parts_of c.core) (parts_of mid) (parts_of core) mid_adds
       (adds_both [] (parts_of mid) between (parts_of core) (allocations_less [] [] (parts_of mid) renewed less (λ r h. absurd h))
       (allocations_permitting [] none_asks between last are (λ held n h. absurd h))) in
       subst (λ (p : Protocol). IsRunStep c [] None [] p) (sym same)
       (run_step [] [] None [] c c.drawn core
-      (quiet None [] c c.drawn core (counts_none c core refl) adds (nothing_drawn [] c) (none_told c.core.events (permissions.all_failures over now renewed) (ends_tell_nothing over now renewed)))
+      (quiet None [] c c.drawn core (counts_none c core refl) adds (nothing_drawn [] c) (none_told c.core.events (telling.all_failures over now renewed) (ends_tell_nothing over now renewed)))
       (permitting_orderly none_gained none_asks between last are (none_fit agent)
       (allocations_orderly [] (parts_of mid) renewed less (λ r h. absurd h) kept mid_orderly)
-      (same_distinct (permissions.polled over now) (polled_permissions_alike over now) renewed kept))
+      (both_distinct over now renewed kept))
       (until_map c.core.phase (still_can c core refl refl refl) sound.can_ask))
 
   ticked_in : (phase : Phase) (over : Option ℕ) (wait : ℕ) (ret : TurnPollRet) (new : Protocol) → IsPolledIn phase over wait mid now ret new → IsRunStep c [] None [] new

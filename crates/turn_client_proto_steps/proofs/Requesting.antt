@@ -4,6 +4,7 @@ use Rattle.std.specs.Prelude.{IfNone, IfSome, MatchResult}
 use Rattle.std.specs.declared.net.ip_addr.IpAddr.{IpAddr}
 use Rattle.stun_types.specs.declared.transport.TransportType.{TransportType}
 use Rattle.turn_client_proto_poll.specs.StunWire.{told_by}
+use Rattle.turn_client_proto_poll.specs.Allocation.Changes.{change_first}
 use Rattle.turn_client_proto_poll.specs.Api.declared.error.CreatePermissionError.{CreatePermissionError}
 use Rattle.turn_client_proto_poll.specs.Api.declared.error.CreatePermissionError.TheVariants.{AlreadyExists, NoAllocation, NoMemory}
 use Rattle.turn_client_proto_poll.specs.Permission.Asking.{asking, is_of, is_past, knows, marked}
@@ -27,9 +28,28 @@ use Rattle.turn_client_proto_steps.proofs.Lessening.{first_less, marked_less, sa
 use Rattle.turn_client_proto_steps.proofs.Orderly.{allocations_orderly, until_map}
 use Rattle.turn_client_proto_steps.proofs.Permissions.{asking_permitting, first_permitting}
 use Rattle.turn_client_proto_steps.proofs.Permits.{asks_by, made_number, permission_fit}
-use Rattle.turn_client_proto_steps.proofs.Permitting.{ArePermitting, allocations_permitting, none_gained, permitting_orderly}
+use Rattle.turn_client_proto_steps.proofs.Fitting.{permitting_orderly}
+use Rattle.turn_client_proto_steps.proofs.Permitting.{ArePermitting, allocations_permitting, none_gained}
 use Rattle.turn_client_proto_steps.proofs.Plain.{counts_none, nothing_drawn, quiet, run_step}
 use Rattle.turn_client_proto_steps.proofs.Refreshing.{allocated, number_drawn}
+
+-- the first allocation that passes is marked as expired
+pub marks_first : (c : Client) (passes : Allocation → Bool) → IsSound c → IsRunStep c [] None [] (record c.core { allocations = change_first passes marked c.core.allocations })
+marks_first c passes sound =
+    let left : List Allocation = change_first passes marked c.core.allocations in
+    let less : AreLess [] c.core.allocations left = first_less [] marked marked_less passes c.core.allocations in
+    let core : Protocol = record c.core { allocations = left } in
+    run_step [] [] None [] c c.drawn core
+    (quiet None [] c c.drawn core (counts_none c core refl) (allocations_less [] [] (parts_of c.core) left less (λ r h. absurd h)) (nothing_drawn [] c) refl)
+    (allocations_orderly [] (parts_of c.core) left less (λ r h. absurd h)
+    (same_first_distinct passes marked (λ a. (refl, refl)) c.core.allocations sound.orderly.distinct) sound.orderly) (until_map c.core.phase (still_can c core refl refl refl) sound.can_ask)
+
+pub authenticated : (phase : Phase) → is_authenticated phase ≡ true → phase ≡ Authenticated
+authenticated Initial h = absurd (Prim.cc h)
+authenticated (InitialSent numbers) h = absurd (Prim.cc h)
+authenticated (Authenticating numbers) h = absurd (Prim.cc h)
+authenticated Authenticated h = refl
+authenticated Ended h = absurd (Prim.cc h)
 
 module _ (c : Client) (transport : TransportType) (ip : IpAddr) (now : ℕ) where
   -- asked for
@@ -48,23 +68,12 @@ module _ (c : Client) (transport : TransportType) (ip : IpAddr) (now : ℕ) wher
       (same_first_distinct (is_of transport (family_of_ip ip)) (asking (record { ip = ip; numbers = number ∷ [] })) (λ a. (refl, refl)) c.core.allocations orderly.distinct) in
       asks c c.core (CreatePermission ip) number under_way is [] None (after_asking transport ip number now c.core) adds kept refl under_way.can_ask.families refl refl (nothing_drawn (told_by text ∷ []) c)
 
-  -- an allocation is marked
-  marks : IsSound c → IsRunStep c [] None [] (record c.core { allocations = changed_for transport ip marked c.core.allocations })
-  marks sound =
-      let left : List Allocation = changed_for transport ip marked c.core.allocations in
-      let less : AreLess [] c.core.allocations left = first_less [] marked marked_less (is_of transport (family_of_ip ip)) c.core.allocations in
-      let core : Protocol = record c.core { allocations = left } in
-      run_step [] [] None [] c c.drawn core
-      (quiet None [] c c.drawn core (counts_none c core refl) (allocations_less [] [] (parts_of c.core) left less (λ r h. absurd h)) (nothing_drawn [] c) refl)
-      (allocations_orderly [] (parts_of c.core) left less (λ r h. absurd h)
-      (same_first_distinct (is_of transport (family_of_ip ip)) marked (λ a. (refl, refl)) c.core.allocations sound.orderly.distinct) sound.orderly) (until_map c.core.phase (still_can c core refl refl refl) sound.can_ask)
-
   refused : (found : Option Allocation) (new : Protocol) → IsSound c → new ≡ refused_in found transport ip now c.core → IsRunStep c [] None [] new
   refused None new sound is = still c [] new sound is
   refused (Some a) new sound is =
       subst (λ (p : Protocol). IsRunStep c [] None [] p) (sym is)
       (elim (is_past now a) as (λ b. IsRunStep c [] None [] (if b then record c.core { allocations = changed_for transport ip marked c.core.allocations } else c.core)) [
-        | true ↦ marks sound
+        | true ↦ marks_first c (is_of transport (family_of_ip ip)) sound
         | false ↦ still c [] c.core sound refl
       ])
 
@@ -90,13 +99,6 @@ module _ (c : Client) (transport : TransportType) (ip : IpAddr) (now : ℕ) wher
           ]
         ]
       ] none
-
-  authenticated : (phase : Phase) → is_authenticated phase ≡ true → phase ≡ Authenticated
-  authenticated Initial h = absurd (Prim.cc h)
-  authenticated (InitialSent numbers) h = absurd (Prim.cc h)
-  authenticated (Authenticating numbers) h = absurd (Prim.cc h)
-  authenticated Authenticated h = refl
-  authenticated Ended h = absurd (Prim.cc h)
 
   pub permission_step : (answer : Result (Unit {0}) CreatePermissionError) (new : Protocol) → IsSound c → IsPermissionAnswered c.core transport ip now answer new → IsRunStep c [] None [] new
   permission_step answer new sound is = by (permission_refusal c.core transport ip now) refl is.refused is.asked

@@ -1,4 +1,4 @@
--- What is always true of a client (RFC 8489, sections 5, 6 and 9.2; RFC 8656, sections 7 and 8).
+-- What is always true of a client (RFC 8489, sections 5, 6 and 9.2; RFC 8656, sections 7, 8, 10 and 12).
 use Rattle.std.specs.Prelude.{◌≡◌, ℕ, ◌*◌, ◌<◌, ◌≤◌, ◌^◌, List, true, length, Some, None}
 use Rattle.std.specs.FinMap as map
 use Rattle.rand_chacha.specs.ChaCha.{ChaCha, next_word}
@@ -15,7 +15,7 @@ use Rattle.turn_types.specs.TurnRegistry.{allocate_method}
 use Rattle.turn_client_proto_poll.specs.Members.{IsIn}
 use Rattle.std.specs.Net.Socket.{IsSocketAddr, socket_flowinfo, socket_scope_id}
 use Rattle.std.specs.declared.net.socket_addr.SocketAddr.{SocketAddr}
-use Rattle.turn_client_proto_channel.specs.Numbers.{AreDistinct}
+use Rattle.turn_client_proto_poll.specs.Channel.Numbers.{AreDistinct}
 use Rattle.turn_client_proto_poll.specs.Messages.{Asks, Held, Holds, Permission, Channel as ChannelHeld}
 use Rattle.turn_client_proto_poll.specs.StunWire.{told_by}
 use Rattle.turn_client_proto_poll.specs.Core.Waiting.{Queued}

@@ -7,13 +7,17 @@
 
 ghost use Rattle.std.specs.Prelude.{◌≡◌, ◌≢◌, ℕ, List, Bool, Option, Result, Err};
 ghost use Rattle.std.specs.declared.net.ip_addr.IpAddr.{IpAddr};
+ghost use Rattle.std.specs.declared.net.socket_addr.SocketAddr.{SocketAddr};
 ghost use Rattle.stun_types.specs.declared.transport.TransportType.{TransportType};
 ghost use Rattle.turn_client_proto_poll.specs.Api.declared.answer.TurnPollRet.{TurnPollRet};
 ghost use Rattle.turn_client_proto_poll.specs.Api.declared.answer.TurnPollRet.TheVariants as poll;
+ghost use Rattle.turn_client_proto_poll.specs.Api.declared.error.BindChannelError.{BindChannelError};
+ghost use Rattle.turn_client_proto_poll.specs.Api.declared.error.BindChannelError.TheVariants as channel;
 ghost use Rattle.turn_client_proto_poll.specs.Api.declared.error.CreatePermissionError.{CreatePermissionError};
 ghost use Rattle.turn_client_proto_poll.specs.Api.declared.error.CreatePermissionError.TheVariants as permission;
 ghost use Rattle.turn_client_proto_poll.specs.Api.declared.error.DeleteError.{DeleteError};
 ghost use Rattle.turn_client_proto_poll.specs.Api.declared.error.DeleteError.TheVariants as deletion;
+ghost use Rattle.turn_client_proto_poll.specs.Core.Binding.{IsBindAnswered};
 ghost use Rattle.turn_client_proto_poll.specs.Core.Deleting.{IsDeleteAnswered};
 ghost use Rattle.turn_client_proto_poll.specs.Core.Permitting.{IsPermissionAnswered};
 ghost use Rattle.turn_client_proto_poll.specs.Core.Receiving.{IsHeard};
@@ -69,5 +73,17 @@ pub fn permitting_is_definite()
         → again ≢ Err permission.NoMemory
         → IsPermissionAnswered old transport ip now answer one
         → IsPermissionAnswered old transport ip now again other
+        → (answer ≡ again) × (one ≡ other) }
+{}
+
+/// One peer, over one transport, at one moment: what `bind_channel` answers, and what the client is
+/// then, are one, unless memory was refused.
+pub fn binding_is_definite()
+    ensures { (old one other : Protocol) (transport : TransportType) (peer : SocketAddr) (now : ℕ)
+        (answer again : Result (Unit {0}) BindChannelError)
+        → answer ≢ Err channel.NoMemory
+        → again ≢ Err channel.NoMemory
+        → IsBindAnswered old transport peer now answer one
+        → IsBindAnswered old transport peer now again other
         → (answer ≡ again) × (one ≡ other) }
 {}

@@ -10,30 +10,33 @@
 
 pub mod definite;
 
-ghost use Rattle.std.specs.Prelude.{◌≤◌, ℕ, List, length, ◌≡◌, ◌++◌, Bool, true, [], Option, None, Result, option_to_list};
+ghost use Rattle.std.specs.Prelude.{◌≤◌, ◌==◌, ℕ, List, length, filter, ◌≡◌, ◌++◌, Bool, true, [], Option, None, Result, option_to_list};
 ghost use Rattle.std.specs.declared.net.ip_addr.IpAddr.{IpAddr};
 ghost use Rattle.std.specs.declared.net.socket_addr.SocketAddr.{SocketAddr};
 ghost use Rattle.stun_types.specs.Registry.{longest_username};
 ghost use Rattle.stun_types.specs.declared.transport.TransportType.{TransportType};
 ghost use Rattle.turn_client_proto_poll.specs.Members.{IsIn};
-ghost use Rattle.turn_client_proto_poll.specs.Messages.{Allocation, Permission};
+ghost use Rattle.turn_client_proto_poll.specs.Messages.{Allocation, Channel, Permission};
 ghost use Rattle.turn_client_proto_poll.specs.Runs.{IsNew as IsNewInRun};
 ghost use Rattle.turn_client_proto_poll.specs.Words.{DeskWords};
 ghost use Rattle.turn_client_proto_poll.specs.Allocation.Listed.{relayed_shown};
 ghost use Rattle.turn_client_proto_poll.specs.Api.Config.{Config};
+ghost use Rattle.turn_client_proto_poll.specs.Channel.Shown.{channels_shown};
 ghost use Rattle.turn_client_proto_poll.specs.Permission.Asking.{permits_over};
 ghost use Rattle.turn_client_proto_poll.specs.Permission.Shown.{addresses_of, permissions_at};
 ghost use Rattle.turn_client_proto_poll.specs.Core.Beginning.{IsNew};
+ghost use Rattle.turn_client_proto_poll.specs.Core.Binding.{IsBindAnswered};
 ghost use Rattle.turn_client_proto_poll.specs.Core.declared.protocol.Protocol.{Protocol};
 ghost use Rattle.turn_client_proto_steps.specs.Beginning.{first_client};
 ghost use Rattle.turn_client_proto_steps.specs.ClientWords.{client_words, run_words, notice_of};
 ghost use Rattle.turn_client_proto_steps.specs.RunClient.{Client};
-ghost use Rattle.turn_client_proto_steps.specs.Sound.{IsSound};
+ghost use Rattle.turn_client_proto_steps.specs.Sound.{IsSound, IsWhole};
 ghost use Rattle.std.specs.List.{filter_map, list_any};
 ghost use Rattle.std.specs.Option.{option_map};
 ghost use Rattle.stun_types.specs.Grammar.{refusal};
 ghost use Rattle.stun_types.specs.Headers.{AreBytes};
 ghost use Rattle.turn_client_proto_poll.specs.Api.declared.answer.TurnPollRet.{TurnPollRet};
+ghost use Rattle.turn_client_proto_poll.specs.Api.declared.error.BindChannelError.{BindChannelError};
 ghost use Rattle.turn_client_proto_poll.specs.Api.declared.error.CreatePermissionError.{CreatePermissionError};
 ghost use Rattle.turn_client_proto_poll.specs.Api.declared.error.DeleteError.{DeleteError};
 ghost use Rattle.turn_client_proto_poll.specs.Core.Permitting.{IsPermissionAnswered};
@@ -99,6 +102,21 @@ pub fn permissions_had_are_held()
         → list_any (permits_over transport ip) c.core.allocations ≡ true }
 {}
 
+/// The channels that a client shows are held, in the words of a run, each by its number and its peer
+/// (`channels`).
+pub fn shown_channels_are_held()
+    ensures { (c : Client) (number : ℕ) (peer : SocketAddr)
+        → IsIn (number, peer) (channels_shown c.core.allocations)
+        → client_words.IsHeld c (Channel number peer) }
+{}
+
+/// No two channels that a sound client shows have one number.
+pub fn channels_are_distinct()
+    ensures { (c : Client) (number : ℕ)
+        → IsSound c
+        → length (filter (λ p. p.0 == number) (channels_shown c.core.allocations)) ≤ 1 }
+{}
+
 /// `poll_event` is a step in which what an event tells as created is answered.
 pub fn events_are_steps()
     ensures { (c : Client) (event : Option TurnEvent) (new : Protocol)
@@ -139,6 +157,19 @@ pub fn permissions_are_steps()
         → IsSilent c new }
 {}
 
+/// `bind_channel` to a peer without flow information and scope is a step in which a CHANNEL_BIND is
+/// made, where it is answered so. Refused it changes nothing but that an allocation may be marked as
+/// expired; where memory is refused, the number that was drawn counts, and nothing else changes.
+/// XOR-PEER-ADDRESS carries neither flow information nor scope (RFC 8656, section 18.3).
+pub fn bindings_are_steps()
+    ensures { (c : Client) (transport : TransportType) (peer : SocketAddr) (now : ℕ)
+        (answer : Result (Unit {0}) BindChannelError) (new : Protocol)
+        → IsSound c
+        → IsWhole peer
+        → IsBindAnswered c.core transport peer now answer new
+        → IsSilent c new }
+{}
+
 /// `poll` is a step in which nothing is asked for and nothing gained: requests and allocations may
 /// go.
 pub fn polls_are_steps()
@@ -159,8 +190,9 @@ pub fn draws_are_steps()
 
 /// A message that came is a step. What the client then holds in addition was brought by that
 /// message: it validates under a key of the client's, answers an ALLOCATE that was outstanding, or a
-/// CREATE_PERMISSION for that very address, and that is outstanding no more (RFC 8656, sections 7.3
-/// and 10.3). A challenge may make a request (RFC 8489, section 9.2.5).
+/// CREATE_PERMISSION for that very address, or a CHANNEL_BIND of that very number to that very peer,
+/// and that is outstanding no more (RFC 8656, sections 7.3, 10.3 and 12.3). A challenge may make a
+/// request (RFC 8489, section 9.2.5).
 pub fn messages_are_steps()
     ensures { (c : Client) (bytes : List ℕ) (now : ℕ) (handled : Bool) (new : Protocol)
         → IsSound c

@@ -6,7 +6,7 @@ use stun_types::{Transmit, TransportType};
 use turn_client_proto_api::Instant;
 use turn_client_proto_api::answer::Socket5Tuple;
 use turn_client_proto_api::data::TurnPeerData;
-use turn_client_proto_api::error::{CreatePermissionError, DeleteError};
+use turn_client_proto_api::error::{BindChannelError, CreatePermissionError, DeleteError};
 use turn_client_proto_api::event::TurnEvent;
 
 /// Why a client refuses a call.
@@ -16,6 +16,8 @@ pub enum Refusal {
     Delete(DeleteError),
     /// Why no permission is asked for.
     CreatePermission(CreatePermissionError),
+    /// Why no channel is asked for.
+    BindChannel(BindChannelError),
 }
 
 /// What an event is answered.
@@ -78,6 +80,8 @@ pub enum Answer {
     Relayed(Vec<(TransportType, SocketAddr)>),
     /// The addresses of the permissions that stand.
     Permissions(Vec<IpAddr>),
+    /// The channels that stand, each with its number and its peer.
+    Channels(Vec<(u16, SocketAddr)>),
     /// There is no client, or the moment is past `CLIENT_END`. Nothing was done.
     OutOfRange,
 }

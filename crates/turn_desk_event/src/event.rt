@@ -20,6 +20,10 @@ pub enum ClientCall {
     HavePermission(TransportType, IpAddr),
     /// `permissions` of the allocation with this transport and relayed address.
     Permissions(TransportType, SocketAddr),
+    /// `bind_channel` to the peer, over this transport between the server and the peers.
+    BindChannel(TransportType, SocketAddr),
+    /// `channels`.
+    Channels,
     /// `protocol_error`.
     ProtocolError,
     /// `relayed_addresses`.

@@ -54,17 +54,17 @@ number_within_is least most word n h =
 own : IsNumeralModel (λ ds. all_ascii_digits ds ≡ true) (digits_value 10)
 own = numerals_by_value _ tells_all_ascii_digits
 
-parsed : {E : Type 0} (word : List ℕ) (r : Result ℕ E)
+number_parsed : {E : Type 0} (word : List ℕ) (r : Result ℕ E)
     → OkIff r ((all_ascii_digits word ≡ true) × (0 < length word) × (digits_value 10 word < 2 ^ 64)) (digits_value 10 word)
     → result_ok r ≡ number_within 0 (2 ^ 64 - 1) word
-parsed word (Ok x) h =
+number_parsed word (Ok x) h =
     ap (λ n. Some n) h.1 ∙ sym (number_within_yes 0 (2 ^ 64 - 1) word h.0.0 h.0.1 (omega arith) (omega arith))
-parsed word (Err e) h = sym (number_within_no 0 (2 ^ 64 - 1) word (λ q. h (q.0, q.1, omega arith)))
+number_parsed word (Err e) h = sym (number_within_no 0 (2 ^ 64 - 1) word (λ q. h (q.0, q.1, omega arith)))
 
 -- `parse` at 64 bits, of a word that begins with no plus
 pub parse_number : {E : Type 0} (word : List ℕ) (r : Result ℕ E) → ParsesUnsigned 64 10 word r → get_or word 0 0 ≢ 43
     → result_ok r ≡ number_within 0 (2 ^ 64 - 1) word
-parse_number word r h plain = parsed word r (parse_plain own 64 word r h plain)
+parse_number word r h plain = number_parsed word r (parse_plain own 64 word r h plain)
 
 -- a word that begins with a plus is no number
 pub plus_number : (least most : ℕ) (word : List ℕ) → get_or word 0 0 ≡ 43 → number_within least most word ≡ None
@@ -99,4 +99,4 @@ narrow_above wide least most word n found outside =
     number_within_no least most word (λ q. omega arith)
 
 -- a number as it is written
-pub ruleset read_numbers = (parse_number, plus_number)
+pub ruleset parsed = (parse_number, plus_number)

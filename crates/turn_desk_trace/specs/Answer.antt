@@ -11,6 +11,8 @@ use Rattle.stun_types.specs.declared.family.AddressFamily.{AddressFamily}
 use Rattle.stun_types.specs.declared.family.AddressFamily.TheVariants.{IPV4, IPV6}
 use Rattle.stun_types.specs.declared.transport.TransportType.{TransportType}
 use Rattle.stun_types.specs.declared.transport.TransportType.TheVariants.{Udp, Tcp}
+use Rattle.turn_desk_event.specs.declared.error.BindChannelError.{BindChannelError}
+use Rattle.turn_desk_event.specs.declared.error.BindChannelError.TheVariants as Binds
 use Rattle.turn_desk_event.specs.declared.error.CreatePermissionError.{CreatePermissionError}
 use Rattle.turn_desk_event.specs.declared.error.CreatePermissionError.TheVariants as Permits
 use Rattle.turn_desk_event.specs.declared.error.DeleteError.{DeleteError}
@@ -20,7 +22,7 @@ use Rattle.turn_desk_event.specs.declared.api_event.TurnEvent.TheVariants as Eve
 use Rattle.turn_desk_event.specs.declared.answer.Answer.{Answer}
 use Rattle.turn_desk_event.specs.declared.answer.Answer.TheVariants as Answers
 use Rattle.turn_desk_event.specs.declared.answer.Refusal.{Refusal}
-use Rattle.turn_desk_event.specs.declared.answer.Refusal.TheVariants.{CreatePermission, Delete}
+use Rattle.turn_desk_event.specs.declared.answer.Refusal.TheVariants.{BindChannel, CreatePermission, Delete}
 
 -- the word for a transport
 abbrev pub transport_word : TransportType → List ℕ
@@ -58,10 +60,19 @@ permission_error_text Permits.AlreadyExists = codes "AlreadyExists"
 permission_error_text Permits.NoAllocation = codes "NoAllocation"
 permission_error_text Permits.NoMemory = codes "NoMemory"
 
+-- why no channel is asked for: behind an expired channel the moment through which its number stays reserved
+abbrev pub bind_error_text : BindChannelError → List ℕ
+bind_error_text Binds.AlreadyExists = codes "AlreadyExists"
+bind_error_text (Binds.ExpiredChannelExists until) = codes "ExpiredChannelExists " ++ decimal until
+bind_error_text Binds.NoAllocation = codes "NoAllocation"
+bind_error_text Binds.NoChannel = codes "NoChannel"
+bind_error_text Binds.NoMemory = codes "NoMemory"
+
 -- why a client refuses a call
 abbrev pub refusal_text : Refusal → List ℕ
 refusal_text (Delete error) = delete_error_text error
 refusal_text (CreatePermission error) = permission_error_text error
+refusal_text (BindChannel error) = bind_error_text error
 
 -- whether a permission stands
 abbrev pub have_text : Bool → List ℕ
@@ -75,6 +86,10 @@ relayed_text relayed = codes " " ++ placed_text relayed.0 (socket_text relayed.1
 -- an IP address, behind a space
 abbrev pub permitted_text : IpAddr → List ℕ
 permitted_text ip = codes " " ++ ip_text ip
+
+-- a channel's number and its peer, each behind a space
+abbrev pub channel_text : ℕ × SocketAddr → List ℕ
+channel_text channel = codes " " ++ decimal channel.0 ++ codes " " ++ socket_text channel.1
 
 -- two addresses with a space between
 abbrev pub between_text : SocketAddr → SocketAddr → List ℕ
@@ -107,6 +122,7 @@ answer_words (Answers.Refused refusal) = codes "refused " ++ refusal_text refusa
 answer_words (Answers.Have stands) = have_text stands
 answer_words (Answers.Relayed list) = codes "relayed" ++ flat_map relayed_text list.items
 answer_words (Answers.Permissions list) = codes "permissions" ++ flat_map permitted_text list.items
+answer_words (Answers.Channels list) = codes "channels" ++ flat_map channel_text list.items
 answer_words Answers.OutOfRange = codes "out of range"
 
 -- the printed line of an answer
@@ -132,6 +148,7 @@ answered_bytes (Answers.Refused refusal) = None
 answered_bytes (Answers.Have stands) = None
 answered_bytes (Answers.Relayed list) = None
 answered_bytes (Answers.Permissions list) = None
+answered_bytes (Answers.Channels list) = None
 answered_bytes Answers.OutOfRange = None
 
 -- the bytes, or none

@@ -5,7 +5,7 @@ use Rattle.std.specs.declared.net.ip_addr.IpAddr.{IpAddr}
 use Rattle.std.specs.declared.net.socket_addr.SocketAddr.{SocketAddr}
 use Rattle.stun_types.specs.declared.transport.TransportType.{TransportType}
 use Rattle.turn_desk_event.specs.declared.event.ClientCall.{ClientCall}
-use Rattle.turn_desk_event.specs.declared.event.ClientCall.TheVariants.{Poll, PollEvent, Delete, CreatePermission, HavePermission, Permissions, ProtocolError, RelayedAddresses}
+use Rattle.turn_desk_event.specs.declared.event.ClientCall.TheVariants.{Poll, PollEvent, Delete, CreatePermission, HavePermission, Permissions, BindChannel, Channels, ProtocolError, RelayedAddresses}
 use Rattle.turn_desk_event.specs.declared.event.Event.{Event}
 use Rattle.turn_desk_event.specs.declared.event.Event.TheVariants.{Call, Draw, ToClient, ToDesk}
 use Rattle.turn_desk_trace.specs.Answer.{transport_word}
@@ -45,6 +45,11 @@ abbrev pub IsPermission : List (List ℕ) → TransportType → IpAddr → ℕ �
 IsPermission [] transport ip moment = ⊥
 IsPermission (now ∷ rest) transport ip moment = (number now ≡ Some moment) × IsPlacedIp rest transport ip
 
+-- the words behind `bind` spell a moment, and this transport and this transport address
+abbrev pub IsBind : List (List ℕ) → TransportType → SocketAddr → ℕ → Type 0
+IsBind [] transport peer moment = ⊥
+IsBind (now ∷ rest) transport peer moment = (number now ≡ Some moment) × IsPlacedSocket rest transport peer
+
 -- a name and the words behind it spell a call of the client at a moment
 abbrev pub IsCall : List ℕ → List (List ℕ) → ClientCall → ℕ → Type 0
 IsCall name rest Poll moment = (name ≡ codes "poll") × IsMoment rest moment
@@ -56,6 +61,9 @@ IsCall name rest (HavePermission transport ip) moment =
     (name ≡ codes "have") × IsPlacedIp rest transport ip × (moment ≡ 0)
 IsCall name rest (Permissions transport socket) moment =
     (name ≡ codes "permissions") × IsPlacedSocket rest transport socket × (moment ≡ 0)
+IsCall name rest (BindChannel transport peer) moment =
+    (name ≡ codes "bind") × IsBind rest transport peer moment
+IsCall name rest Channels moment = (name ≡ codes "channels") × IsNoMoment rest moment
 IsCall name rest ProtocolError moment = (name ≡ codes "error") × IsNoMoment rest moment
 IsCall name rest RelayedAddresses moment = (name ≡ codes "relayed") × IsNoMoment rest moment
 

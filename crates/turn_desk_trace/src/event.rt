@@ -6,7 +6,7 @@ ghost use Rattle.std.specs.declared.net.socket_addr.SocketAddr.{SocketAddr};
 ghost use Rattle.stun_types.specs.declared.transport.TransportType.{TransportType};
 ghost use Rattle.turn_desk_event.specs.declared.event.ClientCall.{ClientCall};
 ghost use Rattle.turn_desk_event.specs.declared.event.Event.{Event};
-ghost use Rattle.turn_desk_trace.specs.Event.{IsCall, IsEvent, IsMoment, IsNoMoment, IsPermission, IsPlacedIp, IsPlacedSocket, IsToClient, IsToClientFrom, IsToClientOf, IsToDesk, IsToDeskFrom, IsToDeskOf};
+ghost use Rattle.turn_desk_trace.specs.Event.{IsBind, IsCall, IsEvent, IsMoment, IsNoMoment, IsPermission, IsPlacedIp, IsPlacedSocket, IsToClient, IsToClientFrom, IsToClientOf, IsToDesk, IsToDeskFrom, IsToDeskOf};
 
 use crate::address::{read_address, read_ip, read_transport};
 use crate::bytes::read_bytes;
@@ -210,6 +210,11 @@ fn read_call(name: &str, words: &[&str]) -> Option<(ClientCall, Instant)>
                 Instant::from_nanos(0),
             ))
         }
+        "bind" => {
+            let (transport, peer, now) = read_bind(words)?;
+            Some((ClientCall::BindChannel(transport, peer), now))
+        }
+        "channels" => Some((ClientCall::Channels, read_no_moment(words)?)),
         "error" => Some((ClientCall::ProtocolError, read_no_moment(words)?)),
         "relayed" => Some((ClientCall::RelayedAddresses, read_no_moment(words)?)),
         _ => None,
@@ -251,6 +256,24 @@ fn read_permission(words: &[&str]) -> Option<(TransportType, IpAddr, Instant)>
     match words {
         [now, rest @ ..] => match (read_u64(now), read_placed_ip(rest)) {
             (Some(now), Some((transport, ip))) => Some((transport, ip, Instant::from_nanos(now))),
+            _ => None,
+        },
+        _ => None,
+    }
+}
+
+/// The transport, the transport address and the moment of a line that begins with `bind`, from the
+/// words behind it.
+fn read_bind(words: &[&str]) -> Option<(TransportType, SocketAddr, Instant)>
+    ensures { MatchOption result ((transport : TransportType) (peer : SocketAddr) (moment : ℕ)
+        → ¬ (IsBind (map (λ x. x.now) words.now) transport peer moment))
+        (λ read. IsBind (map (λ x. x.now) words.now) read.0 read.1 read.2) }
+{
+    match words {
+        [now, rest @ ..] => match (read_u64(now), read_placed_socket(rest)) {
+            (Some(now), Some((transport, peer))) => {
+                Some((transport, peer, Instant::from_nanos(now)))
+            }
             _ => None,
         },
         _ => None,

@@ -17,7 +17,7 @@ pub const SEED_LENGTH: usize = 32;
 
 /// The number that a word of digits alone spells in decimal. None where another character stands
 /// in the word, where there is no digit, and for 2^64 and more.
-#[tactic(auto, using(crate::proofs::NumberLemmas::read_numbers))]
+#[tactic(auto, using(crate::proofs::NumberLemmas::parsed))]
 pub fn read_u64(word: &str) -> Option<u64>
     ensures { result ≡ number_within 0 (2 ^ 64 - 1) word.now }
 {

@@ -4,7 +4,7 @@ ghost use Rattle.std.specs.Prelude.{◌≡◌, ◌++◌, IfOk, OnOk, codes, deci
 ghost use Rattle.std.specs.List.{flat_map};
 ghost use Rattle.std.specs.Net.Text.{socket_text};
 ghost use Rattle.program_lines.specs.LowerHex.{hex_text};
-ghost use Rattle.turn_desk_trace.specs.Answer.{answer_text, answer_words, between_text, event_text, family_word, have_text, icmp_text, permission_error_text, permitted_text, placed_text, refusal_text, relayed_text, transport_word};
+ghost use Rattle.turn_desk_trace.specs.Answer.{answer_text, answer_words, between_text, bind_error_text, channel_text, delete_error_text, event_text, family_word, have_text, icmp_text, permission_error_text, permitted_text, placed_text, refusal_text, relayed_text, transport_word};
 
 use program_lines::lower_hex::write_hex;
 use std::alloc::{AllocError, Global};
@@ -13,7 +13,7 @@ use stun_types::{AddressFamily, TransportType};
 use turn_desk_event::answer::{Answer, Refusal};
 use turn_desk_event::api_answer::Socket5Tuple;
 use turn_desk_event::api_event::TurnEvent;
-use turn_desk_event::error::{CreatePermissionError, DeleteError};
+use turn_desk_event::error::{BindChannelError, CreatePermissionError, DeleteError};
 
 /// The line that an answer is printed as, with its line feed. Where memory is refused,
 /// `AllocError`.
@@ -49,10 +49,11 @@ fn print_words(alloc: Global, answer: &Answer) -> Result<String, AllocError>
         Answer::Closed => String::from_str(alloc, "closed"),
         Answer::Event(event) => print_event(alloc, *event),
         Answer::Done => String::from_str(alloc, "ok"),
-        Answer::Refused(refusal) => format!(in alloc; "refused {}", name_of_refusal(*refusal)),
+        Answer::Refused(refusal) => print_refusal(alloc, *refusal),
         Answer::Have(stands) => String::from_str(alloc, name_of_have(*stands)),
         Answer::Relayed(list) => print_relayed(alloc, list.as_slice()),
         Answer::Permissions(list) => print_permissions(alloc, list.as_slice()),
+        Answer::Channels(list) => print_channels(alloc, list.as_slice()),
         Answer::OutOfRange => String::from_str(alloc, "out of range"),
     }
 }
@@ -219,6 +220,60 @@ fn push_permitted(alloc: Global, text: &mut String, ip: IpAddr) -> Result<(), Al
     text.push_str(word.as_str())
 }
 
+/// `channels`, and the number and the peer of each.
+fn print_channels(alloc: Global, list: &[(u16, SocketAddr)]) -> Result<String, AllocError>
+    ensures { IfOk result (λ text. string_bytes text
+        ≡ codes "channels" ++ flat_map channel_text list.now) }
+{
+    let mut text = String::from_str(alloc, "channels")?;
+    for channel in list {
+        push_channel(alloc, &mut text, *channel)?;
+    }
+    Ok(text)
+}
+
+/// Appends the number and the peer of a channel, each behind a space.
+fn push_channel(
+    alloc: Global,
+    text: &mut String,
+    channel: (u16, SocketAddr),
+) -> Result<(), AllocError>
+    ensures { OnOk result (string_bytes text.new ≡ string_bytes text.old ++ channel_text channel) }
+{
+    let (number, peer) = channel;
+    let words = format!(in alloc; " {number} {peer}")?;
+    text.push_str(words.as_str())
+}
+
+/// `refused NAME`, and behind the name of an expired channel its moment.
+fn print_refusal(alloc: Global, refusal: Refusal) -> Result<String, AllocError>
+    ensures { IfOk result (λ text. string_bytes text ≡ codes "refused " ++ refusal_text refusal) }
+{
+    match refusal {
+        Refusal::Delete(error) => format!(in alloc; "refused {}", name_of_delete_error(error)),
+        Refusal::CreatePermission(error) => {
+            format!(in alloc; "refused {}", name_of_permission_error(error))
+        }
+        Refusal::BindChannel(error) => print_bind_refusal(alloc, error),
+    }
+}
+
+/// `refused NAME` where no channel is asked for, and behind the name of an expired channel the moment
+/// through which its number stays reserved.
+fn print_bind_refusal(alloc: Global, error: BindChannelError) -> Result<String, AllocError>
+    ensures { IfOk result (λ text. string_bytes text ≡ codes "refused " ++ bind_error_text error) }
+{
+    match error {
+        BindChannelError::AlreadyExists => String::from_str(alloc, "refused AlreadyExists"),
+        BindChannelError::ExpiredChannelExists(until) => {
+            format!(in alloc; "refused ExpiredChannelExists {}", until.as_nanos())
+        }
+        BindChannelError::NoAllocation => String::from_str(alloc, "refused NoAllocation"),
+        BindChannelError::NoChannel => String::from_str(alloc, "refused NoChannel"),
+        _ => String::from_str(alloc, "refused NoMemory"),
+    }
+}
+
 /// The word for whether a permission stands.
 fn name_of_have(stands: bool) -> &'static str
     ensures { result.now ≡ have_text stands }
@@ -246,14 +301,13 @@ fn name_of_family(family: AddressFamily) -> &'static str
     }
 }
 
-/// The name of a client's reason to refuse a call.
-fn name_of_refusal(refusal: Refusal) -> &'static str
-    ensures { result.now ≡ refusal_text refusal }
+/// The name of the reason for which allocations are not deleted.
+fn name_of_delete_error(error: DeleteError) -> &'static str
+    ensures { result.now ≡ delete_error_text error }
 {
-    match refusal {
-        Refusal::Delete(DeleteError::NoAllocation) => "NoAllocation",
-        Refusal::Delete(_) => "NoMemory",
-        Refusal::CreatePermission(error) => name_of_permission_error(error),
+    match error {
+        DeleteError::NoAllocation => "NoAllocation",
+        _ => "NoMemory",
     }
 }
 

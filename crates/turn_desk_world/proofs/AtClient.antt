@@ -11,6 +11,7 @@ use Rattle.stun_types.specs.declared.transport.TransportType.{TransportType}
 use Rattle.turn_client_proto.specs.Getters.{has_permission}
 use Rattle.turn_client_proto.specs.Messages.{Held, Notice}
 use Rattle.turn_client_proto.specs.Allocation.Listed.{relayed_shown}
+use Rattle.turn_client_proto.specs.Channel.Shown.{channels_shown}
 use Rattle.turn_client_proto.specs.Permission.Shown.{addresses_of, permissions_at}
 use Rattle.turn_client_proto.specs.Api.declared.answer.TurnPollRet.TheVariants as poll
 use Rattle.turn_client_proto.specs.Api.declared.answer.TurnRecvRet.{TurnRecvRet}
@@ -21,23 +22,24 @@ use Rattle.turn_client_proto.specs.Receipts.{Foreign, Heard, IsGivenBack, IsHand
 use Rattle.turn_client_proto_steps.specs.ClientWords.{IsHeld}
 use Rattle.turn_client_proto_steps.specs.RunClient.{Client}
 use Rattle.turn_client_proto_steps.specs.RunSteps.{IsRunStep}
-use Rattle.turn_client_proto_steps.specs.Sound.{IsSound}
+use Rattle.turn_client_proto_steps.specs.Sound.{IsSound, IsWhole}
 use Rattle.turn_client_proto_steps.proofs.Drawing.{draw_step}
 use Rattle.turn_client_proto_steps.proofs.Ending.{ended_step, event_step, failed_step, still}
 use Rattle.turn_client_proto_steps.proofs.Polling.{poll_step}
 use Rattle.turn_client_proto_steps.proofs.Receiving.{receive_step}
 use Rattle.turn_client_proto_steps.proofs.Refreshing.{delete_step}
 use Rattle.turn_client_proto_steps.proofs.Requesting.{permission_step}
+use Rattle.turn_client_proto_steps.proofs.RequestingChannels.{bind_step}
 use Rattle.turn_desk_event.specs.declared.answer.Answer.{Answer}
 use Rattle.turn_desk_event.specs.declared.answer.Answer.TheVariants as answer
-use Rattle.turn_desk_event.specs.declared.answer.Refusal.TheVariants.{CreatePermission as PermissionRefused, Delete as DeleteRefused}
+use Rattle.turn_desk_event.specs.declared.answer.Refusal.TheVariants.{BindChannel as BindRefused, CreatePermission as PermissionRefused, Delete as DeleteRefused}
 use Rattle.turn_desk_event.specs.declared.event.ClientCall.{ClientCall}
 use Rattle.turn_desk_event.specs.declared.event.ClientCall.TheVariants as call
 use Rattle.turn_desk_event.specs.declared.event.Event.{Event}
 use Rattle.turn_desk_event.specs.declared.event.Event.TheVariants as event
-use Rattle.turn_desk_world.specs.Calls.{ArePermissionsTold, IsCalled, IsDeleteTold, IsDrawnAs, IsEndTold, IsEventTold, IsFed, IsHaveTold, IsPermissionTold, IsPolledAs, IsRelayedTold, IsTold}
-use Rattle.turn_desk_world.specs.Told.{bytes_sent, notices_in, payloads_in}
-use Rattle.turn_desk_world.proofs.Shown.{AreHeld, had_is_held, permissions_held, relayed_held}
+use Rattle.turn_desk_world.specs.Calls.{AreChannelsTold, ArePermissionsTold, IsBindTold, IsCalled, IsDeleteTold, IsDrawnAs, IsEndTold, IsEventTold, IsFed, IsHaveTold, IsPermissionTold, IsPolledAs, IsRelayedTold, IsTold}
+use Rattle.turn_desk_world.specs.Told.{IsFairEvent, bytes_sent, notices_in, payloads_in}
+use Rattle.turn_desk_world.proofs.Shown.{AreHeld, channels_held, had_is_held, permissions_held, relayed_held}
 
 -- an event that is answered so
 pub record IsAnswered (happening : Event) (c : Client) (came : List (List ℕ)) (ret : Answer) (core : Protocol) : Type 0 where
@@ -67,6 +69,19 @@ module _ (happening : Event) (c : Client) (sound : IsSound c) (now : ℕ) (new :
   permission_told transport ip answer.Done is = record { step = permission_step c transport ip now (Ok tt) new sound is; no_payload = refl; shows = λ h i. absurd i }
   permission_told transport ip (answer.Refused (PermissionRefused error)) is = record { step = permission_step c transport ip now (Err error) new sound is.0; no_payload = refl; shows = λ h i. absurd i }
   permission_told transport ip _ is = absurd is
+
+  bind_told : (transport : TransportType) (peer : SocketAddr) → IsWhole peer → (ret : Answer) → IsBindTold ret transport peer c.core now new → IsAnswered happening c [] ret new
+  bind_told transport peer whole answer.Done is = record { step = bind_step c transport peer now whole (Ok tt) new sound is; no_payload = refl; shows = λ h i. absurd i }
+  bind_told transport peer whole (answer.Refused (BindRefused error)) is = record { step = bind_step c transport peer now whole (Err error) new sound is.0; no_payload = refl; shows = λ h i. absurd i }
+  bind_told transport peer whole _ is = absurd is
+
+  channels_told : (ret : Answer) → AreChannelsTold ret c.core new → IsAnswered happening c [] ret new
+  channels_told (answer.Channels list) is = record {
+    step = still c [] new sound is.1;
+    no_payload = refl;
+    shows = channels_held new list.items (is.0 ∙ ap (λ (p : Protocol). channels_shown p.allocations) (sym is.1));
+  }
+  channels_told _ is = absurd is
 
   end_told : (ret : Answer) → IsEndTold ret c.core new → IsAnswered happening c [] ret new
   end_told answer.Done is = record { step = subst (λ (p : Protocol). IsRunStep c [] None [] p) (sym is) (ended_step c sound); no_payload = refl; shows = λ h i. absurd i }
@@ -112,16 +127,18 @@ module _ (c : Client) (sound : IsSound c) (now : ℕ) (new : Protocol) where
   }
   have_told transport ip _ is = absurd is
 
-  pub called : (what : ClientCall) (ret : Answer) → IsCalled what ret c.core now new → IsAnswered (event.Call what now) c [] ret new
+  pub called : (what : ClientCall) (ret : Answer) → IsFairEvent (event.Call what now) → IsCalled what ret c.core now new → IsAnswered (event.Call what now) c [] ret new
   unfolding IsCalled
-  called call.Poll ret is = polled (event.Call call.Poll now) c sound now new ret is
-  called call.PollEvent ret is = event_told (event.Call call.PollEvent now) c sound now new ret is
-  called call.Delete ret is = delete_told (event.Call call.Delete now) c sound now new ret is
-  called (call.CreatePermission transport ip) ret is = permission_told (event.Call (call.CreatePermission transport ip) now) c sound now new transport ip ret is
-  called (call.HavePermission transport ip) ret is = have_told transport ip ret is
-  called (call.Permissions transport relayed) ret is = permissions_told transport relayed ret is
-  called call.ProtocolError ret is = end_told (event.Call call.ProtocolError now) c sound now new ret is
-  called call.RelayedAddresses ret is = relayed_told (event.Call call.RelayedAddresses now) c sound now new ret is
+  called call.Poll ret fair is = polled (event.Call call.Poll now) c sound now new ret is
+  called call.PollEvent ret fair is = event_told (event.Call call.PollEvent now) c sound now new ret is
+  called call.Delete ret fair is = delete_told (event.Call call.Delete now) c sound now new ret is
+  called (call.CreatePermission transport ip) ret fair is = permission_told (event.Call (call.CreatePermission transport ip) now) c sound now new transport ip ret is
+  called (call.HavePermission transport ip) ret fair is = have_told transport ip ret is
+  called (call.Permissions transport relayed) ret fair is = permissions_told transport relayed ret is
+  called (call.BindChannel transport peer) ret fair is = bind_told (event.Call (call.BindChannel transport peer) now) c sound now new transport peer fair ret is
+  called call.Channels ret fair is = channels_told (event.Call call.Channels now) c sound now new ret is
+  called call.ProtocolError ret fair is = end_told (event.Call call.ProtocolError now) c sound now new ret is
+  called call.RelayedAddresses ret fair is = relayed_told (event.Call call.RelayedAddresses now) c sound now new ret is
 
 -- ---- what came
 

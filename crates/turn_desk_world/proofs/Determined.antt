@@ -9,11 +9,14 @@ use Rattle.turn_client_proto.specs.Api.declared.answer.TurnPollRet.{TurnPollRet}
 use Rattle.turn_client_proto.specs.Api.declared.answer.TurnPollRet.TheVariants as poll
 use Rattle.turn_client_proto.specs.Api.declared.answer.TurnRecvRet.{TurnRecvRet}
 use Rattle.turn_client_proto.specs.Api.declared.answer.TurnRecvRet.TheVariants as recv
+use Rattle.turn_client_proto.specs.Api.declared.error.BindChannelError.{BindChannelError}
+use Rattle.turn_client_proto.specs.Api.declared.error.BindChannelError.TheVariants as not_bound
 use Rattle.turn_client_proto.specs.Api.declared.error.CreatePermissionError.{CreatePermissionError}
 use Rattle.turn_client_proto.specs.Api.declared.error.CreatePermissionError.TheVariants as not_permitted
 use Rattle.turn_client_proto.specs.Api.declared.error.DeleteError.{DeleteError}
 use Rattle.turn_client_proto.specs.Api.declared.error.DeleteError.TheVariants as not_deleted
 use Rattle.turn_client_proto.specs.Api.declared.event.TurnEvent.{TurnEvent}
+use Rattle.turn_client_proto.specs.Binding.{IsBindAnswered}
 use Rattle.turn_client_proto.specs.Deleting.{IsDeleteAnswered}
 use Rattle.turn_client_proto.specs.Drawing.{sent_of}
 use Rattle.turn_client_proto.specs.Kept.{Protocol}
@@ -22,15 +25,16 @@ use Rattle.turn_client_proto.specs.Polling.{IsPolled}
 use Rattle.turn_desk_world.specs.Copies.{IsCopy}
 use Rattle.turn_client_proto_steps.proofs.Lists.{inside}
 use Rattle.turn_client_proto_steps.proofs.Once.Calling.{delete_same, permission_same}
+use Rattle.turn_client_proto_steps.proofs.Once.Channels.{bind_same}
 use Rattle.turn_client_proto_steps.proofs.Once.Drawing.{draw_same}
 use Rattle.turn_client_proto_steps.proofs.Once.Polling.{poll_same}
 use Rattle.turn_desk_world.proofs.Receiving.{received_same}
 use Rattle.turn_desk_event.specs.declared.answer.Answer.{Answer}
 use Rattle.turn_desk_event.specs.declared.answer.Answer.TheVariants as answer
-use Rattle.turn_desk_event.specs.declared.answer.Refusal.TheVariants.{CreatePermission as PermissionRefused, Delete as DeleteRefused}
+use Rattle.turn_desk_event.specs.declared.answer.Refusal.TheVariants.{BindChannel as BindRefused, CreatePermission as PermissionRefused, Delete as DeleteRefused}
 use Rattle.turn_desk_event.specs.declared.event.ClientCall.{ClientCall}
 use Rattle.turn_desk_event.specs.declared.event.ClientCall.TheVariants as call
-use Rattle.turn_desk_world.specs.Calls.{ArePermissionsTold, IsCalled, IsDeleteTold, IsDrawnAs, IsEndTold, IsEventTold, IsFed, IsHaveTold, IsPermissionTold, IsPolledAs, IsRelayedTold, IsTold}
+use Rattle.turn_desk_world.specs.Calls.{AreChannelsTold, ArePermissionsTold, IsBindTold, IsCalled, IsDeleteTold, IsDrawnAs, IsEndTold, IsEventTold, IsFed, IsHaveTold, IsPermissionTold, IsPolledAs, IsRelayedTold, IsTold}
 use Rattle.turn_desk_world.specs.Determined.{IsSame}
 use Rattle.turn_desk_world.specs.Runs.{IsAtClient, IsInRange, is_in_range}
 
@@ -41,6 +45,7 @@ itself (answer.Reply reply) = refl
 itself (answer.Transmit transmit) = refl
 itself (answer.Relayed list) = refl
 itself (answer.Permissions list) = refl
+itself (answer.Channels list) = refl
 itself _ = refl
 
 pub equal_same : (a b : Answer) → a ≡ b → IsSame a b
@@ -97,7 +102,7 @@ module _ (old : Protocol) (now : ℕ) where
   polled : (ret again : Answer) (new other : Protocol) → IsPolledAs ret old now new → IsPolledAs again old now other → AreOne ret again new other
   polled ret again new other a b = by_definite answer_of_poll Polls polls ret again new other (by_poll ret new a) (by_poll again other b)
 
--- ---- `delete`, `create_permission`
+-- ---- `delete`, `create_permission`, `bind_channel`
 
 abbrev answer_of_deletion : Result (Unit {0}) DeleteError → Answer
 answer_of_deletion (Ok x) = answer.Done
@@ -106,6 +111,10 @@ answer_of_deletion (Err error) = answer.Refused (DeleteRefused error)
 abbrev answer_of_permission : Result (Unit {0}) CreatePermissionError → Answer
 answer_of_permission (Ok x) = answer.Done
 answer_of_permission (Err error) = answer.Refused (PermissionRefused error)
+
+abbrev answer_of_binding : Result (Unit {0}) BindChannelError → Answer
+answer_of_binding (Ok x) = answer.Done
+answer_of_binding (Err error) = answer.Refused (BindRefused error)
 
 inside_err : {E : Type 0} (a b : E) (p q : Result (Unit {0}) E) → p ≡ Err a → q ≡ Err b → p ≡ q → a ≡ b
 inside_err a b p q at here same = Prim.cc (sym at ∙ same ∙ here)
@@ -136,6 +145,19 @@ module _ (old : Protocol) (now : ℕ) where
     unfolding IsDefinite
     permits one other new left a b = permission_same old transport ip now one other new left a.0 b.0 a.1 b.1
 
+  module _ (transport : TransportType) (peer : SocketAddr) where
+    abbrev Binds : Result (Unit {0}) BindChannelError → Protocol → Type 0
+    Binds ret new = (ret ≢ Err not_bound.NoMemory) × IsBindAnswered old transport peer now ret new
+
+    by_binding : (ret : Answer) (new : Protocol) → IsBindTold ret transport peer old now new → IsBy answer_of_binding Binds ret new
+    by_binding answer.Done new is = record { given = Ok tt; gives = ((λ e. Prim.cc e), is); told = refl }
+    by_binding (answer.Refused (BindRefused error)) new is = record { given = Err error; gives = ((λ e. is.1 (inside_err error not_bound.NoMemory (Err error) (Err not_bound.NoMemory) refl refl e)), is.0); told = refl }
+    by_binding _ new is = absurd is
+
+    binds : IsDefinite Binds
+    unfolding IsDefinite
+    binds one other new left a b = bind_same old transport peer now one other new left a.0 b.0 a.1 b.1
+
 -- ---- getters, events and ends
 
 event_told : (old : Protocol) (ret again : Answer) (new other : Protocol) → IsEventTold ret old new → IsEventTold again old other → AreOne ret again new other
@@ -162,6 +184,11 @@ permissions_told transport relayed old (answer.Permissions list) (answer.Permiss
 permissions_told transport relayed old (answer.Permissions list) _ new other a b = absurd b
 permissions_told transport relayed old _ again new other a b = absurd a
 
+channels_told : (old : Protocol) (ret again : Answer) (new other : Protocol) → AreChannelsTold ret old new → AreChannelsTold again old other → AreOne ret again new other
+channels_told old (answer.Channels list) (answer.Channels more) new other a b = (a.0 ∙ sym b.0, a.1 ∙ sym b.1)
+channels_told old (answer.Channels list) _ new other a b = absurd b
+channels_told old _ again new other a b = absurd a
+
 relayed_told : (old : Protocol) (ret again : Answer) (new other : Protocol) → IsRelayedTold ret old new → IsRelayedTold again old other → AreOne ret again new other
 relayed_told old (answer.Relayed list) (answer.Relayed more) new other a b = (a.0 ∙ sym b.0, a.1 ∙ sym b.1)
 relayed_told old (answer.Relayed list) _ new other a b = absurd b
@@ -181,6 +208,9 @@ called_once (call.CreatePermission transport ip) old now ret again new other a b
     by_definite answer_of_permission (Permits old now transport ip) (permits old now transport ip) ret again new other (by_permission old now transport ip ret new a) (by_permission old now transport ip again other b)
 called_once (call.HavePermission transport ip) old now ret again new other a b = have_told transport ip old ret again new other a b
 called_once (call.Permissions transport relayed) old now ret again new other a b = permissions_told transport relayed old ret again new other a b
+called_once (call.BindChannel transport peer) old now ret again new other a b =
+    by_definite answer_of_binding (Binds old now transport peer) (binds old now transport peer) ret again new other (by_binding old now transport peer ret new a) (by_binding old now transport peer again other b)
+called_once call.Channels old now ret again new other a b = channels_told old ret again new other a b
 called_once call.ProtocolError old now ret again new other a b = end_told old ret again new other a b
 called_once call.RelayedAddresses old now ret again new other a b = relayed_told old ret again new other a b
 

@@ -1,4 +1,5 @@
 pub mod Addresses
+pub mod Answered
 pub mod AtClient
 pub mod AtDesk
 pub mod Bytes

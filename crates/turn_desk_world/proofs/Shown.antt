@@ -1,16 +1,18 @@
 -- What the client's getters show is held.
-use Rattle.std.proofs.Common.{◌≡◌, true, List, map, sym, subst}
+use Rattle.std.proofs.Common.{◌≡◌, ℕ, true, List, map, sym, subst}
 use Rattle.std.specs.declared.net.ip_addr.IpAddr.{IpAddr}
 use Rattle.std.specs.declared.net.socket_addr.SocketAddr.{SocketAddr}
 use Rattle.stun_types.specs.declared.transport.TransportType.{TransportType}
 use Rattle.turn_client_proto.specs.Getters.{has_permission}
 use Rattle.turn_client_proto.specs.Members.{IsIn}
-use Rattle.turn_client_proto.specs.Messages.{Held, Allocation, Permission}
+use Rattle.turn_client_proto.specs.Messages.{Held, Allocation, Channel, Permission}
 use Rattle.turn_client_proto.specs.Allocation.Listed.{relayed_shown}
+use Rattle.turn_client_proto.specs.Channel.Shown.{channels_shown}
 use Rattle.turn_client_proto.specs.Permission.Shown.{addresses_of, permissions_at}
 use Rattle.turn_client_proto.specs.Kept.{Protocol}
 use Rattle.turn_client_proto_steps.specs.ClientWords.{IsHeld}
 use Rattle.turn_client_proto_steps.proofs.Lists.{in_map}
+use Rattle.turn_client_proto_steps.proofs.ShownChannels.{channel_held}
 use Rattle.turn_client_proto_steps.proofs.Shown.{had_held, permission_held, shown_held}
 use Rattle.turn_desk_event.specs.declared.answer.Answer.{Answer}
 use Rattle.turn_desk_event.specs.declared.event.Event.{Event}
@@ -34,6 +36,13 @@ module _ (core : Protocol) where
       let image = in_map (λ (ip : IpAddr). Permission transport ip) h ips listed in
       subst (λ (x : Held). IsHeld core.allocations x) (sym image.is)
       (permission_held core.allocations transport relayed image.source (subst (λ (l : List IpAddr). IsIn image.source l) is image.listed))
+
+  pub channels_held : (list : List (ℕ × SocketAddr)) → list ≡ channels_shown core.allocations → (h : Held)
+      → IsIn h (map (λ (p : ℕ × SocketAddr). Channel p.0 p.1) list) → IsHeld core.allocations h
+  channels_held list is h listed =
+      let image = in_map (λ (p : ℕ × SocketAddr). Channel p.0 p.1) h list listed in
+      subst (λ (x : Held). IsHeld core.allocations x) (sym image.is)
+      (channel_held core.allocations image.source.0 image.source.1 (subst (λ (l : List (ℕ × SocketAddr)). IsIn image.source l) is image.listed))
 
   pub had_is_held : (transport : TransportType) (ip : IpAddr) → has_permission transport ip core ≡ true → IsHeld core.allocations (Permission transport ip)
   had_is_held transport ip is = had_held core.allocations transport ip is

@@ -89,7 +89,7 @@ module _ (event : Event) (c : Client) (sound : IsSound c) (came : List (List ℕ
 by_event : (event : Event) (ret : Answer) (c : Client) (old new : World) → IsSound c → old.client ≡ Some c.core → IsFairEvent event → IsStep event old ret new → IsOne event ret c old new
 by_event (event.Call call now) ret c old new sound held fair is =
     client_step (event.Call call now) c sound [] ret old new held (λ one h. h)
-    (at_client (event.Call call now) c sound [] ret now _ old.client new.client held (λ q h. called c sound now q call ret h) is.0)
+    (at_client (event.Call call now) c sound [] ret now _ old.client new.client held (λ q h. called c sound now q call ret fair h) is.0)
 by_event (Draw now) ret c old new sound held fair is =
     client_step (Draw now) c sound [] ret old new held (λ one h. h)
     (at_client (Draw now) c sound [] ret now _ old.client new.client held (λ q h. drawn (Draw now) c sound now q ret h) is.0)

@@ -9,10 +9,12 @@ use Rattle.stun_types.specs.declared.transport.TransportType.{TransportType}
 use Rattle.turn_client_proto.specs.Api.declared.answer.TurnPollRet.TheVariants as poll
 use Rattle.turn_client_proto.specs.Api.declared.answer.TurnRecvRet.{TurnRecvRet}
 use Rattle.turn_client_proto.specs.Api.declared.answer.TurnRecvRet.TheVariants as recv
+use Rattle.turn_client_proto.specs.Api.declared.error.BindChannelError.TheVariants as not_bound
 use Rattle.turn_client_proto.specs.Api.declared.error.CreatePermissionError.TheVariants as not_permitted
 use Rattle.turn_client_proto.specs.Api.declared.error.DeleteError.TheVariants as not_deleted
-use Rattle.turn_client_proto.specs.Getters.{has_permission, permissions_of, relayed_of}
+use Rattle.turn_client_proto.specs.Getters.{channels_of, has_permission, permissions_of, relayed_of}
 use Rattle.turn_client_proto.specs.Receipts.{IsReceived}
+use Rattle.turn_client_proto.specs.Binding.{IsBindAnswered}
 use Rattle.turn_client_proto.specs.Deleting.{IsDeleteAnswered}
 use Rattle.turn_client_proto.specs.Drawing.{IsDrawn, sent_of}
 use Rattle.turn_client_proto.specs.Ending.{ended}
@@ -21,9 +23,9 @@ use Rattle.turn_client_proto.specs.Polling.{IsPolled}
 use Rattle.turn_client_proto.specs.Kept.{Protocol}
 use Rattle.turn_desk_event.specs.declared.answer.Answer.{Answer}
 use Rattle.turn_desk_event.specs.declared.answer.Answer.TheVariants as answer
-use Rattle.turn_desk_event.specs.declared.answer.Refusal.TheVariants.{CreatePermission as PermissionRefused, Delete as DeleteRefused}
+use Rattle.turn_desk_event.specs.declared.answer.Refusal.TheVariants.{BindChannel as BindRefused, CreatePermission as PermissionRefused, Delete as DeleteRefused}
 use Rattle.turn_desk_event.specs.declared.event.ClientCall.{ClientCall}
-use Rattle.turn_desk_event.specs.declared.event.ClientCall.TheVariants.{Poll, PollEvent, Delete, CreatePermission, HavePermission, Permissions, ProtocolError, RelayedAddresses}
+use Rattle.turn_desk_event.specs.declared.event.ClientCall.TheVariants.{Poll, PollEvent, Delete, CreatePermission, HavePermission, Permissions, BindChannel, Channels, ProtocolError, RelayedAddresses}
 
 -- ---- calls
 
@@ -67,6 +69,18 @@ ArePermissionsTold (answer.Permissions list) transport relayed old new =
     (list.items ≡ permissions_of transport relayed old) × (new ≡ old)
 ArePermissionsTold _ transport relayed old new = ⊥
 
+-- `bind_channel`; want of memory is no answer
+abbrev pub IsBindTold : Answer → TransportType → SocketAddr → Protocol → ℕ → Protocol → Type 0
+IsBindTold answer.Done transport peer old now new = IsBindAnswered old transport peer now (Ok tt) new
+IsBindTold (answer.Refused (BindRefused error)) transport peer old now new =
+    IsBindAnswered old transport peer now (Err error) new × (error ≢ not_bound.NoMemory)
+IsBindTold _ transport peer old now new = ⊥
+
+-- `channels`
+abbrev pub AreChannelsTold : Answer → Protocol → Protocol → Type 0
+AreChannelsTold (answer.Channels list) old new = (list.items ≡ channels_of old) × (new ≡ old)
+AreChannelsTold _ old new = ⊥
+
 -- `protocol_error`
 abbrev pub IsEndTold : Answer → Protocol → Protocol → Type 0
 IsEndTold answer.Done old new = new ≡ ended old
@@ -85,6 +99,8 @@ IsCalled Delete answer old now new = IsDeleteTold answer old now new
 IsCalled (CreatePermission transport ip) answer old now new = IsPermissionTold answer transport ip old now new
 IsCalled (HavePermission transport ip) answer old now new = IsHaveTold answer transport ip old new
 IsCalled (Permissions transport relayed) answer old now new = ArePermissionsTold answer transport relayed old new
+IsCalled (BindChannel transport peer) answer old now new = IsBindTold answer transport peer old now new
+IsCalled Channels answer old now new = AreChannelsTold answer old new
 IsCalled ProtocolError answer old now new = IsEndTold answer old new
 IsCalled RelayedAddresses answer old now new = IsRelayedTold answer old new
 

@@ -11,6 +11,7 @@ IsSame (answer.Reply one) (answer.Reply other) = one.items ≡ other.items
 IsSame (answer.Transmit one) (answer.Transmit other) = sent_of one ≡ sent_of other
 IsSame (answer.Relayed one) (answer.Relayed other) = one.items ≡ other.items
 IsSame (answer.Permissions one) (answer.Permissions other) = one.items ≡ other.items
+IsSame (answer.Channels one) (answer.Channels other) = one.items ≡ other.items
 IsSame one other = one ≡ other
 
 -- the same events, one by one answered the same

@@ -1,10 +1,11 @@
 -- What holds of a run of a client and a desk over a network that loses, repeats, reorders and invents.
-use Rattle.std.specs.Prelude.{◌≡◌, ◌≤◌, ℕ, List, length, Some}
+use Rattle.std.specs.Prelude.{◌≡◌, ◌≤◌, ℕ, List, [], ◌∷◌, ◌++◌, length, Some}
 use Rattle.std.specs.List.{AllByRecursion}
 use Rattle.std.specs.declared.net.socket_addr.SocketAddr.{SocketAddr}
 use Rattle.stun_types.specs.Registry.{longest_username}
 use Rattle.stun_types.specs.declared.transport.TransportType.{TransportType}
-use Rattle.turn_client_proto.specs.Headline.{AnswersOnce, IsPromised, IsSafe, ShowsTraced, Unless}
+use Rattle.turn_client_proto.specs.Headline.{AnswersOnce, IsPromised, IsSafe, ShowsTraced, Traced, Unless}
+use Rattle.turn_client_proto.specs.Messages.{Held}
 use Rattle.turn_client_proto.specs.Runs.{Step, AtEach, IsCounted, IsLawful, Leads}
 use Rattle.turn_client_proto.specs.Words.{Words}
 use Rattle.turn_client_proto.specs.Beginning.{IsNew}
@@ -34,8 +35,8 @@ pub record BeginsNew (transport : TransportType) (here server : SocketAddr) (con
 
 -- what the answers to some events come to: each is a step of a run by the contracts, and they lead the client from one
 -- state to another; and where nothing that arrives was forged under a key of the client's, and no number is drawn twice,
--- each step is safe, nothing is answered as created twice for one request, and each relayed address and each permission
--- that is shown was granted before
+-- each step is safe, nothing is answered as created twice for one request, and each relayed address, each permission and
+-- each channel that is shown was granted before, a channel with that number and to that peer
 pub record AreSafe (first : Client) (old : World) (pairs : List (Event × Answer)) (new : World) : Type 0 where
   pub run : List (Step Client DeskCall)
   pub told : IsToldBy old pairs run new
@@ -76,3 +77,19 @@ IsSafeRun old pairs new = (transport : TransportType) (here server : SocketAddr)
     (config : Config) (seed : List ℕ) (core : Protocol)
     → BeginsNew transport here server config seed core old → AllByRecursion IsFair pairs
     → ArePromised (first_client config.credentials seed core) old pairs new
+
+-- ---- what an answer shows
+
+-- an account of which the promise stands, of a run whose last event was answered so
+pub record IsLastAnswered (event : Event) (answer : Answer) (first : Client) (run : List (Step Client DeskCall))
+    (last : Client) : Type 0 where
+  pub old : World
+  pub new : World
+  pub before : List (Event × Answer)
+  pub account : IsAccount first old (before ++ (event, answer) ∷ []) new run last
+  pub promised : IsPromised words first run last
+
+-- the desk granted this in the run, in answer to a request of the client's, unless something was forged or a number
+-- came twice
+abbrev pub WasGranted : (first : Client) → List (Step Client DeskCall) → (last : Client) → Held → Type 0
+WasGranted first run last held = Unless words first run last (Traced words run held)

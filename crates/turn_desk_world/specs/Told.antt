@@ -1,17 +1,21 @@
 -- What the events of a world and their answers are in a run of a client and a desk.
 use Rattle.std.specs.Prelude.{◌≡◌, ℕ, Bool, true, ◌++◌, List, [], ◌∷◌, map, Option, Some, None}
 use Rattle.std.specs.List.{filter_map}
-use Rattle.std.specs.Net.Socket.{IsSocketAddr, socket_flowinfo, socket_scope_id}
 use Rattle.std.specs.declared.net.ip_addr.IpAddr.{IpAddr}
 use Rattle.std.specs.declared.net.socket_addr.SocketAddr.{SocketAddr}
+use Rattle.stun_types.specs.Addresses.{address_value}
+use Rattle.stun_types.specs.Attributes.{Attr}
 use Rattle.stun_types.specs.Grammar.{number_at}
+use Rattle.stun_types.specs.Xor.{xored}
 use Rattle.stun_types.specs.declared.transport.TransportType.{TransportType}
-use Rattle.turn_client_proto.specs.Messages.{Held, Allocation, Permission, Notice, Payload, FromPeer}
+use Rattle.turn_client_proto.specs.Messages.{Held, Allocation, Permission, Channel, Notice, Payload, FromPeer}
 use Rattle.turn_client_proto.specs.Runs.{Step, AtClient, AtDesk}
 use Rattle.turn_client_proto.specs.Steps.{Call}
 use Rattle.turn_client_proto.specs.Drawing.{sent_of}
 use Rattle.turn_client_proto_steps.specs.ClientWords.{notice_of}
 use Rattle.turn_client_proto_steps.specs.RunClient.{Client}
+use Rattle.turn_client_proto_steps.specs.Sound.{IsWhole}
+use Rattle.turn_desk_event.specs.TurnRegistry.{xor_peer_address_kind}
 use Rattle.turn_desk_event.specs.declared.decision.Decision.{Decision}
 use Rattle.turn_desk_event.specs.declared.decision.Decision.TheVariants as by
 use Rattle.turn_desk_event.specs.declared.answer.Answer.{Answer}
@@ -19,6 +23,7 @@ use Rattle.turn_desk_event.specs.declared.answer.Answer.TheVariants as answer
 use Rattle.turn_desk_event.specs.declared.event.ClientCall.TheVariants as call
 use Rattle.turn_desk_event.specs.declared.event.Event.{Event}
 use Rattle.turn_desk_event.specs.declared.event.Event.TheVariants as event
+use Rattle.turn_desk_steps.specs.AskedFor.{peer_in}
 use Rattle.turn_desk_steps.specs.DeskRun.{AreTold, DeskCall}
 use Rattle.turn_desk_world.specs.Desks.{words_of}
 use Rattle.turn_desk_world.specs.Model.{World}
@@ -62,6 +67,7 @@ abbrev pub shown_in : Event → Answer → List Held
 shown_in happening (answer.Relayed list) = map (λ (p : TransportType × SocketAddr). Allocation p.0 p.1) list.items
 shown_in happening (answer.Permissions list) = permissions_listed happening list.items
 shown_in happening (answer.Have is) = permission_had happening is
+shown_in happening (answer.Channels list) = map (λ (p : ℕ × SocketAddr). Channel p.0 p.1) list.items
 shown_in happening _ = []
 
 -- ---- a step
@@ -120,14 +126,20 @@ abbrev pub AreToldWhole : ℕ → Decision → Type 0
 AreToldWhole number (by.Allocate relayed lifetime) = AreTold number relayed
 AreToldWhole number _ = Unit {0}
 
--- an address as std makes it, without flow information and scope
-pub record IsWhole (addr : SocketAddr) : Type 0 where
-  pub own : IsSocketAddr addr
-  pub flow : socket_flowinfo addr ≡ 0
-  pub scope : socket_scope_id addr ≡ 0
+-- XOR-PEER-ADDRESS of an address, in a message of this number
+abbrev pub peer_attribute : ℕ → SocketAddr → Attr
+peer_attribute number peer = record { kind = xor_peer_address_kind; value = xored number (address_value peer) }
 
+-- the desk reads the peer back from a request with this number that names it
+abbrev pub IsReadBack : ℕ → SocketAddr → Type 0
+IsReadBack number peer = peer_in number (peer_attribute number peer) ≡ Some peer
+
+-- the relayed addresses that are decided have no flow information and no scope; nor has a peer that is to be bound: it
+-- is asked to be such an address, since the client keeps it as its caller gave it, and the desk grants the one that it
+-- reads in the request, which carries neither (RFC 8656, sections 18.3 and 18.5)
 abbrev pub IsFairEvent : Event → Type 0
 IsFairEvent (event.ToDesk bytes from now decision seed) = AreToldWhole (number_at bytes.items) decision
+IsFairEvent (event.Call (call.BindChannel transport peer) now) = IsWhole peer
 IsFairEvent _ = Unit {0}
 
 abbrev pub IsFair : Event × Answer → Type 0

@@ -2,8 +2,8 @@
 
 ghost use Rattle.std.specs.Prelude.{◌≡◌, IfOk};
 ghost use Rattle.turn_client_proto.specs.Clients.{protocol_of};
-ghost use Rattle.turn_client_proto.specs.Getters.{permissions_of, relayed_of};
-ghost use Rattle.turn_desk_world.specs.Calls.{IsCalled, IsDeleteTold, IsDrawnAs, IsEventTold, IsFed, IsPermissionTold, IsPolledAs};
+ghost use Rattle.turn_client_proto.specs.Getters.{channels_of, permissions_of, relayed_of};
+ghost use Rattle.turn_desk_world.specs.Calls.{IsBindTold, IsCalled, IsDeleteTold, IsDrawnAs, IsEventTold, IsFed, IsPermissionTold, IsPolledAs};
 ghost use Rattle.turn_desk_world.specs.Runs.{IsAtClient, IsInRange, is_in_range};
 
 use crate::typed::are_bytes;
@@ -13,7 +13,7 @@ use std::net::{IpAddr, SocketAddr};
 use stun_proto::Instant;
 use stun_types::{NoMemory, Transmit, TransportType};
 use turn_client_proto::api::{
-    CLIENT_END, CreatePermissionError, DeleteError, TurnPollRet, TurnRecvRet,
+    BindChannelError, CLIENT_END, CreatePermissionError, DeleteError, TurnPollRet, TurnRecvRet,
 };
 use turn_client_proto::client::TurnClient;
 use turn_client_proto::prelude::TurnClientApi;
@@ -47,6 +47,11 @@ fn call(
                 Err(error) => Err(error),
             }
         }
+        ClientCall::BindChannel(transport, peer) => bind_channel(client, transport, peer, now),
+        ClientCall::Channels => match channels(alloc, client) {
+            Ok(list) => Ok(Answer::Channels(list)),
+            Err(error) => Err(error),
+        },
         ClientCall::ProtocolError => {
             client.protocol_error()?;
             Ok(Answer::Done)
@@ -138,6 +143,34 @@ fn permissions(
     let mut list = Vec::new(alloc);
     for ip in client.permissions(transport, relayed) {
         list.push(ip)?;
+    }
+    Ok(list)
+}
+
+/// The client is to ask for a channel.
+fn bind_channel(
+    client: &mut TurnClient,
+    transport: TransportType,
+    peer: SocketAddr,
+    now: Instant,
+) -> Result<Answer, NoMemory>
+    ensures { IfOk result (λ answer. IsBindTold answer transport peer
+        (protocol_of client.old) now (protocol_of client.new)) }
+{
+    match client.bind_channel(transport, peer, now) {
+        Ok(()) => Ok(Answer::Done),
+        Err(BindChannelError::NoMemory) => Err(NoMemory),
+        Err(error) => Ok(Answer::Refused(Refusal::BindChannel(error))),
+    }
+}
+
+/// The channels that the client shows.
+fn channels(alloc: Global, client: &TurnClient) -> Result<Vec<(u16, SocketAddr)>, NoMemory>
+    ensures { IfOk result (λ list. list.items ≡ channels_of (protocol_of client.now)) }
+{
+    let mut list = Vec::new(alloc);
+    for channel in client.channels() {
+        list.push(channel)?;
     }
     Ok(list)
 }

@@ -3,28 +3,36 @@
 //! and `specs/Safety.antt` the theorem.
 
 ghost use Rattle.std.specs.List.{AllByRecursion};
-ghost use Rattle.std.specs.Prelude.{◌≡◌, ◌≢◌, ◌++◌, List, ℕ, [], ◌∷◌};
+ghost use Rattle.std.specs.Prelude.{◌≡◌, ◌≢◌, ◌++◌, List, ℕ, [], ◌∷◌, true, Vec};
+ghost use Rattle.std.specs.declared.alloc.Global.{Global};
+ghost use Rattle.std.specs.declared.net.ip_addr.IpAddr.{IpAddr};
 ghost use Rattle.std.specs.declared.net.socket_addr.SocketAddr.{SocketAddr};
 ghost use Rattle.stun_proto.specs.Users.{HashesDiffer};
+ghost use Rattle.turn_client_proto.specs.Members.{IsIn};
+ghost use Rattle.turn_client_proto.specs.Messages.{Allocation, Channel, Permission};
 ghost use Rattle.turn_client_proto.specs.Runs.{Step};
 ghost use Rattle.turn_desk_steps.specs.DeskRun.{AreTold, DeskCall};
 ghost use Rattle.turn_desk_event.specs.declared.answer.Answer.{Answer};
+ghost use Rattle.turn_desk_event.specs.declared.answer.Answer.TheVariants as answer;
+ghost use Rattle.turn_desk_event.specs.declared.event.ClientCall.TheVariants as call;
 ghost use Rattle.turn_desk_event.specs.declared.event.Event.{Event};
+ghost use Rattle.turn_desk_event.specs.declared.event.Event.TheVariants.{Call};
 ghost use Rattle.turn_desk_world.specs.Model.{World};
 ghost use Rattle.turn_desk_world.specs.Runs.{IsRun};
 ghost use Rattle.stun_types.specs.Headers.{AreBytes};
 ghost use Rattle.stun_types.specs.declared.transmit.Transmit.{Transmit};
+ghost use Rattle.stun_types.specs.declared.transport.TransportType.{TransportType};
 ghost use Rattle.turn_client_proto.specs.Kept.{Protocol};
 ghost use Rattle.turn_client_proto.specs.Receipts.{IsReceived};
 ghost use Rattle.turn_client_proto.specs.Api.declared.answer.TurnRecvRet.{TurnRecvRet};
 ghost use Rattle.turn_client_proto.specs.Api.declared.answer.TurnRecvRet.TheVariants as recv;
 ghost use Rattle.turn_client_proto_steps.specs.RunClient.{Client};
 ghost use Rattle.turn_client_proto_steps.specs.RunSteps.{IsReceiving};
-ghost use Rattle.turn_client_proto_steps.specs.Sound.{IsSound};
+ghost use Rattle.turn_client_proto_steps.specs.Sound.{IsSound, IsWhole};
 ghost use Rattle.turn_desk_world.specs.Copies.{AreAlike, IsCopy};
 ghost use Rattle.turn_desk_world.specs.Determined.{AreSame, HaveSameEvents};
-ghost use Rattle.turn_desk_world.specs.Safety.{IsAccount, IsSafeRun};
-ghost use Rattle.turn_desk_world.specs.Told.{IsWhole};
+ghost use Rattle.turn_desk_world.specs.Safety.{IsAccount, IsLastAnswered, IsSafeRun, WasGranted};
+ghost use Rattle.turn_desk_world.specs.Told.{IsReadBack};
 
 use std::convert::AsSlice;
 
@@ -42,26 +50,65 @@ pub fn parts_make_a_run()
 /// Relayed addresses without flow information and scope are told whole by a response, under whatever
 /// number: XOR-RELAYED-ADDRESS loses those two alone (RFC 8656, section 18.5). So the theorem on runs can
 /// be used wherever such addresses are decided.
+///
+/// A peer that is to be bound is asked to be such an address, too. Then the desk reads it whole from a
+/// request under whatever number: XOR-PEER-ADDRESS loses those two alone (RFC 8656, section 18.3). So the
+/// theorem can be used wherever a channel is asked for to a peer that a request can carry.
 pub fn relayed_addresses_are_told()
-    ensures { (number : ℕ) (relayed : List SocketAddr)
+    ensures relayed { (number : ℕ) (relayed : List SocketAddr)
         → AllByRecursion IsWhole relayed
         → AreTold number relayed }
+    ensures peers { (number : ℕ) (peer : SocketAddr)
+        → IsWhole peer
+        → IsReadBack number peer }
 {}
 
 /// Whatever events come to a world of a new client and any desk, their answers are steps of a run of
 /// a client and a server, one each. Where nothing that arrives was forged under a key of the
 /// client's, and no number is drawn twice, each step is safe. Nothing is answered as created twice
-/// for one request, and each relayed address and each permission that the client shows was granted by
-/// the desk before. So it is of every account that is given of the run, and as many numbers count as drawn
-/// as the client's generator gave.
+/// for one request, and each relayed address, each permission and each channel that the client shows was
+/// granted by the desk before: a channel with that number and to that peer, in answer to a CHANNEL_BIND
+/// that the client drew. So it is of every account that is given of the run, and as many numbers count as
+/// drawn as the client's generator gave.
 ///
 /// So all that the client holds was granted in answer to that very request, whatever the network
-/// loses, repeats, reorders or invents. It takes for granted that the relayed
-/// addresses which the driver decides have no flow information and no scope.
+/// loses, repeats, reorders or invents. It takes for granted that the relayed addresses which the driver
+/// decides, and the peers to which it asks for channels, have no flow information and no scope.
 pub fn runs_of_a_world_are_safe()
     ensures { (old new : World) (pairs : List (Event × Answer))
         → IsRun old pairs new
         → IsSafeRun old pairs new }
+{}
+
+/// What the theorem says of what a client shows, in the words of the answers. Where the last event of a
+/// run asked the client for its relayed addresses, permissions or channels, or whether it has a
+/// permission, the desk granted each that the answer names in that run, in answer to a request of the
+/// client's: an allocation over that transport with that address, a permission for that address over that
+/// transport, a channel with that number and to that peer. A run of more events has such a run in front
+/// ([`parts_make_a_run`]), so it is of each answer.
+pub fn answers_show_what_was_granted()
+    ensures addresses { (first last : Client) (run : List (Step Client DeskCall)) (now : ℕ)
+        (list : Vec (TransportType × SocketAddr) Global)
+        → IsLastAnswered (Call call.RelayedAddresses now) (answer.Relayed list) first run last
+        → (transport : TransportType) (address : SocketAddr)
+        → IsIn (transport, address) list.items
+        → WasGranted first run last (Allocation transport address) }
+    ensures permissions { (first last : Client) (run : List (Step Client DeskCall)) (now : ℕ)
+        (transport : TransportType) (relayed : SocketAddr) (list : Vec IpAddr Global)
+        → IsLastAnswered (Call (call.Permissions transport relayed) now) (answer.Permissions list)
+        first run last
+        → (ip : IpAddr) → IsIn ip list.items
+        → WasGranted first run last (Permission transport ip) }
+    ensures had { (first last : Client) (run : List (Step Client DeskCall)) (now : ℕ)
+        (transport : TransportType) (ip : IpAddr)
+        → IsLastAnswered (Call (call.HavePermission transport ip) now) (answer.Have true)
+        first run last
+        → WasGranted first run last (Permission transport ip) }
+    ensures channels { (first last : Client) (run : List (Step Client DeskCall)) (now : ℕ)
+        (list : Vec (ℕ × SocketAddr) Global)
+        → IsLastAnswered (Call call.Channels now) (answer.Channels list) first run last
+        → (number : ℕ) (peer : SocketAddr) → IsIn (number, peer) list.items
+        → WasGranted first run last (Channel number peer) }
 {}
 
 /// All accounts of a run count as many numbers as drawn: how many is no account's choice.

@@ -83,7 +83,8 @@ impl World {
         ensures sides { IfOk result (λ answers.
             IsRunOfEach self.old (zip events.now answers.items) self.new) }
         // Where the client was new and nothing was forged, all that it holds was granted in answer to
-        // that very request.
+        // that very request, and nothing is told as created twice for one. So it is of each address,
+        // each permission and each channel that it shows: a channel with that number and to that peer.
         ensures safe { IfOk result (λ answers.
             IsSafeRun self.old (zip events.now answers.items) self.new) }
         ensures err { OnErr result (self.new.is_failed ≡ true) }

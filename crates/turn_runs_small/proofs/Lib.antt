@@ -1,3 +1,4 @@
+pub mod Bound
 pub mod Handshakes
 pub mod Rounds
 pub mod Ungranted

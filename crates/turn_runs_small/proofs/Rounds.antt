@@ -23,7 +23,7 @@ use Rattle.turn_runs_small.proofs.Handshakes.{request_class, response_class, not
 one_given : (n : ℕ) → given_by (Idle n) (Waiting n) ≡ 1
 one_given n = omega arith
 
-none_given : (n : ℕ) → (n + (16 - n % 16)) % 16 ≡ 0
+pub none_given : (n : ℕ) → (n + (16 - n % 16)) % 16 ≡ 0
 none_given n = omega arith
 
 -- ---- each step is lawful
@@ -141,7 +141,7 @@ module _ (a : Addresses) where
   }
 
   -- a call that leaves the client as it was, and draws, tells and brings nothing
-  idle_step : (n : ℕ) (came : List (List ℕ)) (shown : List Held) → ((h : Held) → IsIn h shown → IsIn h (held_after a n)) →
+  pub idle_step : (n : ℕ) (came : List (List ℕ)) (shown : List Held) → ((h : Held) → IsIn h shown → IsIn h (held_after a n)) →
       ClientStep (small_client a) (record (quiet (idle n) (idle n)) { came = came; handled = came; shown = shown })
   idle_step n came shown held = record {
     account = refl;
@@ -231,7 +231,7 @@ module _ (a : Addresses) where
     (hears_step (suc n) (1 ∷ n ∷ []), (shows_step (suc n), (takes_step n, (desk_step n, (asks_step n, lawful n))))),
   )
 
-  authentic : (count n : ℕ) → NoForgery (small a) (idle 0) count (rounds a n)
+  pub authentic : (count n : ℕ) → NoForgery (small a) (idle 0) count (rounds a n)
   authentic count zero = tt
   authentic count (suc n) = (
     (λ bytes key text b i own v. elim i [

@@ -1,13 +1,14 @@
 -- Runs of the small client in which it holds, tells or shows what no desk granted, and what it is that the
 -- promise stands of an account of a run.
-use Rattle.std.specs.Prelude.{◌≡◌, ℕ, List, [], ◌∷◌, map, Some}
+use Rattle.std.specs.Prelude.{◌≡◌, ◌≤◌, ℕ, List, [], ◌∷◌, map, Some}
 use Rattle.stun_types.specs.declared.transport.TransportType.TheVariants.{Tcp}
 use Rattle.turn_runs.specs.Headline.{AnswersOnce, IsSafe, ShowsTraced, Unless}
-use Rattle.turn_runs.specs.Messages.{Allocation, AllocationCreated}
+use Rattle.turn_runs.specs.Messages.{Allocation, AllocationCreated, Channel}
+use Rattle.turn_runs.specs.Names.{SocketAddr}
 use Rattle.turn_runs.specs.Runs.{Step, AtClient, AtDesk, AtEach, IsCounted, Leads}
 use Rattle.turn_runs.specs.Steps.{Call}
 use Rattle.turn_runs_small.specs.Handshakes.{Addresses}
-use Rattle.turn_runs_small.specs.Rounds.{granted, idle, quiet}
+use Rattle.turn_runs_small.specs.Rounds.{granted, idle, quiet, rounds}
 use Rattle.turn_runs_small.specs.SmallWords.{Client, Core, Idle, Waiting, small}
 
 -- a call, without what a run says of how many numbers were drawn
@@ -58,3 +59,15 @@ module _ (a : Addresses) where
   abbrev pub shows_ungranted : List (Step Core ℕ)
   shows_ungranted =
       AtClient (record (quiet (Idle 0) (Idle 0)) { shown = Allocation Tcp a.relayed ∷ [] }) ∷ []
+
+  -- behind so many requests, each granted and answered, a getter answers a channel
+  abbrev pub shows_channel : (n number : ℕ) → SocketAddr → List (Step Core ℕ)
+  shows_channel n number peer =
+      AtClient (record (quiet (Idle n) (Idle n)) { shown = Channel number peer ∷ [] })
+      ∷ map forget (rounds a n)
+
+  -- the desk granted the channel by then: the third request is a CHANNEL_BIND of this number to this peer
+  pub record IsBound (n number : ℕ) (peer : SocketAddr) : Type 0 where
+    pub granted : 3 ≤ n
+    pub number_is : number ≡ 0x4000
+    pub peer_is : peer ≡ a.peer

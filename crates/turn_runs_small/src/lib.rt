@@ -3,17 +3,19 @@
 //!
 //! The client asks for one thing after the other, and the desk grants each (`specs/Handshakes.antt`). They
 //! keep all that the theory asks of a client and a desk. Three runs in which the client holds, tells or
-//! shows an address that no desk granted have no account of which the promise stands
-//! (`specs/Ungranted.antt`). There is no code but the laws.
+//! shows an address that no desk granted have no account of which the promise stands; and so it is of a
+//! run in which the client shows a channel that no desk granted (`specs/Ungranted.antt`). There is no code
+//! but the laws.
 #![tactic(auto)]
 
-ghost use Rattle.std.specs.Prelude.{ℕ, ◌≤◌, map};
+ghost use Rattle.std.specs.Prelude.{ℕ, ◌≤◌, ◌↔◌, map};
 ghost use Rattle.turn_runs.specs.Headline.{AnswersOnce, IsSafe, ShowsTraced};
+ghost use Rattle.turn_runs.specs.Names.{SocketAddr};
 ghost use Rattle.turn_runs.specs.Runs.{AtEach, IsUnforged};
 ghost use Rattle.turn_runs_small.specs.Handshakes.{Addresses};
 ghost use Rattle.turn_runs_small.specs.Rounds.{HoldsOneOfEach, idle, rounds};
 ghost use Rattle.turn_runs_small.specs.SmallWords.{small};
-ghost use Rattle.turn_runs_small.specs.Ungranted.{AreSafe, forget, holds_ungranted, shows_ungranted, tells_twice};
+ghost use Rattle.turn_runs_small.specs.Ungranted.{AreSafe, IsBound, forget, holds_ungranted, shows_channel, shows_ungranted, tells_twice};
 
 /// Up to sixteen requests, each granted and answered, over a network that plays messages again, are a lawful
 /// run of a new client in which nothing is forged and no number comes twice. Behind five of them one thing
@@ -43,9 +45,15 @@ pub fn handshakes_meet_an_account()
 /// drew: one in which the client holds an address though no desk did anything, one in which it tells an
 /// address twice that was granted once, and one in which a getter answers an address that was not granted.
 ///
+/// A getter that answers a channel behind some requests, sixteen at most, meets an account where the desk
+/// granted that very number to that very peer by then, and nowhere else: a channel of another number, to
+/// another peer, or shown too early has none.
+///
 /// That a step is one by the contracts is no part of it: the promise alone rules these runs out.
 pub fn nothing_ungranted_meets_an_account()
     ensures held { (a : Addresses) → AreSafe a (holds_ungranted a) → ⊥ }
     ensures told { (a : Addresses) → AreSafe a (tells_twice a) → ⊥ }
     ensures shown { (a : Addresses) → AreSafe a (shows_ungranted a) → ⊥ }
+    ensures channels { (a : Addresses) (n number : ℕ) (peer : SocketAddr) → n ≤ 16
+        → AreSafe a (shows_channel a n number peer) ↔ IsBound a n number peer }
 {}

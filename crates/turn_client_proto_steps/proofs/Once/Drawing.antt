@@ -1,16 +1,17 @@
 -- What a client sends, and what it is then, are one.
 use Rattle.std.proofs.Common.{◌≡◌, ℕ, List, [], ◌∷◌, Option, Some, None, sym, ap, ◌∙◌}
 use Rattle.std.specs.declared.net.ip_addr.IpAddr.{IpAddr}
+use Rattle.std.specs.declared.net.socket_addr.SocketAddr.{SocketAddr}
 use Rattle.stun_proto.specs.Agents.{Transaction, transmitted}
 use Rattle.stun_proto.specs.Sending.{NoneDue, is_due_of, kept_under}
 use Rattle.stun_proto.specs.State.{is_tcp}
-use Rattle.turn_client_proto_poll.specs.Drawing.{Again, Fresh, IsBegun, IsDrawn, IsFirstSent, IsFreshSent, IsMade, IsNextSent, IsQueuedSent, IsRefreshSent, IsRenewalSent, IsRenewed, IsRepeated, IsStill, Sends, Sent, after_sending, first_allocated, first_permitted, first_refreshed, is_resting}
-use Rattle.turn_client_proto_poll.specs.Permission.Wanting.{wanted}
-use Rattle.turn_client_proto_poll.specs.Permission.declared.wanting.Want.{Want}
-use Rattle.turn_client_proto_poll.specs.Permission.declared.wanting.Want.TheVariants.{Refresh, Permission}
+use Rattle.turn_client_proto_poll.specs.Drawing.{Again, Fresh, IsBegun, IsChannelRenewalSent, IsDrawn, IsFirstSent, IsFreshSent, IsMade, IsNextSent, IsQueuedSent, IsRefreshSent, IsRenewalSent, IsRenewed, IsRepeated, IsStill, Sends, Sent, after_sending, first_allocated, first_bound, first_permitted, first_refreshed, is_resting}
+use Rattle.turn_client_proto_poll.specs.Wanting.{wanted}
+use Rattle.turn_client_proto_poll.specs.declared.wanting.Want.{Want}
+use Rattle.turn_client_proto_poll.specs.declared.wanting.Want.TheVariants.{Refresh, Channel, Permission}
 use Rattle.turn_client_proto_poll.specs.Request.Requests.{allocation_lifetime, request_text}
 use Rattle.turn_client_proto_poll.specs.Request.declared.request.TurnRequest.{TurnRequest}
-use Rattle.turn_client_proto_poll.specs.Request.declared.request.TurnRequest.TheVariants.{CreatePermission, FirstAllocate}
+use Rattle.turn_client_proto_poll.specs.Request.declared.request.TurnRequest.TheVariants.{ChannelBind, CreatePermission, FirstAllocate}
 use Rattle.turn_client_proto_poll.specs.Request.declared.request.TurnRequest.TheVariants.{Refresh as RefreshRequest}
 use Rattle.turn_client_proto_poll.specs.Core.Waiting.{Queued}
 use Rattle.turn_client_proto_poll.specs.Core.declared.protocol.Phase.{Phase}
@@ -63,6 +64,12 @@ module _ (old : Protocol) (now : ℕ) where
         made_same (CreatePermission ip) (λ n. after_sending now (first_permitted ip n now old)) a.number b.number sent more one other a.made b.made a.after b.after;
   }
 
+  channel_definite : (channel : ℕ) (peer : SocketAddr) → IsDefinite (λ (sent : Sent) (new : Protocol). IsChannelRenewalSent old channel peer now sent new)
+  channel_definite channel peer = record {
+    same = λ sent more one other a b.
+        made_same (ChannelBind channel peer) (λ n. after_sending now (first_bound channel peer n now old)) a.number b.number sent more one other a.made b.made a.after b.after;
+  }
+
   queued_definite : (q : Queued) (rest : List Queued) → IsDefinite (λ (sent : Sent) (new : Protocol). IsQueuedSent old now q rest sent new)
   queued_definite q rest = record { same = λ sent more one other a b. (a.is_sent ∙ sym b.is_sent, a.after ∙ sym b.after) }
 
@@ -71,6 +78,7 @@ module _ (old : Protocol) (now : ℕ) where
   renewed_definite : (want : Option Want) → IsDefinite (IsRenewed want old now)
   renewed_definite None = still_definite
   renewed_definite (Some Refresh) = sends refresh_definite
+  renewed_definite (Some (Channel channel peer)) = sends (channel_definite channel peer)
   renewed_definite (Some (Permission ip)) = sends (renewal_definite ip)
 
   begun_definite : (phase : Phase) → IsDefinite (IsBegun phase old now)

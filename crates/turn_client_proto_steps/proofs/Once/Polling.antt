@@ -9,6 +9,7 @@ use Rattle.turn_client_proto_poll.specs.Allocation.Polling.{kept, nexts}
 use Rattle.turn_client_proto_poll.specs.Api.declared.answer.TurnPollRet.{TurnPollRet}
 use Rattle.turn_client_proto_poll.specs.Api.declared.answer.TurnPollRet.TheVariants as answer
 use Rattle.turn_client_proto_poll.specs.Api.declared.event.TurnEvent.{TurnEvent}
+use Rattle.turn_client_proto_poll.specs.Channel.Lapsing as channels
 use Rattle.turn_client_proto_poll.specs.Permission.Telling as permissions
 use Rattle.turn_client_proto_poll.specs.Core.Ending.{ended}
 use Rattle.turn_client_proto_poll.specs.Polling.{IsPolled, IsPolledBy, IsPolledIn, IsPolledSent, IsPolledStanding, IsTicked, answer_of, ended_of, left, longest_pause, ready_after, wait_of, wait_to_send, waits_until}
@@ -28,8 +29,11 @@ module _ (over : Option ℕ) (wait : ℕ) (p : Protocol) (now : ℕ) where
     same = λ ret again one other a b.
         let next : a.next ≡ b.next = least_of_same wait (nexts over (ready_after p.last_send now) now (kept over now p.allocations)) a.next b.next a.least b.least in
         let all : List ℕ = permissions.all_nexts over (ready_after p.last_send now) now (left over now p) in
-        let moved = subst (λ (n : ℕ). IsLeastOf n all a.earliest) next a.least_of_permissions in
-        let earliest : a.earliest ≡ b.earliest = least_of_same b.next all a.earliest b.earliest moved b.least_of_permissions in
+        let moved = subst (λ (n : ℕ). IsLeastOf n all a.sooner) next a.least_of_permissions in
+        let sooner : a.sooner ≡ b.sooner = least_of_same b.next all a.sooner b.sooner moved b.least_of_permissions in
+        let each : List ℕ = channels.all_nexts over (ready_after p.last_send now) now (left over now p) in
+        let again_moved = subst (λ (n : ℕ). IsLeastOf n each a.earliest) sooner a.least_of_channels in
+        let earliest : a.earliest ≡ b.earliest = least_of_same b.sooner each a.earliest b.earliest again_moved b.least_of_channels in
         (a.outcome.0 ∙ ap (answer_of (left over now p) over now) earliest ∙ sym b.outcome.0, a.outcome.1 ∙ sym b.outcome.1);
   }
 

@@ -6,9 +6,9 @@ use Rattle.stun_types.specs.Types.{method_of}
 use Rattle.stun_proto.specs.ClientAuthErrors.{Unauthorized, IntegrityFailed, UnsupportedFeature, NoMemory}
 use Rattle.stun_proto.specs.ClientValidations.{ResendRequest, Validated}
 use Rattle.stun_proto.specs.Handling.{is_awaited, is_response}
-use Rattle.turn_types.specs.TurnRegistry.{create_permission_method, refresh_method}
-use Rattle.turn_client_proto_poll.specs.Permission.Awaited.{asked_by}
-use Rattle.turn_client_proto_poll.specs.Permission.declared.awaited.Asked.{Asked}
+use Rattle.turn_types.specs.TurnRegistry.{channel_bind_method, create_permission_method, refresh_method}
+use Rattle.turn_client_proto_poll.specs.Channel.Awaited.{asked_by}
+use Rattle.turn_client_proto_poll.specs.Channel.declared.awaited.Asked.{Asked}
 use Rattle.turn_client_proto_poll.specs.Core.Ending.{ended}
 use Rattle.turn_client_proto_poll.specs.Core.Responding.{accepted, challenged, is_tired}
 use Rattle.turn_client_proto_poll.specs.Core.Standing.{IsAskedAgain, IsJudgedStanding, IsRechallenged, IsRequestAnswered, IsSentAgain, IsTakenUp, after_refresh, asks_again}
@@ -16,7 +16,8 @@ use Rattle.turn_client_proto_poll.specs.Core.declared.protocol.Protocol.{Protoco
 use Rattle.turn_client_proto_steps.proofs.Once.Outcomes.{IsDefinite, handled, ignored, never, tested}
 use Rattle.turn_client_proto_steps.proofs.Once.Judging.{Verdict}
 use Rattle.turn_client_proto_steps.proofs.Once.Numbering.{numbered}
-use Rattle.turn_client_proto_steps.proofs.Once.Permitting.{responded_definite}
+use Rattle.turn_client_proto_steps.proofs.Once.Binding as binding
+use Rattle.turn_client_proto_steps.proofs.Once.Permitting as permitting
 
 module _ (bytes : List ℕ) (now : ℕ) where
   sent_definite : (what : Asked) (p : Protocol) → IsDefinite (IsSentAgain what p bytes now)
@@ -35,7 +36,8 @@ module _ (bytes : List ℕ) (now : ℕ) where
 
   request_definite : (p : Protocol) → IsDefinite (IsRequestAnswered p bytes now)
   request_definite p = tested (method_of (kind_at bytes) == refresh_method) (handled (after_refresh bytes now p))
-      (tested (method_of (kind_at bytes) == create_permission_method) (responded_definite p bytes now) (ignored p))
+      (tested (method_of (kind_at bytes) == create_permission_method) (permitting.responded_definite p bytes now)
+      (tested (method_of (kind_at bytes) == channel_bind_method) (binding.responded_definite p bytes now) (ignored p)))
 
   taken_definite : (p : Protocol) → IsDefinite (IsTakenUp p bytes now)
   taken_definite p = tested (is_response bytes && is_awaited p.agent bytes) (request_definite (accepted bytes p)) (ignored p)

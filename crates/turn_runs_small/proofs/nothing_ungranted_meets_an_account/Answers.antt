@@ -1,5 +1,6 @@
+use Rattle.turn_runs_small.proofs.Bound.{shown_where_bound}
 use Rattle.turn_runs_small.proofs.Ungranted.{none_held, none_shown, none_told}
 use Rattle.turn_runs_small.proofs.nothing_ungranted_meets_an_account.Goals as goal
 
 pub returns : goal.returns
-returns c = record { held = none_held; told = none_told; shown = none_shown }
+returns c = record { held = none_held; told = none_told; shown = none_shown; channels = shown_where_bound }

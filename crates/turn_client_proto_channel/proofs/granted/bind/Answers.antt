@@ -1,9 +1,12 @@
-use Rattle.std.proofs.Common.{◌≡◌, refl, rules}
-use Rattle.std.proofs.lemmas.Fn.{filter_same}
-use Rattle.turn_client_proto_channel.specs.Channels.{not_asked_by}
+use Rattle.std.proofs.Common.{ap, get_or}
+use Rattle.turn_client_proto_allocation.proofs.Changes.{on_ok, put_there}
+use Rattle.turn_client_proto_allocation.specs.declared.allocation.Allocation.{Allocation}
+use Rattle.turn_client_proto_channel.specs.Awaited.{awaits_reply}
+use Rattle.turn_client_proto_channel.specs.Granted.{bound}
 use Rattle.turn_client_proto_channel.proofs.granted.bind.Goals as goal
 
 pub returns-clause-ok : goal.returns-clause-ok
 returns-clause-ok c =
-    let pending : c.retain.new.self ≡ not_asked_by c.args.request c.args.a.now.pending_channels = filter_same _ _ _ (λ x b f' k. search rules) _ _ c.retain.ensures in
-    rw (c.in_ok-push.ensures.ok, pending, c.channel_end.ensures, c.new.ensures) refl
+    let x : Allocation = get_or c.args.allocations.now c.args.place c.index-allocations-place.result in
+    let is_there = ap (λ y. get_or c.args.allocations.now c.args.place y) c.index-allocations-place.is in
+    on_ok c.bind_in.result (λ is. put_there (awaits_reply c.args.request) (bound c.args.number c.args.peer c.args.request c.args.now) c.args.allocations.now c.args.place x c.bind_in.new.a c.requires is_there is) c.bind_in.ensures.ok

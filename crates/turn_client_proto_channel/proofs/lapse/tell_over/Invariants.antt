@@ -1,5 +1,5 @@
 use Rattle.std.proofs.Common.{◌≡◌, ◌++◌, map, take}
-use Rattle.turn_client_proto_api.specs.declared.event.TurnEvent.TheVariants.{ChannelCreateFailed}
+use Rattle.turn_client_proto_permission.specs.Api.declared.event.TurnEvent.TheVariants.{ChannelCreateFailed}
 use Rattle.turn_client_proto_channel.specs.Lapsing.{peers_over}
 use Rattle.turn_client_proto_channel.proofs.lapse.tell_over.Given as goal
 

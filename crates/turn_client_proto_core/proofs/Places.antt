@@ -1,0 +1,69 @@
+-- The allocation that a call is for: the first of a transport and a family, by its place.
+use Rattle.std.proofs.Common.{◌≡◌, ℕ, ◌<◌, true, false, List, length, Option, Some, None, get_or, if◌then◌else◌, position, slice_get, slice_set, refl, sym, ap, ◌∙◌, subst, arith, inl, inr}
+use Rattle.std.proofs.lemmas.List.{get_or-set_same, length-set}
+use Rattle.std.proofs.lemmas.Option.{slice_get_cases, slice_get_read}
+use Rattle.std.specs.Prelude.{find, IfSome}
+use Rattle.stun_types.specs.declared.family.AddressFamily.{AddressFamily}
+use Rattle.stun_types.specs.declared.transport.TransportType.{TransportType}
+use Rattle.turn_client_proto_allocation.proofs.Changes.{at_place, changed_at, find_is, found_at}
+use Rattle.turn_client_proto_allocation.specs.Changes.{change_first}
+use Rattle.turn_client_proto_allocation.specs.declared.allocation.Allocation.{Allocation}
+use Rattle.turn_client_proto_channel.specs.Permission.Asking.{is_of, is_past, marked}
+use Rattle.turn_client_proto_core.specs.declared.protocol.Protocol.{Protocol}
+
+-- ---- what stands at a place
+
+-- what is read within a list is there
+pub read_there : (all : List Allocation) (place : ℕ) → place < length all → slice_get all place ≡ None → ⊥
+read_there all place within none = elim (slice_get_cases all place).1 [
+  | inl there ↦ Prim.cc (sym there.2 ∙ none)
+  | inr past ↦ let beyond = past.0 in absurd (omega (arith, within, beyond))
+]
+
+-- what was put at a place is read there
+pub set_read : {X : Type 0} (all : List X) (place : ℕ) (x : X) → place < length all → slice_get (slice_set all place x) place ≡ Some x
+set_read all place x within =
+    slice_get_read (slice_set all place x) (length (slice_set all place x)) place x refl
+    (subst (λ (n : ℕ). place < n) (sym (length-set all place x)) within) (sym (get_or-set_same all place x x within))
+
+-- a client in which something was asked for at a place, and forgotten
+pub undone : {Pending : Type 0} (asking : Pending → Allocation → Allocation) (old asking_it : Protocol) (left pushed : List Allocation) (place : ℕ) (pending : Pending) (found : Option Allocation) → slice_get old.allocations place ≡ found → (found ≡ None → ⊥)
+    → IfSome found (λ a. pushed ≡ slice_set old.allocations place (asking pending a)) → asking_it ≡ record old { allocations = pushed }
+    → ((before : List Allocation) (a : Allocation) (p : Pending) → slice_get before place ≡ Some a → asking_it.allocations ≡ slice_set before place (asking p a) → left ≡ before)
+    → record asking_it { allocations = left } ≡ old
+undone asking old asking_it left pushed place pending None at some is after back = absurd (some refl)
+undone asking old asking_it left pushed place pending (Some a) at some is after back =
+    ap (λ (p : Protocol). record p { allocations = left }) after
+    ∙ ap (λ (l : List Allocation). record old { allocations = l }) (back old.allocations a pending at (ap (λ (p : Protocol). p.allocations) after ∙ is))
+
+-- ---- which allocation
+
+module _ (old : Protocol) (transport : TransportType) (own : AddressFamily) where
+  -- the place that was found, by a family and a list that are those
+  pub place_is : (place found : Option ℕ) (family : AddressFamily) (all : List Allocation) → family ≡ own → all ≡ old.allocations → place ≡ position (is_of transport family) all → place ≡ found
+      → position (is_of transport own) old.allocations ≡ found
+  place_is place found family all same whole is there =
+      ap (λ (l : List Allocation). position (is_of transport own) l) (sym whole)
+      ∙ ap (λ (f : AddressFamily). position (is_of transport f) all) (sym same) ∙ sym is ∙ there
+
+  -- there is no such allocation
+  pub nowhere : position (is_of transport own) old.allocations ≡ None → find (is_of transport own) old.allocations ≡ None
+  nowhere none = find_is (is_of transport own) old.allocations ∙ ap (at_place old.allocations) none
+
+  module _ (now place : ℕ) (a : Allocation) (here : position (is_of transport own) old.allocations ≡ Some place) (at : a ≡ get_or old.allocations place a) where
+    pub found : find (is_of transport own) old.allocations ≡ Some a
+    found = found_at (is_of transport own) old.allocations place a here at
+
+    -- it is marked
+    pub marked_past : (changed : List Allocation) → is_past now a ≡ true → IfSome (slice_get old.allocations place) (λ x. changed ≡ slice_set old.allocations place (marked x))
+        → record old { allocations = changed } ≡ (if is_past now a then record old { allocations = change_first (is_of transport own) marked old.allocations } else old)
+    marked_past changed is marks =
+        ap (λ (l : List Allocation). record old { allocations = l }) (changed_at (is_of transport own) marked old.allocations changed place here marks)
+        ∙ sym (if_past is)
+      where
+        if_past : is_past now a ≡ true → (if is_past now a then record old { allocations = change_first (is_of transport own) marked old.allocations } else old) ≡ record old { allocations = change_first (is_of transport own) marked old.allocations }
+        if_past past = rw past refl
+
+    -- it is not
+    pub unmarked : is_past now a ≡ false → old ≡ (if is_past now a then record old { allocations = change_first (is_of transport own) marked old.allocations } else old)
+    unmarked is = rw is refl

@@ -1,0 +1,189 @@
+-- A getter that answers a channel behind some requests: there is an account where the desk granted that very
+-- channel, and none elsewhere.
+use Rattle.std.proofs.Common.{◌≡◌, ℕ, zero, suc, ◌<◌, ◌≤◌, List, [], ◌∷◌, map, Some, refl, ap, sym, ◌∙◌, subst, inl, inr, arith}
+use Rattle.turn_runs.specs.Headline.{IsGrantedAt, IsPromised, ShowsTraced, Unless}
+use Rattle.turn_runs.specs.Members.{IsIn}
+use Rattle.turn_runs.specs.Messages.{Held, Channel, Gain, Grant, GrantIs, Holds}
+use Rattle.turn_runs.specs.Names.{SocketAddr, IntegrityAlgorithm}
+use Rattle.turn_runs.specs.Runs.{Step, AtClient, AtDesk, AtEach, AtSome, IsCounted, IsLawful, Leads, NoForgery, WasSigned, given_in}
+use Rattle.turn_runs.specs.Steps.{Call, Told}
+use Rattle.turn_runs.proofs.Safe.{counted, promised}
+use Rattle.turn_runs.proofs.Tools.{in_right}
+use Rattle.turn_runs_small.specs.Handshakes.{Addresses, grant_at, held_after, request_at, told_at}
+use Rattle.turn_runs_small.specs.Rounds.{idle, quiet, rounds}
+use Rattle.turn_runs_small.specs.SmallWords.{Client, Core, Idle, given_by, small}
+use Rattle.turn_runs_small.specs.Ungranted.{AreSafe, IsBound, forget, forget_call, shows_channel}
+use Rattle.turn_runs_small.proofs.Rounds.{authentic, distinct, first_is_new, idle_step, lawful, leads, none_given, small_laws}
+
+module _ (a : Addresses) where
+  -- ---- what two runs have in common which differ only in how many numbers they count
+
+  given_alike : (run other : List (Step Client ℕ)) → map forget run ≡ map forget other → given_in (small a) run ≡ given_in (small a) other
+  given_alike [] [] same = refl
+  given_alike (AtClient c ∷ run) (AtClient d ∷ other) same =
+      let call_is : forget_call c ≡ forget_call d = cc in
+      let rest = given_alike run other (cc) in
+      omega (arith, rest, ap (λ (x : Call Core). given_by x.before x.after) call_is)
+  given_alike (AtDesk c ∷ run) (AtDesk d ∷ other) same = given_alike run other (cc)
+  given_alike run other same = absurd (let never : ⊥ = cc in never)
+
+  signed_alike : (key : List ℕ) (b : IntegrityAlgorithm) (text : List ℕ) (run other : List (Step Client ℕ)) → map forget run ≡ map forget other →
+      WasSigned (small a) key b text other → WasSigned (small a) key b text run
+  signed_alike key b text [] [] same signed = absurd signed
+  signed_alike key b text (AtClient c ∷ run) (AtClient d ∷ other) same signed = elim signed [
+    | inl here ↦ elim here [
+      | inl drew ↦ (
+          let call_is : forget_call c ≡ forget_call d = cc in
+          inl (inl (drew.0, ap (λ (x : Call Core). x.drawn) call_is ∙ drew.1, drew.2)))
+      | inr none ↦ absurd none
+    ]
+    | inr before ↦ inr (signed_alike key b text run other (cc) before)
+  ]
+  signed_alike key b text (AtDesk c ∷ run) (AtDesk d ∷ other) same signed = elim signed [
+    | inl here ↦ elim here [
+      | inl none ↦ absurd none
+      | inr replied ↦ (
+          let is : d ≡ c = cc in
+          inl (inr (replied.0, ap (λ (n : ℕ). Some (1 ∷ n ∷ [])) (sym is) ∙ replied.1, replied.2, replied.3)))
+    ]
+    | inr before ↦ inr (signed_alike key b text run other (cc) before)
+  ]
+  signed_alike key b text run other same signed = absurd (let never : ⊥ = cc in never)
+
+  authentic_alike : (count : ℕ) (run other : List (Step Client ℕ)) → map forget run ≡ map forget other →
+      NoForgery (small a) (idle 0) count other → NoForgery (small a) (idle 0) count run
+  authentic_alike count [] [] same all = tt
+  authentic_alike count (AtClient c ∷ run) (AtClient d ∷ other) same all =
+      let call_is : forget_call c ≡ forget_call d = cc in (
+        (λ bytes key text b i own v.
+            signed_alike key b text run other (cc) (all.0 bytes key text b (subst (IsIn bytes) (ap (λ (x : Call Core). x.came) call_is) i) own v)),
+        authentic_alike count run other (cc) all.1,
+      )
+  authentic_alike count (AtDesk c ∷ run) (AtDesk d ∷ other) same all =
+      let is : c ≡ d = cc in (
+        (λ key text b m own v shows has.
+            signed_alike key b text run other (cc) (all.0 key text b m own
+            (v.0 ∙ ap (λ (n : ℕ). 0 ∷ n ∷ []) is, v.1) (ap (λ (n : ℕ). Some (request_at a n)) (sym is) ∙ shows) has)),
+        authentic_alike count run other (cc) all.1,
+      )
+  authentic_alike count run other same all = absurd (let never : ⊥ = cc in never)
+
+  -- ---- which steps of the desk grant a channel
+
+  -- what was granted at some step is the grant of a request that came so early
+  granted_by : (number : ℕ) (gain : Gain) (run : List (Step Client ℕ)) → AtSome (IsGrantedAt (small a) number gain) run →
+      (d : ℕ) × IsIn (AtDesk d) (map forget run) × GrantIs (grant_at a d) gain
+  granted_by number gain [] some = absurd some
+  granted_by number gain (AtClient call ∷ run) some = elim some [
+    | inl none ↦ absurd none
+    | inr before ↦ (let g = granted_by number gain run before in (g.0, inr g.1, g.2))
+  ]
+  granted_by number gain (AtDesk d ∷ run) some = elim some [
+    | inl g ↦ (d, inl refl, subst (λ (x : Grant). GrantIs x gain) g.grants.granted g.grant_is)
+    | inr before ↦ (let g = granted_by number gain run before in (g.0, inr g.1, g.2))
+  ]
+
+  granted_below : (n d : ℕ) → IsIn (AtDesk d) (map forget (rounds a n)) → d < n
+  granted_below zero d i = absurd i
+  granted_below (suc n) d i = elim i [
+    | inl e ↦ absurd (let never : ⊥ = cc in never)
+    | inr j ↦ elim j [
+      | inl e ↦ absurd (let never : ⊥ = cc in never)
+      | inr k ↦ elim k [
+        | inl e ↦ absurd (let never : ⊥ = cc in never)
+        | inr l ↦ elim l [
+          | inl e ↦ absurd (let never : ⊥ = cc in never)
+          | inr m ↦ elim m [
+            | inl e ↦ (let is : n ≡ d = cc in omega (arith, is))
+            | inr o ↦ elim o [
+              | inl e ↦ absurd (let never : ⊥ = cc in never)
+              | inr before ↦ (let less = granted_below n d before in omega (arith, less))
+            ]
+          ]
+        ]
+      ]
+    ]
+  ]
+
+  shown_below : (n d number : ℕ) (peer : SocketAddr) → IsIn (AtDesk d) (shows_channel a n number peer) → d < n
+  shown_below n d number peer i = elim i [
+    | inl e ↦ absurd (let never : ⊥ = cc in never)
+    | inr before ↦ granted_below n d before
+  ]
+
+  -- one grant alone is of a channel
+  the_channel : (d number : ℕ) (peer : SocketAddr) → GrantIs (grant_at a d) (Holds (Channel number peer)) →
+      (d ≡ 2) × (number ≡ 0x4000) × (peer ≡ a.peer)
+  the_channel zero number peer is = absurd (omega (arith, is.0))
+  the_channel (suc zero) number peer is = absurd (omega (arith, is.0))
+  the_channel (suc (suc zero)) number peer is = (refl, cc, cc)
+  the_channel (suc (suc (suc zero))) number peer is = absurd (omega (arith, is.0))
+  the_channel (suc (suc (suc (suc zero)))) number peer is = absurd (omega (arith, is.0))
+  the_channel (suc (suc (suc (suc (suc d))))) number peer is = absurd (omega (arith, is.0))
+
+  -- ---- an account shows that the channel was granted
+
+  bound_by : (n number : ℕ) (peer : SocketAddr) (run : List (Step Client ℕ)) (last : Client) → n ≤ 16 → map forget run ≡ shows_channel a n number peer →
+      IsCounted (small a) (idle 0) run last → Unless (small a) (idle 0) run last (AtEach (ShowsTraced (small a)) run) → IsBound a n number peer
+  bound_by n number peer (AtClient gets ∷ earlier) last few told counts shown =
+      let gets_is : forget_call gets ≡ record (quiet (Idle n) (Idle n)) { shown = Channel number peer ∷ [] } = cc in
+      let before : map forget earlier ≡ map forget (rounds a n) = cc in
+      let all_counted = counted (small a) (idle 0) (rounds a n) (idle n) (leads a n) (lawful a n) in
+      let drawn : last.drawn ≤ 16 =
+      omega (arith, few, counts, all_counted, given_alike earlier (rounds a n) before, none_given n, ap (λ (x : Call Core). given_by x.before x.after) gets_is) in
+      let unforged : NoForgery (small a) (idle 0) last.drawn (AtClient gets ∷ earlier) = (
+        (λ bytes key text b i own v. absurd (subst (IsIn bytes) (ap (λ (x : Call Core). x.came) gets_is) i)),
+        authentic_alike last.drawn earlier (rounds a n) before (authentic a last.drawn n),
+      ) in
+      let listed : IsIn (Channel number peer) gets.shown =
+      subst (IsIn (Channel number peer)) (sym (ap (λ (x : Call Core). x.shown) gets_is)) (inl refl) in
+      let traced = (shown unforged (distinct a last.drawn drawn)).0 (Channel number peer) listed in
+      let g = granted_by traced.0 (Holds (Channel number peer)) (AtClient gets ∷ earlier) traced.1.0 in
+      let third = the_channel g.0 number peer g.2 in
+      let early : g.0 < n = shown_below n g.0 number peer (subst (IsIn (AtDesk g.0)) told g.1) in
+      record { granted = omega (arith, early, third.0); number_is = third.1; peer_is = third.2 }
+  bound_by n number peer run last few told counts shown = absurd {A = IsBound a n number peer} (cc)
+
+  -- ---- where it was granted, there is an account
+
+  held_from : (k : ℕ) → IsIn (Channel 0x4000 a.peer) (held_after a (suc (suc (suc k))))
+  held_from zero = inr (inl refl)
+  held_from (suc k) = in_right (Channel 0x4000 a.peer) (map (λ (t : Told). t.held) (told_at a (suc (suc (suc k))))) (held_after a (suc (suc (suc k)))) (held_from k)
+
+  held_behind : (n : ℕ) → 3 ≤ n → IsIn (Channel 0x4000 a.peer) (held_after a n)
+  held_behind zero le = absurd (omega (arith, le))
+  held_behind (suc zero) le = absurd (omega (arith, le))
+  held_behind (suc (suc zero)) le = absurd (omega (arith, le))
+  held_behind (suc (suc (suc k))) le = held_from k
+
+  abbrev asked_after : ℕ → Call Client
+  asked_after n = record (quiet (idle n) (idle n)) { shown = Channel 0x4000 a.peer ∷ [] }
+
+  account : (n : ℕ) → 3 ≤ n → AreSafe a (shows_channel a n 0x4000 a.peer)
+  account n le =
+      let run : List (Step Client ℕ) = AtClient (asked_after n) ∷ rounds a n in
+      let lead : Leads (idle 0) run (idle n) = (refl, leads a n) in
+      let held = λ (h : Held) (i : IsIn h (Channel 0x4000 a.peer ∷ [])). elim i as (λ (_ : IsIn h (Channel 0x4000 a.peer ∷ [])). IsIn h (held_after a n)) [
+        | inl e ↦ subst (λ (x : Held). IsIn x (held_after a n)) e (held_behind n le)
+        | inr none ↦ absurd none
+      ] in
+      let law : AtEach (λ s _. IsLawful (small a) s) run = (idle_step a n [] (Channel 0x4000 a.peer ∷ []) held, lawful a n) in
+      let promise : IsPromised (small a) (idle 0) run (idle n) = promised (small a) (small_laws a) (idle 0) run (idle n) (first_is_new a) lead law in
+      record {
+        run = run;
+        told = refl;
+        last = idle n;
+        leads = lead;
+        counted = counted (small a) (idle 0) run (idle n) lead law;
+        safe = promise.safe;
+        once = promise.once;
+        shown = promise.shown;
+      }
+
+  pub shown_where_bound : (n number : ℕ) (peer : SocketAddr) → n ≤ 16 →
+      (AreSafe a (shows_channel a n number peer) → IsBound a n number peer) × (IsBound a n number peer → AreSafe a (shows_channel a n number peer))
+  shown_where_bound n number peer few = (
+    (λ is. bound_by n number peer is.run is.last few is.told is.counted is.shown),
+    (λ is. subst (λ (k : ℕ). AreSafe a (shows_channel a n k peer)) (sym is.number_is)
+        (subst (λ (p : SocketAddr). AreSafe a (shows_channel a n 0x4000 p)) (sym is.peer_is) (account n is.granted))),
+  )
