@@ -1,0 +1,3 @@
+pub mod Indications
+pub mod Payloads
+pub mod Standing

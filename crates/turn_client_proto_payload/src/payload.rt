@@ -1,0 +1,90 @@
+//! What a client gives of a message or a channel frame that came.
+
+ghost use Rattle.std.specs.Prelude.{◌≡◌};
+ghost use Rattle.turn_client_proto_payload.specs.Payloads.{carried, is_data, payload_framed, payload_of, payload_told};
+
+use crate::indication::{data_place, peer_told, report_told, shows_strange};
+use crate::known::{bound, permitted};
+use std::net::SocketAddr;
+use stun_types::TransportType;
+use stun_types::message::{Message, MessageClass};
+use turn_client_proto_core::protocol::{Phase, Protocol};
+use turn_types::attribute::Icmp;
+use turn_types::channel::ChannelData;
+use turn_types::message::DATA;
+use turn_types::registry::CHANNEL_HEADER_LENGTH;
+
+/// What bytes that came give: nothing of them is copied.
+#[derive(Debug, Drop)]
+pub enum Payload {
+    /// The data of a peer, as it stands in an indication (RFC 8656, section 11.4): the transport
+    /// between the server and the peer, the peer, and from where to where in the bytes.
+    Data(TransportType, SocketAddr, usize, usize),
+    /// What a host on the way to a peer reports (RFC 8656, section 11.6): the transport, the peer
+    /// and the report.
+    Report(TransportType, SocketAddr, Icmp),
+    /// The data of a peer, as it stands in a channel frame (RFC 8656, section 12.6): the number of
+    /// the channel, the transport, the peer, and from where to where in the bytes.
+    Framed(u16, TransportType, SocketAddr, usize, usize),
+}
+
+/// Whether a message is a DATA indication, and shows nothing else that has to be understood.
+fn is_data(message: &Message<'_>) -> bool
+    ensures { result ≡ is_data message.now }
+{
+    message.class() == MessageClass::Indication
+        && message.method() == DATA
+        && !shows_strange(message)
+}
+
+/// What a message carries of a peer: data, else a report.
+fn carried(message: &Message<'_>, transport: TransportType, peer: SocketAddr) -> Option<Payload>
+    ensures { result ≡ carried message.now transport peer }
+{
+    if let Some((from, to)) = data_place(message) {
+        return Some(Payload::Data(transport, peer, from, to));
+    }
+    match report_told(message) {
+        Some(report) => Some(Payload::Report(transport, peer, report)),
+        None => None,
+    }
+}
+
+/// What a client gives of a message that came from the server.
+#[tactic(auto, unfolding(crate::specs::Payloads::payload_told))]
+pub fn payload_in(protocol: &Protocol, message: &Message<'_>) -> Option<Payload>
+    ensures { result ≡ payload_told protocol.now message.now }
+{
+    if !matches!(protocol.phase, Phase::Authenticated) || !is_data(message) {
+        return None;
+    }
+    let peer = peer_told(message)?;
+    let transport = permitted(protocol.allocations.as_slice(), peer.ip())?;
+    carried(message, transport, peer)
+}
+
+/// What a client gives of bytes that are no message, in every state: the data of the channel frame
+/// at their front.
+#[tactic(auto, unfolding(crate::specs::Payloads::payload_framed))]
+pub fn payload_framed(protocol: &Protocol, bytes: &[u8]) -> Option<Payload>
+    ensures { result ≡ payload_framed protocol.now bytes.now }
+{
+    let Ok(frame) = ChannelData::parse(bytes) else {
+        return None;
+    };
+    let number = frame.id();
+    let (transport, peer) = bound(protocol.allocations.as_slice(), number)?;
+    let (start, end) = (CHANNEL_HEADER_LENGTH, frame.len());
+    Some(Payload::Framed(number, transport, peer, start, end))
+}
+
+/// What a client gives of bytes that came from the server: a message, or else a channel frame.
+#[tactic(auto, unfolding(crate::specs::Payloads::payload_of))]
+pub fn payload_at(protocol: &Protocol, bytes: &[u8]) -> Option<Payload>
+    ensures { result ≡ payload_of protocol.now bytes.now }
+{
+    match Message::from_bytes(bytes) {
+        Ok(message) => payload_in(protocol, &message),
+        Err(_) => payload_framed(protocol, bytes),
+    }
+}
