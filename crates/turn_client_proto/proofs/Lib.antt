@@ -1,3 +1,4 @@
+pub mod Distinct
 pub mod Received
 -- What stands above this crate has these through it.
 pub use Rattle.turn_client_proto_poll.proofs.Keeps

@@ -10,9 +10,9 @@
 pub mod api;
 pub mod client;
 mod getters;
+pub mod laws;
 pub mod prelude;
 pub mod udp;
 
 pub use stun_proto as stun;
-pub use turn_client_proto_poll::laws;
 pub use turn_types as types;

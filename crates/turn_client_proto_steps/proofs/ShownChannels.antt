@@ -1,17 +1,13 @@
--- The channels that a client shows are held, and no two of a sound client have one number.
-use Rattle.std.proofs.Common.{◌≡◌, ◌≤◌, ℕ, ◌+◌, Bool, false, List, [], ◌∷◌, ◌++◌, eqb, length, refl, sym, subst, arith, inl, inr}
+-- The channels that a client shows are held.
+use Rattle.std.proofs.Common.{◌≡◌, ℕ, false, List, [], ◌∷◌, refl, sym, subst, inl, inr}
 use Rattle.std.proofs.lemmas.Bool.{cases_Bool}
-use Rattle.std.specs.List.{filter}
 use Rattle.std.specs.declared.net.socket_addr.SocketAddr.{SocketAddr}
 use Rattle.turn_client_proto_poll.specs.Members.{IsIn}
 use Rattle.turn_client_proto_poll.specs.Messages as run
-use Rattle.turn_client_proto_poll.specs.Channel.Numbers.{AreDistinct, counted, is_numbered, uses}
 use Rattle.turn_client_proto_poll.specs.Channel.Shown.{channels_of, channels_shown, pairs_of}
 use Rattle.turn_client_proto_steps.specs.ClientWords.{Has, HasChannel, IsHeld}
 use Rattle.turn_client_proto_steps.specs.Held.{Allocation, Channel}
 use Rattle.turn_client_proto_steps.proofs.Lists.{in_either, in_map}
-
--- ---- what is shown is held
 
 -- a channel that is shown of one allocation
 pair_held : (a : Allocation) (number : ℕ) (peer : SocketAddr) → IsIn (number, peer) (pairs_of (channels_of a)) → (a.is_expired ≡ false) × Has a (run.Channel number peer)
@@ -35,45 +31,3 @@ channel_held (a ∷ rest) number peer h = elim (in_either (number, peer) (pairs_
       let is = channel_held rest number peer later in
       record { allocation = is.allocation; listed = inr is.listed; stands = is.stands; has = is.has }
 ]
-
--- ---- numbers that are shown
-
--- how many elements of two lists pass
-passes_both : {X : Type 0} (p : X → Bool) (front behind : List X) → length (filter p (front ++ behind)) ≡ length (filter p front) + length (filter p behind)
-passes_both p [] behind = omega arith
-passes_both p (x ∷ front) behind =
-    let later = passes_both p front behind in
-    elim (cases_Bool (p x)) [ inl is ↦ rw is (omega (arith, later)) | inr not ↦ rw not (omega (arith, later)) ]
-
-module _ (number : ℕ) where
-  -- a pair has this number
-  abbrev has_it : ℕ × SocketAddr → Bool
-  has_it p = eqb p.0 number
-
-  -- as many as channels have this number
-  as_many : (channels : List Channel) → length (filter has_it (pairs_of channels)) ≡ counted (is_numbered number) channels
-  as_many [] = refl
-  as_many (c ∷ channels) =
-      let later = as_many channels in
-      elim (cases_Bool (eqb c.number number)) [ inl is ↦ rw is (omega (arith, later)) | inr not ↦ rw not (omega (arith, later)) ]
-
-  few_of : (a : Allocation) → length (filter has_it (pairs_of (channels_of a))) ≤ counted (is_numbered number) a.channels
-  few_of a = elim (cases_Bool a.is_expired) [
-    | inl over ↦ rw over (omega arith)
-    | inr stands ↦ let same = as_many a.channels in rw stands (omega (arith, same))
-  ]
-
-  few_shown : (all : List Allocation) → length (filter has_it (channels_shown all)) ≤ uses number all
-  few_shown [] = omega arith
-  few_shown (a ∷ rest) =
-      let both = passes_both has_it (pairs_of (channels_of a)) (channels_shown rest) in
-      let here = few_of a in
-      let later = few_shown rest in
-      omega (arith, both, here, later)
-
-  -- where channels have distinct numbers, one of this number is shown at most
-  pub shown_once : (all : List Allocation) → AreDistinct all → length (filter has_it (channels_shown all)) ≤ 1
-  shown_once all distinct =
-      let few = few_shown all in
-      let one = distinct number in
-      omega (arith, few, one)

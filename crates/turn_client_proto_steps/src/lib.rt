@@ -10,7 +10,7 @@
 
 pub mod definite;
 
-ghost use Rattle.std.specs.Prelude.{◌≤◌, ◌==◌, ℕ, List, length, filter, ◌≡◌, ◌++◌, Bool, true, [], Option, None, Result, option_to_list};
+ghost use Rattle.std.specs.Prelude.{◌≤◌, ℕ, List, length, ◌≡◌, ◌++◌, Bool, true, [], Option, None, Result, option_to_list};
 ghost use Rattle.std.specs.declared.net.ip_addr.IpAddr.{IpAddr};
 ghost use Rattle.std.specs.declared.net.socket_addr.SocketAddr.{SocketAddr};
 ghost use Rattle.stun_types.specs.Registry.{longest_username};
@@ -21,6 +21,7 @@ ghost use Rattle.turn_client_proto_poll.specs.Runs.{IsNew as IsNewInRun};
 ghost use Rattle.turn_client_proto_poll.specs.Words.{DeskWords};
 ghost use Rattle.turn_client_proto_poll.specs.Allocation.Listed.{relayed_shown};
 ghost use Rattle.turn_client_proto_poll.specs.Api.Config.{Config};
+ghost use Rattle.turn_client_proto_poll.specs.Channel.Numbers.{AreDistinct};
 ghost use Rattle.turn_client_proto_poll.specs.Channel.Shown.{channels_shown};
 ghost use Rattle.turn_client_proto_poll.specs.Permission.Asking.{permits_over};
 ghost use Rattle.turn_client_proto_poll.specs.Permission.Shown.{addresses_of, permissions_at};
@@ -110,11 +111,10 @@ pub fn shown_channels_are_held()
         → client_words.IsHeld c (Channel number peer) }
 {}
 
-/// No two channels that a sound client shows have one number.
-pub fn channels_are_distinct()
-    ensures { (c : Client) (number : ℕ)
-        → IsSound c
-        → length (filter (λ p. p.0 == number) (channels_shown c.core.allocations)) ≤ 1 }
+/// No two channels of a sound client have one number, of those that stand and of those that were asked
+/// for. So no two that it shows have (`channels_are_distinct` of the face).
+pub fn numbers_are_distinct()
+    ensures { (c : Client) → IsSound c → AreDistinct c.core.allocations }
 {}
 
 /// `poll_event` is a step in which what an event tells as created is answered.

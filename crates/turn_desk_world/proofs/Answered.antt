@@ -1,5 +1,5 @@
 -- What the last answer of a run shows was granted in the run.
-use Rattle.std.proofs.Common.{◌≡◌, ℕ, List, [], ◌∷◌, ◌++◌, map, refl, sym, ap, ◌∙◌, subst, inl, inr}
+use Rattle.std.proofs.Common.{◌≡◌, ℕ, List, [], ◌∷◌, ◌++◌, map, sym, ap, ◌∙◌, subst, inl, inr}
 use Rattle.turn_client_proto.specs.Headline.{ShowsTraced, Traced}
 use Rattle.turn_client_proto.specs.Members.{IsIn}
 use Rattle.turn_client_proto.specs.Messages.{Held}
