@@ -11,8 +11,8 @@ from permissions import (
 from world import (
     ADDITIONAL_FAMILY, ALLOCATE, BINDING, CHANNEL_BIND, CREATE_PERMISSION, ERROR, HASHED, MS, NAMED, OTHER,
     PASSWORD_ALGORITHM, PASSWORD_ALGORITHMS, REFRESH, RELAYED, SECOND, SHA1, SHA256, SUCCESS, V6, Trace,
-    challenge, channel_bind, code, create_permission, error, first, grant, hashed, lifetime, message, number,
-    refresh, relayed, setup, signed_allocate, success, unsigned,
+    challenge, channel_bind, create_permission, error, first, grant, hashed, lifetime, message, number,
+    refresh, relayed, setup, signed_allocate, stale, success, unsigned,
 )
 
 # peers, and the numbers that channels have, the least one first
@@ -921,18 +921,13 @@ def stale_renewals_of_both():
     return "The same under a permission that is renewed: the one that is signed anew is refused, the permission stands", t
 
 
-def stale(k):
-    """As the desk's first challenge, but that it says so."""
-    return challenge(k, reason=code(438, b"Stale Nonce"), method=CHANNEL_BIND)
-
-
 def ten_bound():
     t = holding()
     peers = [f"10.0.0.{i}:9000" for i in range(1, 11)]
     for i, peer in enumerate(peers):
         asked, k = (50 + 100 * i) * MS, 2 + 2 * i
         t.binds(asked, k, A + i, peer)
-        t.hear(asked + 50 * MS, stale(k))
+        t.hear(asked + 50 * MS, stale(k, CHANNEL_BIND))
         now = asked + 100 * MS
         drawn = t.draw(now, channel_bind(k + 1, A + i, peer))
         t.decides(now, drawn, "grant", success(CHANNEL_BIND, k + 1))
@@ -947,9 +942,9 @@ def ten_stale_channels():
     bound(t, 50 * MS, 2, A, ONE)
     t.binds(100 * MS, 3, B, TWO)
     for k in range(3, 12):
-        t.hear(50 * MS * k, stale(k))
+        t.hear(50 * MS * k, stale(k, CHANNEL_BIND))
         t.draw(50 * MS * (k + 1), channel_bind(k + 1, B, TWO))
-    t.hear(600 * MS, stale(12))
+    t.hear(600 * MS, stale(12, CHANNEL_BIND))
     t.event("AllocationCreateFailed 4")
     t.event("none")
     t.poll(600 * MS, None)

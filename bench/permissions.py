@@ -6,7 +6,7 @@ Each permission stands for 300 seconds from its grant, and is to be renewed from
 from world import (
     ADDITIONAL_FAMILY, BINDING, CREATE_PERMISSION, ERROR, HASHED, MS, NAMED, NONCE, OTHER, REALM, REFRESH,
     RELAYED, SECOND, SHA1, SHA256, SUCCESS, USERNAME, V6, Trace, challenge, code, create_permission, error,
-    first, grant, lifetime, message, number, refresh, setup, signed_allocate, success, unsigned,
+    first, grant, lifetime, message, number, refresh, setup, signed_allocate, stale, success, unsigned,
 )
 
 PEER_1, PEER_2, PEER_3, PEER_6 = "10.0.0.1", "10.0.0.2", "10.0.0.3", "2001:db8::7"
@@ -346,18 +346,13 @@ def stale_permission_renewal():
     return "The nonce is stale where a permission is to be renewed: it is signed anew, and granted", t
 
 
-def stale(k):
-    """As the desk's first challenge, but that it says so."""
-    return challenge(k, reason=code(438, b"Stale Nonce"), method=CREATE_PERMISSION)
-
-
 def ten_peers():
     t = holding()
     peers = [f"10.0.0.{i}" for i in range(1, 11)]
     for i, ip in enumerate(peers):
         asked, k = (50 + 100 * i) * MS, 2 + 2 * i
         t.asks(asked, k, ip)
-        t.hear(asked + 50 * MS, stale(k))
+        t.hear(asked + 50 * MS, stale(k, CREATE_PERMISSION))
         now = asked + 100 * MS
         drawn = t.draw(now, create_permission(k + 1, ip))
         t.decides(now, drawn, "grant", success(CREATE_PERMISSION, k + 1))
@@ -370,9 +365,9 @@ def ten_stale_permissions():
     t = holding(PEER_1)
     t.asks(100 * MS, 3, PEER_2)
     for k in range(3, 12):
-        t.hear(50 * MS * k, stale(k))
+        t.hear(50 * MS * k, stale(k, CREATE_PERMISSION))
         t.draw(50 * MS * (k + 1), create_permission(k + 1, PEER_2))
-    t.hear(600 * MS, stale(12))
+    t.hear(600 * MS, stale(12, CREATE_PERMISSION))
     t.event("AllocationCreateFailed 4")
     t.event("none")
     t.poll(600 * MS, None)

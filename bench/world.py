@@ -157,6 +157,11 @@ def challenge(k, bits=b"QAAA", lists=(), reason=code(401, b"Unauthorized"), meth
     return message(method | ERROR, number(k), [reason, (REALM, b"realm"), (NONCE, NONCES[bits]), *lists])
 
 
+def stale(k, method=ALLOCATE):
+    """As the desk's first challenge, but that it says so."""
+    return challenge(k, reason=code(438, b"Stale Nonce"), method=method)
+
+
 def grant(k, by=SHA1, addresses=(RELAYED,), seconds=600):
     """The desk's own."""
     told = [*(relayed(it, k) for it in addresses), lifetime(seconds), (MAPPED, xored(CLIENT, number(k)))]
@@ -421,8 +426,8 @@ def forged_challenge():
     t.hear(0, unsigned(ALLOCATE | ERROR, 0, told))
     named = [(USERNAME, b"user"), (REALM, b"evil"), (NONCE, b"n")]
     drawn = t.draw(50 * MS, signed_allocate(1, named, realm=b"evil"))
-    stale = t.ask(50 * MS, f"@{drawn}", "refuse 400", challenge(1, reason=code(438, b"Stale Nonce")))
-    t.hear(50 * MS, f"@{stale}")
+    again = t.ask(50 * MS, f"@{drawn}", "refuse 400", stale(1))
+    t.hear(50 * MS, f"@{again}")
     t.poll(50 * MS, 100 * MS)
     t.is_granted(100 * MS, 2, hashed(b"QAAA"))
     return "A forged challenge of another realm: the desk's own one mends it", t

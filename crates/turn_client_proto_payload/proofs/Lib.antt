@@ -1,2 +1,3 @@
+pub mod Last
 pub mod Parts
 pub mod Standing

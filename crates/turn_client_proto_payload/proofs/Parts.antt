@@ -11,7 +11,8 @@ use Rattle.stun_types_grammar_laws.proofs.Left.{left_at, left_step, none_past, n
 use Rattle.stun_types_grammar_laws.proofs.Scan.{shown_short}
 use Rattle.stun_types_grammar_laws.proofs.Whole.{whole_long}
 use Rattle.turn_client_proto_core.specs.Api.Payloads.{part_of}
-use Rattle.turn_client_proto_payload.specs.Indications.{entries, last_shown, later}
+use Rattle.turn_client_proto_payload.specs.Indications.{entries, last_shown}
+use Rattle.turn_client_proto_payload.proofs.Last.{last_is, later}
 
 -- what was taken is taken by its own length, too
 takes_all : {X : Type 0} (k : ℕ) (xs : List X) → take (length (take k xs)) xs ≡ take k xs
@@ -88,10 +89,10 @@ kind_of kind (x ∷ all) found e was is = kind_of kind all (later kind found x) 
         ]
 
 pub entry_in : (kind : ℕ) (bytes : List ℕ) (e : ℕ × Attr) → last_shown kind bytes ≡ Some e → StandsIn bytes e
-entry_in kind bytes e is = one_of kind (entries bytes) None e (all_stand bytes) (λ x none. absurd (Prim.cc none)) is
+entry_in kind bytes e is = one_of kind (entries bytes) None e (all_stand bytes) (λ x none. absurd (Prim.cc none)) (last_is kind (entries bytes) ∙ is)
 
 pub last_kind : (kind offset : ℕ) (bytes : List ℕ) (a : Attr) → last_shown kind bytes ≡ Some (offset, a) → a.kind ≡ kind
-last_kind kind offset bytes a is = kind_of kind (entries bytes) None (offset, a) (λ x none. absurd (Prim.cc none)) is
+last_kind kind offset bytes a is = kind_of kind (entries bytes) None (offset, a) (λ x none. absurd (Prim.cc none)) (last_is kind (entries bytes) ∙ is)
 
 pub entry_fits : (kind offset : ℕ) (bytes : List ℕ) (a : Attr) → last_shown kind bytes ≡ Some (offset, a) → offset + 4 + length a.value ≤ length bytes
 entry_fits kind offset bytes a is = (entry_in kind bytes (offset, a) is).fits

@@ -1,4 +1,4 @@
--- What is given is due, and stands where it is said to.
+-- What is given is of a peer that is let through, and stands where it is said to.
 use Rattle.std.proofs.Common.{◌≡◌, ◌+◌, ◌≤◌, ℕ, Bool, true, false, ◌&&◌, List, length, drop, Option, Some, None, is_none, option_map, refl, sym, subst, arith}
 use Rattle.std.specs.Prelude.{if◌then◌else◌, MatchOption}
 use Rattle.std.specs.Option.{option_or}
@@ -16,7 +16,7 @@ use Rattle.turn_client_proto_core.specs.Deleting.{is_authenticated}
 use Rattle.turn_client_proto_core.specs.declared.protocol.Protocol.{Protocol}
 use Rattle.turn_client_proto_payload.specs.Indications.{last_shown, peer_told, place_of, report_told}
 use Rattle.turn_client_proto_payload.specs.Payloads.{bound, is_data, permitted, carried_for, carried_over, framed_by, payload_framed, payload_of, payload_told}
-use Rattle.turn_client_proto_payload.specs.Standing.{IsCarried, IsDue, IsPart}
+use Rattle.turn_client_proto_payload.specs.Standing.{IsCarried, IsOfPeer, IsPart}
 use Rattle.turn_client_proto_payload.specs.declared.payload.Payload.{Payload}
 use Rattle.turn_client_proto_payload.specs.declared.payload.Payload.TheVariants.{Data, Report}
 use Rattle.turn_client_proto_payload.proofs.Parts.{entry_in, stands}
@@ -45,21 +45,21 @@ second_so false y h = absurd (Prim.cc h)
 carried_by : (p : Protocol) (bytes : List ℕ) (transport : TransportType) (peer : SocketAddr) (found : Option (ℕ × Attr)) (report : Option IcmpReport) (payload : Payload)
     → IsCarried p bytes transport peer → last_shown data_kind bytes ≡ found → report_told bytes ≡ report
     → option_or (option_map (λ place. Data transport peer place.0 place.1) (option_map place_of found)) (option_map (λ r. Report transport peer r) report) ≡ Some payload
-    → IsDue p bytes payload
+    → IsOfPeer p bytes payload
 carried_by p bytes transport peer (Some e) report payload due at told is =
     let given : Data transport peer (e.0 + 4) (e.0 + 4 + length e.1.value) ≡ payload = Prim.cc is in
     let there = entry_in data_kind bytes e at in
     let part : IsPart bytes (e.0 + 4) (e.0 + 4 + length e.1.value) e.1.value = record { within = there.fits; is = there.is } in
-    subst (IsDue p bytes) given
+    subst (IsOfPeer p bytes) given
     (due, subst (λ (o : Option (ℕ × Attr)). MatchOption o ⊥ (λ x. IsPart bytes (e.0 + 4) (e.0 + 4 + length e.1.value) x.1.value)) (sym at) part)
 carried_by p bytes transport peer None (Some report) payload due at told is =
     let given : Report transport peer report ≡ payload = Prim.cc is in
-    subst (IsDue p bytes) given (due, at, told)
+    subst (IsOfPeer p bytes) given (due, at, told)
 carried_by p bytes transport peer None None payload due at told is = absurd (Prim.cc is)
 
 over_due : (p : Protocol) (bytes : List ℕ) (peer : SocketAddr) (transport : Option TransportType) (payload : Payload)
     → is_authenticated p.phase ≡ true → is_data bytes ≡ true → peer_told bytes ≡ Some peer → permitted (socket_ip peer) p.allocations ≡ transport
-    → carried_over bytes peer transport ≡ Some payload → IsDue p bytes payload
+    → carried_over bytes peer transport ≡ Some payload → IsOfPeer p bytes payload
 over_due p bytes peer None payload ready is_one named permits is = absurd (Prim.cc is)
 over_due p bytes peer (Some transport) payload ready is_one named permits is =
     carried_by p bytes transport peer (last_shown data_kind bytes) (report_told bytes) payload
@@ -67,12 +67,12 @@ over_due p bytes peer (Some transport) payload ready is_one named permits is =
 
 for_due : (p : Protocol) (bytes : List ℕ) (peer : Option SocketAddr) (payload : Payload)
     → is_authenticated p.phase ≡ true → is_data bytes ≡ true → peer_told bytes ≡ peer
-    → carried_for p.allocations bytes peer ≡ Some payload → IsDue p bytes payload
+    → carried_for p.allocations bytes peer ≡ Some payload → IsOfPeer p bytes payload
 for_due p bytes None payload ready is_one named is = absurd (Prim.cc is)
 for_due p bytes (Some peer) payload ready is_one named is =
     over_due p bytes peer (permitted (socket_ip peer) p.allocations) payload ready is_one named refl is
 
-told_due : (p : Protocol) (bytes : List ℕ) (payload : Payload) → payload_told p bytes ≡ Some payload → IsDue p bytes payload
+told_due : (p : Protocol) (bytes : List ℕ) (payload : Payload) → payload_told p bytes ≡ Some payload → IsOfPeer p bytes payload
 unfolding payload_told
 told_due p bytes payload is =
     let both = if_holds (is_authenticated p.phase && is_data bytes) (carried_for p.allocations bytes (peer_told bytes)) payload is in
@@ -95,21 +95,21 @@ framed_part bytes none = record {
 
 framed_of : (p : Protocol) (bytes : List ℕ) (to : Option (TransportType × SocketAddr)) (payload : Payload)
     → channel_refusal bytes ≡ None → bound (frame_at bytes).id p.allocations ≡ to
-    → option_map (framed_by (frame_at bytes)) to ≡ Some payload → IsDue p bytes payload
+    → option_map (framed_by (frame_at bytes)) to ≡ Some payload → IsOfPeer p bytes payload
 framed_of p bytes None payload none at is = absurd (Prim.cc is)
 framed_of p bytes (Some to) payload none at is =
     let given : framed_by (frame_at bytes) to ≡ payload = Prim.cc is in
-    subst (IsDue p bytes) given (none, refl, at, framed_part bytes none)
+    subst (IsOfPeer p bytes) given (none, refl, at, framed_part bytes none)
 
-framed_due : (p : Protocol) (bytes : List ℕ) (payload : Payload) → payload_framed p bytes ≡ Some payload → IsDue p bytes payload
+framed_due : (p : Protocol) (bytes : List ℕ) (payload : Payload) → payload_framed p bytes ≡ Some payload → IsOfPeer p bytes payload
 unfolding payload_framed
 framed_due p bytes payload is = framed_of p bytes (bound (frame_at bytes).id p.allocations) payload
     (is_none_None (channel_refusal bytes) (if_holds _ _ payload is)) refl (if_given _ _ payload is)
 
-either_due : (p : Protocol) (bytes : List ℕ) (payload : Payload) (c : Bool) → (if c then payload_told p bytes else payload_framed p bytes) ≡ Some payload → IsDue p bytes payload
+either_due : (p : Protocol) (bytes : List ℕ) (payload : Payload) (c : Bool) → (if c then payload_told p bytes else payload_framed p bytes) ≡ Some payload → IsOfPeer p bytes payload
 either_due p bytes payload true is = told_due p bytes payload is
 either_due p bytes payload false is = framed_due p bytes payload is
 
-pub payload_due : (p : Protocol) (bytes : List ℕ) (payload : Payload) → payload_of p bytes ≡ Some payload → IsDue p bytes payload
+pub payload_of_peer : (p : Protocol) (bytes : List ℕ) (payload : Payload) → payload_of p bytes ≡ Some payload → IsOfPeer p bytes payload
 unfolding payload_of
-payload_due p bytes payload is = either_due p bytes payload (is_none (refusal bytes)) is
+payload_of_peer p bytes payload is = either_due p bytes payload (is_none (refusal bytes)) is

@@ -1,5 +1,5 @@
 -- What an indication tells of a peer (RFC 8656, sections 11.3, 18.3, 18.4 and 18.13).
-use Rattle.std.specs.Prelude.{ℕ, ◌==◌, ◌+◌, ◌&&◌, nat_lt, not, Bool, ◌||◌, List, fold, length, Option, Some, None, option_and_then, option_map, if◌then◌else◌}
+use Rattle.std.specs.Prelude.{ℕ, ◌==◌, ◌+◌, ◌&&◌, nat_lt, not, Bool, ◌||◌, List, find, reverse, length, Option, Some, option_and_then, option_map}
 use Rattle.std.specs.List.{list_any}
 use Rattle.std.specs.declared.net.socket_addr.SocketAddr.{SocketAddr}
 use Rattle.stun_types.specs.Attributes.{Attr, numbered}
@@ -14,17 +14,13 @@ use Rattle.turn_types.specs.TurnShows.{address_in, unless_refused}
 abbrev pub entries : List ℕ → List (ℕ × Attr)
 entries bytes = numbered header_size (shown bytes)
 
--- the later of what was found and an attribute, where that is of a type
-abbrev pub later : ℕ → Option (ℕ × Attr) → ℕ × Attr → Option (ℕ × Attr)
-later kind found e = if e.1.kind == kind then Some e else found
+-- an attribute is of a type
+abbrev pub is_kind : ℕ → ℕ × Attr → Bool
+is_kind kind e = e.1.kind == kind
 
--- the last attribute of a type: a later one takes the place of those before it, malformed or not
-abbrev pub last_entry : ℕ → List (ℕ × Attr) → Option (ℕ × Attr)
-last_entry kind all = fold (later kind) None all
-
--- the last attribute of a type that a message shows
+-- the last attribute of a type that a message shows, well formed or not: the first from behind
 abbrev pub last_shown : ℕ → List ℕ → Option (ℕ × Attr)
-last_shown kind bytes = last_entry kind (entries bytes)
+last_shown kind bytes = find (is_kind kind) (reverse (entries bytes))
 
 -- from where to where a value stands: behind the header of its attribute
 abbrev pub place_of : ℕ × Attr → ℕ × ℕ
@@ -48,10 +44,10 @@ abbrev pub report_told : List ℕ → Option IcmpReport
 report_told bytes = option_and_then (λ e. report_in e.1) (last_shown icmp_kind bytes)
 
 -- a type that has to be understood, and is neither XOR-PEER-ADDRESS nor DATA nor ICMP
-abbrev pub is_strange : ℕ → Bool
-is_strange kind = nat_lt kind first_optional_kind
+abbrev pub is_unexpected : ℕ → Bool
+is_unexpected kind = nat_lt kind first_optional_kind
     && not (kind == xor_peer_address_kind || (kind == data_kind || kind == icmp_kind))
 
 -- a message shows such an attribute
-abbrev pub shows_strange : List ℕ → Bool
-shows_strange bytes = list_any (λ e. is_strange e.1.kind) (entries bytes)
+abbrev pub shows_unexpected : List ℕ → Bool
+shows_unexpected bytes = list_any (λ e. is_unexpected e.1.kind) (entries bytes)

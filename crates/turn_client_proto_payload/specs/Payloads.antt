@@ -1,5 +1,5 @@
 -- What a client gives of what comes from the server (RFC 8656, sections 11.4, 11.6 and 12.6).
-use Rattle.std.specs.Prelude.{ℕ, ◌+◌, ◌==◌, ◌&&◌, not, is_none, Bool, List, [], ◌∷◌, find, length, Option, Some, None, option_map, if◌then◌else◌}
+use Rattle.std.specs.Prelude.{ℕ, ◌+◌, ◌==◌, ◌&&◌, not, is_none, is_some, Bool, List, find, length, Option, Some, None, option_and_then, option_map, if◌then◌else◌}
 use Rattle.std.specs.Option.{option_or}
 use Rattle.std.specs.declared.net.ip_addr.IpAddr.{IpAddr}
 use Rattle.std.specs.declared.net.socket_addr.SocketAddr.{SocketAddr}
@@ -11,12 +11,12 @@ use Rattle.stun_types.specs.declared.transport.TransportType.{TransportType}
 use Rattle.turn_types.specs.ChannelFrames.{Frame, channel_refusal, frame_at}
 use Rattle.turn_types.specs.TurnRegistry.{channel_header_size, data_method}
 use Rattle.turn_client_proto_core.specs.Allocation.declared.allocation.Allocation.{Allocation}
-use Rattle.turn_client_proto_core.specs.Allocation.declared.channel.Channel.{Channel}
+use Rattle.turn_client_proto_core.specs.Channel.Numbers.{is_numbered}
 use Rattle.turn_client_proto_core.specs.Deleting.{is_authenticated}
 use Rattle.turn_client_proto_core.specs.Permission.Asking.{permits}
 use Rattle.turn_client_proto_core.specs.Receiving.{is_indication}
 use Rattle.turn_client_proto_core.specs.declared.protocol.Protocol.{Protocol}
-use Rattle.turn_client_proto_payload.specs.Indications.{data_place, peer_told, report_told, shows_strange}
+use Rattle.turn_client_proto_payload.specs.Indications.{data_place, peer_told, report_told, shows_unexpected}
 use Rattle.turn_client_proto_payload.specs.declared.payload.Payload.{Payload}
 use Rattle.turn_client_proto_payload.specs.declared.payload.Payload.TheVariants.{Data, Framed, Report}
 
@@ -26,18 +26,14 @@ use Rattle.turn_client_proto_payload.specs.declared.payload.Payload.TheVariants.
 abbrev pub permitted : IpAddr → List Allocation → Option TransportType
 permitted ip allocations = option_map (λ a. a.transport) (find (permits ip) allocations)
 
--- a channel of this number
-abbrev pub is_numbered : ℕ → Channel → Bool
-is_numbered number c = c.number == number
-
 -- the peer of the first channel of a number in an allocation, and the allocation's transport
 abbrev pub bound_in : ℕ → Allocation → Option (TransportType × SocketAddr)
 bound_in number a = option_map (λ c. (a.transport, c.peer)) (find (is_numbered number) a.channels)
 
 -- the same in the first allocation, marked as expired or not, that has such a channel
-unfoldable pub bound : ℕ → List Allocation → Option (TransportType × SocketAddr)
-bound number [] = None
-bound number (a ∷ rest) = option_or (bound_in number a) (bound number rest)
+abbrev pub bound : ℕ → List Allocation → Option (TransportType × SocketAddr)
+bound number allocations =
+    option_and_then (bound_in number) (find (λ a. is_some (bound_in number a)) allocations)
 
 -- ---- what an indication gives
 
@@ -60,7 +56,7 @@ carried_for allocations bytes (Some peer) = carried_over bytes peer (permitted (
 -- a message is a DATA indication, and shows nothing else that has to be understood
 abbrev pub is_data : List ℕ → Bool
 is_data bytes = is_indication (class_of (kind_at bytes))
-    && (method_of (kind_at bytes) == data_method && not (shows_strange bytes))
+    && (method_of (kind_at bytes) == data_method && not (shows_unexpected bytes))
 
 -- what a message gives: while the server has allocated, and the client has not ended
 unfoldable pub payload_told : Protocol → List ℕ → Option Payload

@@ -27,13 +27,13 @@ pub record IsCarried (p : Protocol) (bytes : List ℕ) (transport : TransportTyp
   pub named : peer_told bytes ≡ Some peer
   pub permitted : permitted (socket_ip peer) p.allocations ≡ Some transport
 
--- what is given is due. Data is the value of the last DATA that the bytes show, a report stands there without data; or
+-- what is given is of such a peer. Data is the value of the last DATA that the bytes show, a report stands there without data; or
 -- data is that of the channel frame at the front of bytes that are no message, and a channel of its number stands
-abbrev pub IsDue : Protocol → List ℕ → Payload → Type 0
-IsDue p bytes (Data transport peer start end) = IsCarried p bytes transport peer
+abbrev pub IsOfPeer : Protocol → List ℕ → Payload → Type 0
+IsOfPeer p bytes (Data transport peer start end) = IsCarried p bytes transport peer
     × MatchOption (last_shown data_kind bytes) ⊥ (λ e. IsPart bytes start end e.1.value)
-IsDue p bytes (Report transport peer report) = IsCarried p bytes transport peer
+IsOfPeer p bytes (Report transport peer report) = IsCarried p bytes transport peer
     × (last_shown data_kind bytes ≡ None) × (report_told bytes ≡ Some report)
-IsDue p bytes (Framed number transport peer start end) = (channel_refusal bytes ≡ None)
+IsOfPeer p bytes (Framed number transport peer start end) = (channel_refusal bytes ≡ None)
     × (number ≡ (frame_at bytes).id) × (bound number p.allocations ≡ Some (transport, peer))
     × IsPart bytes start end (frame_at bytes).payload

@@ -1,7 +1,7 @@
 //! What an indication tells of a peer (RFC 8656, sections 11.3, 18.3, 18.4 and 18.13).
 
 ghost use Rattle.std.specs.Prelude.{◌≡◌, ◌+◌, ◌≤◌, length};
-ghost use Rattle.turn_client_proto_payload.specs.Indications.{data_place, is_strange, last_shown, peer_told, report_told, shows_strange};
+ghost use Rattle.turn_client_proto_payload.specs.Indications.{data_place, is_unexpected, last_shown, peer_told, report_told, shows_unexpected};
 
 use std::convert::TryFrom;
 use std::net::SocketAddr;
@@ -10,6 +10,7 @@ use stun_types::message::Message;
 use turn_types::attribute::{Data, Icmp, XorPeerAddress};
 
 /// The last attribute of a type that a message shows, with the offset at which it stands.
+#[tactic(auto, using(crate::proofs::Last::last_is))]
 fn last_shown<'a>(message: &Message<'a>, atype: AttributeType) -> Option<(usize, RawAttribute<'a>)>
     ensures { result ≡ last_shown atype.0 message.now }
 {
@@ -23,19 +24,19 @@ fn last_shown<'a>(message: &Message<'a>, atype: AttributeType) -> Option<(usize,
 }
 
 /// Whether a type has to be understood, and is none of those that an indication may show here.
-fn is_strange(atype: AttributeType) -> bool
-    ensures { result ≡ is_strange atype.0 }
+fn is_unexpected(atype: AttributeType) -> bool
+    ensures { result ≡ is_unexpected atype.0 }
 {
     atype.comprehension_required()
         && !(atype == XorPeerAddress::TYPE || atype == Data::TYPE || atype == Icmp::TYPE)
 }
 
 /// Whether a message shows an attribute that has to be understood, and is none of these.
-pub(crate) fn shows_strange(message: &Message<'_>) -> bool
-    ensures { result ≡ shows_strange message.now }
+pub(crate) fn shows_unexpected(message: &Message<'_>) -> bool
+    ensures { result ≡ shows_unexpected message.now }
 {
     for (_, raw) in message.iter_attributes() {
-        if is_strange(raw.get_type()) {
+        if is_unexpected(raw.get_type()) {
             return true;
         }
     }

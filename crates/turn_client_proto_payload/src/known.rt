@@ -36,7 +36,6 @@ fn bound_in(a: &Allocation, number: u16) -> Option<(TransportType, SocketAddr)>
 }
 
 /// The same of the first allocation, marked as expired or not, that has such a channel.
-#[tactic(auto, unfolding(crate::specs::Payloads::bound))]
 pub(crate) fn bound(allocations: &[Allocation], number: u16) -> Option<(TransportType, SocketAddr)>
     ensures { result ≡ bound number allocations.now }
 {

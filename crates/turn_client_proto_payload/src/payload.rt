@@ -3,7 +3,7 @@
 ghost use Rattle.std.specs.Prelude.{◌≡◌};
 ghost use Rattle.turn_client_proto_payload.specs.Payloads.{carried, is_data, payload_framed, payload_of, payload_told};
 
-use crate::indication::{data_place, peer_told, report_told, shows_strange};
+use crate::indication::{data_place, peer_told, report_told, shows_unexpected};
 use crate::known::{bound, permitted};
 use std::net::SocketAddr;
 use stun_types::TransportType;
@@ -17,15 +17,33 @@ use turn_types::registry::CHANNEL_HEADER_LENGTH;
 /// What bytes that came give: nothing of them is copied.
 #[derive(Debug, Drop)]
 pub enum Payload {
-    /// The data of a peer, as it stands in an indication (RFC 8656, section 11.4): the transport
-    /// between the server and the peer, the peer, and from where to where in the bytes.
-    Data(TransportType, SocketAddr, usize, usize),
+    /// The data of a peer, as it stands in an indication (RFC 8656, section 11.4).
+    Data {
+        /// The transport between the server and the peer.
+        transport: TransportType,
+        /// The peer.
+        peer: SocketAddr,
+        /// Where the data begins in the bytes that came.
+        start: usize,
+        /// Where it ends.
+        end: usize,
+    },
     /// What a host on the way to a peer reports (RFC 8656, section 11.6): the transport, the peer
     /// and the report.
     Report(TransportType, SocketAddr, Icmp),
-    /// The data of a peer, as it stands in a channel frame (RFC 8656, section 12.6): the number of
-    /// the channel, the transport, the peer, and from where to where in the bytes.
-    Framed(u16, TransportType, SocketAddr, usize, usize),
+    /// The data of a peer, as it stands in a channel frame (RFC 8656, section 12.6).
+    Framed {
+        /// The number of the channel.
+        number: u16,
+        /// The transport between the server and the peer.
+        transport: TransportType,
+        /// The peer.
+        peer: SocketAddr,
+        /// Where the data begins in the bytes that came.
+        start: usize,
+        /// Where it ends.
+        end: usize,
+    },
 }
 
 /// Whether a message is a DATA indication, and shows nothing else that has to be understood.
@@ -34,15 +52,20 @@ fn is_data(message: &Message<'_>) -> bool
 {
     message.class() == MessageClass::Indication
         && message.method() == DATA
-        && !shows_strange(message)
+        && !shows_unexpected(message)
 }
 
 /// What a message carries of a peer: data, else a report.
 fn carried(message: &Message<'_>, transport: TransportType, peer: SocketAddr) -> Option<Payload>
     ensures { result ≡ carried message.now transport peer }
 {
-    if let Some((from, to)) = data_place(message) {
-        return Some(Payload::Data(transport, peer, from, to));
+    if let Some((start, end)) = data_place(message) {
+        return Some(Payload::Data {
+            transport,
+            peer,
+            start,
+            end,
+        });
     }
     match report_told(message) {
         Some(report) => Some(Payload::Report(transport, peer, report)),
@@ -75,7 +98,13 @@ pub fn payload_framed(protocol: &Protocol, bytes: &[u8]) -> Option<Payload>
     let number = frame.id();
     let (transport, peer) = bound(protocol.allocations.as_slice(), number)?;
     let (start, end) = (CHANNEL_HEADER_LENGTH, frame.len());
-    Some(Payload::Framed(number, transport, peer, start, end))
+    Some(Payload::Framed {
+        number,
+        transport,
+        peer,
+        start,
+        end,
+    })
 }
 
 /// What a client gives of bytes that came from the server: a message, or else a channel frame.

@@ -1,5 +1,6 @@
 use Rattle.std.proofs.Common.{◌≡◌, fold}
-use Rattle.turn_client_proto_payload.specs.Indications.{last_shown, later}
+use Rattle.turn_client_proto_payload.specs.Indications.{last_shown}
+use Rattle.turn_client_proto_payload.proofs.Last.{later}
 use Rattle.turn_client_proto_payload.proofs.indication.last_shown.Given as goal
 
 -- what is left comes to the same

@@ -1,6 +1,7 @@
 use Rattle.std.proofs.Common.{◌≡◌, drop, find}
 use Rattle.std.specs.Prelude.{option_map}
-use Rattle.turn_client_proto_payload.specs.Payloads.{bound_in, is_numbered}
+use Rattle.turn_client_proto_core.specs.Channel.Numbers.{is_numbered}
+use Rattle.turn_client_proto_payload.specs.Payloads.{bound_in}
 use Rattle.turn_client_proto_payload.proofs.known.bound_in.Given as goal
 
 -- what is left comes to the same
