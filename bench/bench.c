@@ -104,6 +104,9 @@ size_t stun_bench_write_channel(uint16_t id, const uint8_t *data, size_t data_le
                                 size_t out_len);
 size_t stun_bench_feed(const uint8_t *bytes, size_t len, size_t size);
 size_t stun_bench_check_types(const uint8_t *bytes, size_t len, uint8_t *out, size_t out_len);
+size_t stun_bench_take(size_t channels, size_t rounds, const uint8_t *bytes, size_t len);
+size_t stun_bench_send(size_t channels, size_t rounds, uint16_t port, const uint8_t *bytes,
+                       size_t len, uint8_t *out, size_t out_len);
 
 // ---- what is counted: the linker sends each call of malloc and realloc here (--wrap)
 
@@ -627,6 +630,115 @@ static void tell_allocations(void) {
     tell("of a key, building and signing into a vector", 1, most_taken(ELEMENTS(signed_vectors)));
 }
 
+// ---- a client that holds channels, the i-th to 10.1.0.0 + i, port 9000
+
+enum client_call { TAKE_FRAME, TAKE_INDICATION, SEND_FRAME, SEND_INDICATION };
+
+struct client_row {
+    const char *name;
+    enum client_call call;
+    size_t channels;
+    double wanted; // nanoseconds at most
+};
+
+enum {
+    CLIENT_ROUNDS = 200000,
+    CLIENT_RUNS = 7,
+    LEAST_CHANNEL = 0x4000,
+    CHANNEL_PORT = 9000,
+    OTHER_PORT = 9001,
+    DATA_INDICATION = 0x0017,
+    XOR_PEER_ADDRESS = 0x0012,
+    DATA = 0x0013,
+    PEER_SIZE = 8,              // of XOR-PEER-ADDRESS of IPv4
+    INDICATION_SIZE = HEADER_SIZE + ATTRIBUTE_HEADER_SIZE + PEER_SIZE + ATTRIBUTE_HEADER_SIZE + PAYLOAD,
+    COOKIE_HIGH = 0x2112,
+    COOKIE_LOW = 0xa442,
+    FIRST_PEER_HIGH = 0x0a01,   // 10.1.0.0
+    IPV4 = 1,
+};
+
+// nanoseconds on model 85, beside one channel and beside 1000
+static const double MOST_OF_ONE = 100, MOST_OF_MANY = 2000;
+
+static const struct client_row client_rows[] = {
+    {"take a frame of 1200 bytes, 1 channel", TAKE_FRAME, 1, MOST_OF_ONE},
+    {"take a frame of 1200 bytes, 100 channels", TAKE_FRAME, 100, NO_BOUND},
+    {"take a frame of 1200 bytes, 1000 channels", TAKE_FRAME, 1000, MOST_OF_MANY},
+    {"take a DATA indication of 1200 bytes, 1 permission", TAKE_INDICATION, 1, NO_BOUND},
+    {"take a DATA indication of 1200 bytes, 1000 permissions", TAKE_INDICATION, 1000, NO_BOUND},
+    {"send 1200 bytes by a channel into a buffer, 1 channel", SEND_FRAME, 1, MOST_OF_ONE},
+    {"send 1200 bytes by a channel into a buffer, 100 channels", SEND_FRAME, 100, NO_BOUND},
+    {"send 1200 bytes by a channel into a buffer, 1000 channels", SEND_FRAME, 1000, MOST_OF_MANY},
+    {"send 1200 bytes by an indication into a buffer, 1 channel", SEND_INDICATION, 1, NO_BOUND},
+    {"send 1200 bytes by an indication into a buffer, 1000 channels", SEND_INDICATION, 1000, NO_BOUND},
+};
+
+// the frame of a channel, or the indication of its peer's data
+static size_t make_datagram(const struct client_row *row, uint8_t *at) {
+    uint16_t last = (uint16_t)(row->channels - 1);
+    if (row->call == TAKE_FRAME) {
+        write_short(at, (uint16_t)(LEAST_CHANNEL + last));
+        write_short(at + 2, PAYLOAD);
+        return ATTRIBUTE_HEADER_SIZE + PAYLOAD;
+    }
+    write_short(at, DATA_INDICATION);
+    write_short(at + 2, INDICATION_SIZE - HEADER_SIZE);
+    write_short(at + 4, COOKIE_HIGH);
+    write_short(at + 6, COOKIE_LOW);
+    uint8_t *peer = at + HEADER_SIZE;
+    write_short(peer, XOR_PEER_ADDRESS);
+    write_short(peer + 2, PEER_SIZE);
+    write_short(peer + 4, IPV4);
+    write_short(peer + 6, CHANNEL_PORT ^ COOKIE_HIGH);
+    write_short(peer + 8, FIRST_PEER_HIGH ^ COOKIE_HIGH);
+    write_short(peer + 10, last ^ COOKIE_LOW);
+    uint8_t *data = peer + ATTRIBUTE_HEADER_SIZE + PEER_SIZE;
+    write_short(data, DATA);
+    write_short(data + 2, PAYLOAD);
+    return INDICATION_SIZE;
+}
+
+static size_t call_client(const struct client_row *row, size_t rounds) {
+    static uint8_t datagram[INDICATION_SIZE];
+    if (row->call == TAKE_FRAME || row->call == TAKE_INDICATION) {
+        size_t size = make_datagram(row, datagram);
+        return stun_bench_take(row->channels, rounds, datagram, size);
+    }
+    uint16_t port = row->call == SEND_FRAME ? CHANNEL_PORT : OTHER_PORT;
+    return stun_bench_send(row->channels, rounds, port, WHOLE(payload), WHOLE(wide));
+}
+
+// what a call takes and allocates is the difference that so many of them make
+static void tell_client(void) {
+    double start = now();
+    for (unsigned i = 0; i < CLIENT_ROUNDS; i++) {
+        memcpy(wide, payload, PAYLOAD);
+        sink += wide[i % PAYLOAD];
+    }
+    tell("copy 1200 bytes by memcpy, ns", NO_BOUND, (now() - start) / CLIENT_ROUNDS);
+    for (size_t i = 0; i < sizeof client_rows / sizeof client_rows[0]; i++) {
+        const struct client_row *row = &client_rows[i];
+        double least_none = DBL_MAX, least_all = DBL_MAX;
+        size_t taken_by_none = 0, taken_by_all = 0;
+        for (unsigned run = 0; run < CLIENT_RUNS; run++) {
+            size_t before = allocations;
+            double begun = now();
+            must(call_client(row, 0) == 0, row->name);
+            double between = now();
+            taken_by_none = allocations - before;
+            before = allocations;
+            must(call_client(row, CLIENT_ROUNDS) == CLIENT_ROUNDS, row->name);
+            double ended = now() - between;
+            taken_by_all = allocations - before;
+            least_none = between - begun < least_none ? between - begun : least_none;
+            least_all = ended < least_all ? ended : least_all;
+        }
+        tell(row->name, row->wanted, (least_all - least_none) / CLIENT_ROUNDS);
+        tell("  its allocations", 0, (double)(taken_by_all - taken_by_none));
+    }
+}
+
 int main(int argc, char **argv) {
     enum { ROUNDS = 20000 };
     unsigned rounds = argc > 1 ? (unsigned)strtoul(argv[1], 0, 10) : ROUNDS;
@@ -643,6 +755,7 @@ int main(int argc, char **argv) {
     tell_building();
     tell_streams();
     tell_allocations();
+    tell_client();
     if (missed) {
         printf("\nA bound is missed.\n");
     }

@@ -4,9 +4,9 @@
 It knows nothing of the repository's code. Messages are written here by RFC 8489 and RFC 8656, signed by
 HMAC, and numbered from ChaCha20 words of a seed of zeros, three a number, the first of them highest. The
 moments were worked out by hand, from the waits that a client is documented to have. It was run once, and
-what it wrote is stored: five examples, and the traces of a client and a desk in the stored run of
+what it wrote is stored: six examples, and the traces of a client and a desk in the stored run of
 `turn_traces`, behind those of a desk alone. The traces of permissions are in `permissions.py`, those of
-channels in `channels.py`.
+channels in `channels.py`, those of sends and payloads in `payloads.py`.
 """
 
 import hashlib
@@ -885,6 +885,7 @@ def each_setting():
 def good_traces():
     # they take their words from this file
     from channels import channel_traces
+    from payloads import payload_traces
     from permissions import permission_traces
 
     yield from (
@@ -898,6 +899,7 @@ def good_traces():
         family_unknown(), family_not_supported(), both_families(), refresh_times_out(),
         *refreshes_answered(), stale_refresh(), stale_refresh_lost(), stale_deletion(),
         mismatched_deletion(), *each_setting(), *permission_traces(), *channel_traces(),
+        *payload_traces(),
     )
 
 
@@ -935,6 +937,18 @@ def bad_traces():
     yield "A bad peer of a channel, at a moment out of range", BOTH + f"bind {2**62 + 1} udp x\n", "", 5
     yield "Channels at a moment", BOTH + "channels 0\n", "", 5
     yield "Channels of one allocation", BOTH + "channels udp 203.0.113.5:50000\n", "", 5
+    yield "A send, and no client", "desk realm sha1 auto\nsend 0 udp 10.0.0.1:5 00\n", "", 3
+    yield "A send of nothing", BOTH + "send 0 udp 10.0.0.1:5\n", "", 5
+    yield "A send at no moment", BOTH + "send udp 10.0.0.1:5 00\n", "", 5
+    yield "A send, and no transport", BOTH + "send 0 10.0.0.1:5 00\n", "", 5
+    yield "A send over another transport", BOTH + "send 0 sctp 10.0.0.1:5 00\n", "", 5
+    yield "A send to an address without a port", BOTH + "send 0 udp 10.0.0.1 00\n", "", 5
+    yield "A send of half a byte", BOTH + "send 0 udp 10.0.0.1:5 0\n", "", 5
+    yield "A send in upper case", BOTH + "send 0 udp 10.0.0.1:5 AA\n", "", 5
+    yield "A send of two words", BOTH + "send 0 udp 10.0.0.1:5 00 00\n", "", 5
+    yield "A send of what no event answered", BOTH + "send 0 udp 10.0.0.1:5 @1\n", "", 5
+    yield "A send of an answer that has no bytes", BOTH + "event\nsend 0 udp 10.0.0.1:5 @1\n", "none\n", 6
+    yield "A bad peer of a send, at a moment out of range", BOTH + f"send {2**62 + 1} udp x 00\n", "", 5
 
 
 def all_traces():
@@ -947,6 +961,7 @@ def all_traces():
 
 def examples():
     from channels import granted_channel_again
+    from payloads import example
     from permissions import granted_reply_again
 
     yield "handshake", handshake()
@@ -954,6 +969,7 @@ def examples():
     yield "lost", lost_replies()
     yield "permission", granted_reply_again()
     yield "channel", granted_channel_again()
+    yield "payload", example()
 
 
 def store_examples():

@@ -1,11 +1,13 @@
 //! What C calls to time the library: digests, and the reading, validation, building and signing of a
-//! message, channel frames and streams. Each function calls the library's and states again what that states.
+//! message, channel frames and streams, and a client that takes and sends. Most functions call the
+//! library's and state again what that states.
 #![tactic(auto)]
 
 pub mod adds;
 pub mod allocation;
 pub mod build;
 pub mod check;
+pub mod client;
 pub mod digest;
 mod key;
 pub mod lent;

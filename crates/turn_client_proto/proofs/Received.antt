@@ -1,56 +1,78 @@
--- What is answered to a datagram.
-use Rattle.std.proofs.Common.{◌≡◌, ℕ, Bool, true, false, List, Option, None, Some, Result, Ok, Err, subst}
-use Rattle.std.specs.Prelude.{IfOk, OnErr}
+-- What is answered to a datagram, by what became of its bytes.
+use Rattle.std.proofs.Common.{◌≡◌, ℕ, Bool, true, false, List, Option, None, Some, subst}
+use Rattle.std.specs.Prelude.{MatchOption}
 use Rattle.std.specs.Bool.{MatchBool}
 use Rattle.stun_types.specs.Grammar.{refusal}
 use Rattle.stun_types.specs.ParseErrors.{StunParseError}
 use Rattle.stun_types.specs.declared.transmit.Transmit.{Transmit}
 use Rattle.turn_client_proto_poll.specs.Api.declared.answer.TurnRecvRet.{TurnRecvRet}
-use Rattle.turn_client_proto_poll.specs.Api.declared.answer.TurnRecvRet.TheVariants.{NoMemory}
+use Rattle.turn_client_proto_poll.specs.Api.declared.answer.TurnRecvRet.TheVariants.{NoMemory, Handled as WasHandled, Ignored as GaveBack}
 use Rattle.turn_client_proto_poll.specs.Core.Ending.{HasFailed}
 use Rattle.turn_client_proto_poll.specs.Core.Receiving.{MayGrow}
 use Rattle.turn_client_proto_poll.specs.Core.declared.protocol.Protocol.{Protocol}
-use Rattle.turn_client_proto.specs.Receipts.{IsHandledAs, Lost, IsOfServer, IsRead, IsReceived, Heard, Own}
-use Rattle.turn_client_proto.specs.HandingIn.{IsHandedIn}
+use Rattle.turn_client_proto_poll.specs.Payloads.{payload_of}
+use Rattle.turn_client_proto_poll.specs.declared.payload.Payload.{Payload}
+use Rattle.turn_client_proto.specs.HandingIn.{IsFrameTaken, IsHandedIn, taken_as}
+use Rattle.turn_client_proto.specs.Receipts.{IsDatagramTaken, IsHandedOver, IsHandledAs, IsOfServer, IsRead, Heard, Lost, Own}
+use Rattle.turn_client_proto.specs.declared.handing.Taken.{Taken}
+use Rattle.turn_client_proto.specs.declared.handing.Taken.TheVariants.{Given, Handled, Ignored}
 
-read_by : {T : Type 0} (refused : Option StunParseError) (old : Protocol) (bytes : List ℕ) (came : Transmit T) (now : ℕ) (handled : Bool) (answer : TurnRecvRet T) (new : Protocol)
-    → IsHandedIn refused old bytes now handled new → IsHandledAs came handled answer → IsRead refused old bytes came now answer new
-read_by None old bytes came now handled answer new heard told = Heard handled heard told
-read_by (Some error) old bytes came now handled answer new unread told =
-    (subst (λ (h : Bool). IsHandledAs came h answer) unread.0 told, unread.1)
+-- bytes were not taken, since memory was refused
+abbrev pub IsLost : Protocol → List ℕ → Protocol → Type 0
+IsLost old bytes new = (payload_of old bytes ≡ None) × (refusal bytes ≡ None) × MayGrow old bytes × HasFailed old new
 
-lost_by : {T : Type 0} (refused : Option StunParseError) (old : Protocol) (bytes : List ℕ) (came : Transmit T) (now : ℕ) (answer : TurnRecvRet T) (new : Protocol)
-    → refused ≡ None → MayGrow old bytes → HasFailed old new → answer ≡ NoMemory came → IsRead refused old bytes came now answer new
-lost_by None old bytes came now answer new is grows failed told = Lost told grows failed
-lost_by (Some error) old bytes came now answer new is grows failed told = absurd (Prim.cc is)
+module _ {T : Type 0} (items : T → List ℕ) (came : Transmit T) (answer : TurnRecvRet T) where
+  -- what is answered, by what became of the bytes
+  abbrev pub IsAnswered : Taken → Type 0
+  IsAnswered (Given payload) = IsHandedOver items came payload answer
+  IsAnswered Handled = answer ≡ WasHandled
+  IsAnswered Ignored = answer ≡ GaveBack came
 
-own_by : (is : Bool) (P N : Type 0) → is ≡ true → MatchBool is P N → P
-own_by true P N same holds = holds
-own_by false P N same holds = absurd (Prim.cc same)
+  as_handled : (handled : Bool) → IsAnswered (taken_as handled) → IsHandledAs came handled answer
+  as_handled true told = told
+  as_handled false told = told
 
-pub received : {T : Type 0} (items : T → List ℕ) (old : Protocol) (came : Transmit T) (now : ℕ) (own handled : Bool) (answer : TurnRecvRet T) (new : Protocol) (N : Type 0)
-    → own ≡ true → MatchBool own (IsOfServer old came) N → IsHandedIn (refusal (items came.bytes)) old (items came.bytes) now handled new → IsHandledAs came handled answer → IsReceived items old came now answer new
-received items old came now own handled answer new N is server heard told =
-    Own (own_by own (IsOfServer old came) N is server) (read_by (refusal (items came.bytes)) old (items came.bytes) came now handled answer new heard told)
+  read_by : (refused : Option StunParseError) (old : Protocol) (bytes : List ℕ) (now : ℕ) (handled : Bool) (new : Protocol)
+      → IsHandedIn refused old bytes now handled new → IsHandledAs came handled answer → IsRead refused old bytes came now answer new
+  read_by None old bytes now handled new heard told = Heard handled heard told
+  read_by (Some error) old bytes now handled new unread told =
+      (subst (λ (h : Bool). IsHandledAs came h answer) unread.0 told, unread.1)
 
-pub lost : {T : Type 0} (items : T → List ℕ) (old : Protocol) (came : Transmit T) (now : ℕ) (own : Bool) (answer : TurnRecvRet T) (new : Protocol) (N : Type 0)
-    → own ≡ true → MatchBool own (IsOfServer old came) N → (refusal (items came.bytes) ≡ None) × MayGrow old (items came.bytes) × HasFailed old new → answer ≡ NoMemory came → IsReceived items old came now answer new
-lost items old came now own answer new N is server failed told =
-    Own (own_by own (IsOfServer old came) N is server) (lost_by (refusal (items came.bytes)) old (items came.bytes) came now answer new failed.0 failed.1 failed.2 told)
+  taken_by : (given : Option Payload) (refused : Option StunParseError) (old : Protocol) (bytes : List ℕ) (now : ℕ) (taken : Taken) (new : Protocol)
+      → MatchOption given ((handled : Bool) × (taken ≡ taken_as handled) × IsHandedIn refused old bytes now handled new) (λ payload. (taken ≡ Given payload) × (new ≡ old))
+      → IsAnswered taken
+      → MatchOption given (IsRead refused old bytes came now answer new) (λ payload. IsHandedOver items came payload answer × (new ≡ old))
+  taken_by None refused old bytes now taken new heard told =
+      read_by refused old bytes now heard.0 new heard.2 (as_handled heard.0 (subst IsAnswered heard.1 told))
+  taken_by (Some payload) refused old bytes now taken new gave told = (subst IsAnswered gave.0 told, gave.1)
 
--- by what the call on the bytes answered
-pub received_ok : {T E : Type 0} (items : T → List ℕ) (old inner : Protocol) (came : Transmit T) (slice : List ℕ) (now : ℕ) (own : Bool) (r : Result Bool E) (b : Bool) (answer : TurnRecvRet T) (new : Protocol) (N : Type 0)
-    → inner ≡ old → slice ≡ items came.bytes → own ≡ true → MatchBool own (IsOfServer old came) N
-    → IfOk r (λ h. IsHandedIn (refusal slice) inner slice now h new) → r ≡ Ok b → IsHandledAs came b answer → IsReceived items old came now answer new
-received_ok {T} {E} items old inner came slice now own r b answer new N view bytes is server heard result told =
-    let one : IsHandedIn (refusal slice) inner slice now b new = subst (λ (x : Result Bool E). IfOk x (λ h. IsHandedIn (refusal slice) inner slice now h new)) result heard in
-    let two : IsHandedIn (refusal slice) old slice now b new = subst (λ (p : Protocol). IsHandedIn (refusal slice) p slice now b new) view one in
-    received items old came now own b answer new N is server (subst (λ (l : List ℕ). IsHandedIn (refusal l) old l now b new) bytes two) told
+  lost_by : (given : Option Payload) (refused : Option StunParseError) (old : Protocol) (bytes : List ℕ) (now : ℕ) (new : Protocol)
+      → given ≡ None → refused ≡ None → MayGrow old bytes → HasFailed old new → answer ≡ NoMemory came
+      → MatchOption given (IsRead refused old bytes came now answer new) (λ payload. IsHandedOver items came payload answer × (new ≡ old))
+  lost_by None None old bytes now new nothing is grows failed told = Lost told grows failed
+  lost_by None (Some error) old bytes now new nothing is grows failed told = absurd (Prim.cc is)
+  lost_by (Some payload) refused old bytes now new nothing is grows failed told = absurd (Prim.cc nothing)
 
-pub received_err : {T E : Type 0} (items : T → List ℕ) (old inner : Protocol) (came : Transmit T) (slice : List ℕ) (now : ℕ) (own : Bool) (r : Result Bool E) (e : E) (answer : TurnRecvRet T) (new : Protocol) (N : Type 0)
-    → inner ≡ old → slice ≡ items came.bytes → own ≡ true → MatchBool own (IsOfServer old came) N
-    → OnErr r ((refusal slice ≡ None) × MayGrow inner slice × HasFailed inner new) → r ≡ Err e → answer ≡ NoMemory came → IsReceived items old came now answer new
-received_err {T} {E} items old inner came slice now own r e answer new N view bytes is server failed result told =
-    let one : (refusal slice ≡ None) × MayGrow inner slice × HasFailed inner new = subst (λ (x : Result Bool E). OnErr x ((refusal slice ≡ None) × MayGrow inner slice × HasFailed inner new)) result failed in
-    let two : (refusal slice ≡ None) × MayGrow old slice × HasFailed old new = subst (λ (p : Protocol). (refusal slice ≡ None) × MayGrow p slice × HasFailed p new) view one in
-    lost items old came now own answer new N is server (subst (λ (l : List ℕ). (refusal l ≡ None) × MayGrow old l × HasFailed old new) bytes two) told
+  -- the datagram was the server's
+  own_by : (is : Bool) (P N : Type 0) → is ≡ true → MatchBool is P N → P
+  own_by true P N same holds = holds
+  own_by false P N same holds = absurd (Prim.cc same)
+
+  module _ (old inner : Protocol) (slice : List ℕ) (now : ℕ) (own : Bool) (new : Protocol) (N : Type 0)
+      (view : inner ≡ old) (bytes : slice ≡ items came.bytes) (is : own ≡ true) (server : MatchBool own (IsOfServer old came) N) where
+    -- the bytes were taken so
+    pub received_ok : (found taken : Taken) → found ≡ taken → IsFrameTaken inner slice now found new → IsAnswered taken → IsDatagramTaken items old came now answer new
+    received_ok found taken same took told =
+        let one : IsFrameTaken inner slice now taken new = subst (λ (t : Taken). IsFrameTaken inner slice now t new) same took in
+        let two : IsFrameTaken old slice now taken new = subst (λ (p : Protocol). IsFrameTaken p slice now taken new) view one in
+        let three : IsFrameTaken old (items came.bytes) now taken new = subst (λ (l : List ℕ). IsFrameTaken old l now taken new) bytes two in
+        Own (own_by own (IsOfServer old came) N is server)
+        (taken_by (payload_of old (items came.bytes)) (refusal (items came.bytes)) old (items came.bytes) now taken new three told)
+
+    -- memory was refused
+    pub received_err : IsLost inner slice new → answer ≡ NoMemory came → IsDatagramTaken items old came now answer new
+    received_err failed told =
+        let one : IsLost old slice new = subst (λ (p : Protocol). IsLost p slice new) view failed in
+        let lost : IsLost old (items came.bytes) new = subst (λ (l : List ℕ). IsLost old l new) bytes one in
+        Own (own_by own (IsOfServer old came) N is server)
+        (lost_by (payload_of old (items came.bytes)) (refusal (items came.bytes)) old (items came.bytes) now new lost.0 lost.1 lost.2 lost.3 told)

@@ -9,6 +9,9 @@ pub use Rattle.turn_client_proto_poll.specs.Core.Beginning
 pub use Rattle.turn_client_proto_poll.specs.Core.Binding
 pub use Rattle.turn_client_proto_poll.specs.Core.Deleting
 pub use Rattle.turn_client_proto_poll.specs.Drawing
+pub use Rattle.turn_client_proto_poll.specs.OfPeers
+pub use Rattle.turn_client_proto_poll.specs.Payloads
+pub use Rattle.turn_client_proto_poll.specs.Sending
 pub use Rattle.turn_client_proto_poll.specs.Core.Ending
 pub use Rattle.turn_client_proto_poll.specs.Core.Permitting
 pub use Rattle.turn_client_proto_poll.specs.Polling
@@ -20,6 +23,7 @@ pub use Rattle.turn_client_proto_poll.specs.Channel
 pub use Rattle.turn_client_proto_poll.specs.Permission
 -- What stands above this crate has these through it.
 pub use Rattle.turn_client_proto_poll.specs.Headline
+pub use Rattle.turn_client_proto_poll.specs.Indications
 pub use Rattle.turn_client_proto_poll.specs.Members
 pub use Rattle.turn_client_proto_poll.specs.Messages
 pub use Rattle.turn_client_proto_poll.specs.Runs

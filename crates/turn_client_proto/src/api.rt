@@ -8,8 +8,9 @@ ghost use Rattle.turn_client_proto_poll.specs.Drawing.{HasToSend, IsDrawn, sent_
 ghost use Rattle.turn_client_proto_poll.specs.Core.Ending.{HasFailed, ended};
 ghost use Rattle.turn_client_proto_poll.specs.Core.Permitting.{IsPermissionAnswered};
 ghost use Rattle.turn_client_proto_poll.specs.Polling.{IsPolled};
-ghost use Rattle.turn_client_proto_poll.specs.Core.declared.protocol.Protocol.{Protocol};
+ghost use Rattle.turn_client_proto_poll.specs.Sending.{IsSendAnswered, answered_as};
 ghost use Rattle.turn_client_proto.specs.Getters.{channels_of, has_permission, permissions_of, relayed_of};
+ghost use Rattle.turn_client_proto.specs.Kept.{Kept, Leaves};
 ghost use Rattle.turn_client_proto.specs.Receipts.{IsReceived};
 ghost use Rattle.turn_client_proto.specs.Refusals.{IsAnsweredStill, IsTurnedDown};
 
@@ -38,35 +39,39 @@ pub const CLIENT_END: u64 = 1 << 62;
 /// `poll_transmit` answers, hands in what came by `recv`, waits as `poll` tells, and asks for what
 /// happened by `poll_event`.
 ///
-/// No client has connections, or sends to peers, yet: calls that ask for one are refused, with the error
-/// of a client that has no allocation or permission of the kind, and change nothing.
+/// Bytes go to peers by `send_to`, which answers what carries them, and those of peers are told by
+/// `recv` as they come.
+///
+/// No client has connections yet: calls that ask for one are refused, with the error of a client that
+/// has no allocation of the kind, and change nothing.
 pub trait TurnClientApi: Debug + Send {
-    ghost protocol: { Self → Protocol };
+    ghost kept: { Self → Kept };
 
     /// The transport of the connection to the server.
     fn transport(&self) -> TransportType
-        ensures { result ≡ (protocol self.now).agent.transport };
+        ensures { result ≡ (kept self.now).core.agent.transport };
 
     /// The client's own address.
     fn local_addr(&self) -> SocketAddr
-        ensures { result ≡ (protocol self.now).agent.here };
+        ensures { result ≡ (kept self.now).core.agent.here };
 
     /// The server's address.
     fn remote_addr(&self) -> SocketAddr
-        ensures { result ≡ (protocol self.now).server };
+        ensures { result ≡ (kept self.now).core.server };
 
     /// The relayed addresses that the server has allocated, with the transports between the server and
     /// the peers, in the order in which they were granted. Allocations that are marked as expired are
     /// passed over. It takes no memory.
     fn relayed_addresses(&self) -> RelayedAddressesIter<'_>
-        ensures { result ≡ relayed_of (protocol self.now) };
+        ensures { result ≡ relayed_of (kept self.now).core };
 
     /// Asks for the end of the allocations (RFC 8656, section 8.1). Each is marked as expired at once,
     /// and has no permission and no channel any more. Refused with `NoAllocation` where the server has
     /// allocated nothing, or the client has ended. Where memory is refused, `NoMemory`, and nothing
     /// changes but the words that were drawn.
     fn delete(&mut self, now: Instant) -> Result<(), DeleteError>
-        ensures { IsDeleteAnswered (protocol self.old) now result (protocol self.new) };
+        ensures { Leaves (λ old new. IsDeleteAnswered old now result new)
+            (kept self.old) (kept self.new) };
 
     /// Asks for a permission for an address (RFC 8656, section 10.1), in the first allocation of a
     /// transport whose relayed address is of the same family. It stands for 300 seconds once the server
@@ -81,13 +86,13 @@ pub trait TurnClientApi: Debug + Send {
         peer_addr: IpAddr,
         now: Instant,
     ) -> Result<(), CreatePermissionError>
-        ensures { IsPermissionAnswered (protocol self.old) transport peer_addr now result
-            (protocol self.new) };
+        ensures { Leaves (λ old new. IsPermissionAnswered old transport peer_addr now result new)
+            (kept self.old) (kept self.new) };
 
     /// Whether a permission for an address stands, in an allocation of this transport that is not marked
     /// as expired. One that has lapsed counts until `poll` takes it away.
     fn have_permission(&self, transport: TransportType, to: IpAddr) -> bool
-        ensures { result ≡ has_permission transport to (protocol self.now) };
+        ensures { result ≡ has_permission transport to (kept self.now).core };
 
     /// The addresses whose permissions stand in the allocation of this transport and relayed address, in
     /// the order in which they were granted; none where there is no such allocation, or it is marked as
@@ -97,7 +102,7 @@ pub trait TurnClientApi: Debug + Send {
         transport: TransportType,
         relayed: SocketAddr,
     ) -> PermissionAddressesIter<'_>
-        ensures { result ≡ permissions_of transport relayed (protocol self.now) };
+        ensures { result ≡ permissions_of transport relayed (kept self.now).core };
 
     /// Asks for a channel to a peer (RFC 8656, section 12.1), in the first allocation of a transport
     /// whose relayed address is of the peer's family, under the least number from 0x4000 to 0x7FFF that
@@ -121,20 +126,19 @@ pub trait TurnClientApi: Debug + Send {
         peer_addr: SocketAddr,
         now: Instant,
     ) -> Result<(), BindChannelError>
-        ensures { IsBindAnswered (protocol self.old) transport peer_addr now result
-            (protocol self.new) };
+        ensures { Leaves (λ old new. IsBindAnswered old transport peer_addr now result new)
+            (kept self.old) (kept self.new) };
 
     /// The numbers and the peers of the channels that stand, in the order in which they were granted,
     /// one allocation after another. Allocations that are marked as expired are passed over. It takes no
     /// memory.
     fn channels(&self) -> ChannelsIter<'_>
-        ensures { result ≡ channels_of (protocol self.now) };
+        ensures { result ≡ channels_of (kept self.now).core };
 
     /// Asks for a connection to a peer (RFC 6062, section 4.3). There are none yet: it is refused with
     /// `NoAllocation`.
     fn tcp_connect(&mut self, peer_addr: SocketAddr, now: Instant) -> Result<(), TcpConnectError>
-        ensures { IsTurnedDown result TcpConnectError.NoAllocation (protocol self.old)
-            (protocol self.new) };
+        ensures { IsTurnedDown result TcpConnectError.NoAllocation (kept self.old) (kept self.new) };
 
     /// Hands in the local address of the socket for a connection to a peer, or that there is none (RFC
     /// 6062, section 4.3). `poll` asks for none yet: it is refused with `NoAllocation`.
@@ -146,8 +150,7 @@ pub trait TurnClientApi: Debug + Send {
         local_addr: Option<SocketAddr>,
         now: Instant,
     ) -> Result<(), TcpAllocateError>
-        ensures { IsTurnedDown result TcpAllocateError.NoAllocation (protocol self.old)
-            (protocol self.new) };
+        ensures { IsTurnedDown result TcpAllocateError.NoAllocation (kept self.old) (kept self.new) };
 
     /// Tells that a connection has ended. A client over UDP has none: nothing changes.
     fn tcp_closed(
@@ -156,10 +159,20 @@ pub trait TurnClientApi: Debug + Send {
         remote_addr: SocketAddr,
         now: Instant,
     ) -> Result<(), NoMemory>
-        ensures { IsAnsweredStill result (Ok tt) (protocol self.old) (protocol self.new) };
+        ensures { IsAnsweredStill result (Ok tt) (kept self.old) (kept self.new) };
 
-    /// What carries bytes to a peer, by an allocation of this transport (RFC 8656, sections 11.1 and
-    /// 12.5). No client sends to peers yet: it is refused with `NoPermission`, whatever permission stands.
+    /// What carries bytes to a peer, by the allocations of this transport: the answer is `Some`, and
+    /// its bytes are written when it is sent, by `build` or `write_into`. Over UDP it is a frame of the
+    /// first channel to the peer (RFC 8656, section 12.5), where that channel's time is not over, and
+    /// else a SEND indication (section 11.1), for which a number is drawn; over TCP the bytes as they
+    /// are, on the first connection that is bound to the peer (RFC 6062, section 4.5).
+    ///
+    /// Refused with `NoPermission` where no permission for the peer's address stands in an allocation
+    /// of the transport that is not marked as expired, as `have_permission` tells; over TCP with
+    /// `NoTcpSocket` where no connection is bound to the peer; and over UDP with `TooLarge` where there
+    /// are more than `MAX_PAYLOAD` bytes, 65,504. Then nothing changes. It asks for no memory:
+    /// `NoMemory` is answered only where each of the 2^96 numbers of messages is taken. Whether the
+    /// client has ended is not looked at.
     fn send_to<T: AsSlice<u8> + Debug + Drop>(
         &mut self,
         transport: TransportType,
@@ -167,55 +180,68 @@ pub trait TurnClientApi: Debug + Send {
         data: T,
         now: Instant,
     ) -> Result<Option<TransmitBuild<DelayedMessageOrChannelSend<T>>>, SendError>
-        ensures { IsTurnedDown result SendError.NoPermission (protocol self.old)
-            (protocol self.new) };
+        ensures { Leaves (λ old new.
+            IsSendAnswered old transport to (T.items «data») now (answered_as T.items result) new)
+            (kept self.old) (kept self.new) };
 
     /// A payload that has come in a stream and waits. A client over UDP has none.
     fn poll_recv(&mut self, now: Instant) -> Result<Option<TurnPeerData<Vec<u8>>>, NoMemory>
-        ensures { IsAnsweredStill result (Ok None) (protocol self.old) (protocol self.new) };
+        ensures { IsAnsweredStill result (Ok None) (kept self.old) (kept self.new) };
 
     /// Hands in a datagram that came at a moment. What didn't come from the server to the client's own
-    /// address, by the client's transport, is given back as `Ignored`, and so is what is no message, or
-    /// no message for the client. Where memory is refused, `NoMemory`, with the datagram: the client
-    /// has failed. It is asked for where there is something to keep or to tell of a message:
-    /// `handle_message` of `turn_client_proto_core` has it. So a datagram of another host, bytes that are
-    /// no message, an indication, and any message that comes to a client that has sent nothing or has
-    /// ended are never answered so.
+    /// address, by the client's transport, is given back as `Ignored`, and so is what is neither a
+    /// message nor a channel frame, or not for the client.
+    ///
+    /// A channel frame gives its data as `PeerData`, in every state of the client, if and only if a
+    /// channel of its number stands; what stands behind the data is not looked at (RFC 8656, section
+    /// 12.6). A DATA indication gives the value of its last DATA, or without one the report of its last
+    /// ICMP as `PeerIcmp` (sections 11.4 and 11.6), if and only if the server has allocated and the
+    /// client has not ended; the indication shows no other attribute that has to be understood, its last
+    /// XOR-PEER-ADDRESS is well formed, and a permission for that address stands. Of several allocations
+    /// the first decides, whether it is marked as expired or not. The data is told by where it stands in
+    /// the bytes that came: nothing is copied, and nothing changes.
+    ///
+    /// Where memory is refused, `NoMemory`, with the datagram: the client has failed. It is asked for
+    /// where there is something to keep or to tell of a message: `handle_message` of
+    /// `turn_client_proto_core` has it. So a datagram of another host, bytes that are no message, an
+    /// indication, and any message that comes to a client that has sent nothing or has ended are never
+    /// answered so.
     fn recv<T: AsSlice<u8> + Debug + Drop>(
         &mut self,
         transmit: Transmit<T>,
         now: Instant,
     ) -> TurnRecvRet<T>
-        ensures { IsReceived T.items (protocol self.old) transmit now result (protocol self.new) };
+        ensures { IsReceived T.items (kept self.old) transmit now result (kept self.new) };
 
     /// What is to be done at a moment: `poll` of `turn_client_proto_poll` has it. Where memory is
     /// refused, `NoMemory`, and the client has failed: it is asked for where no event waits and one is
     /// to be told.
     fn poll(&mut self, now: Instant) -> TurnPollRet
-        ensures { IsPolled (protocol self.old) now result (protocol self.new) };
+        ensures { Leaves (λ old new. IsPolled old now result new) (kept self.old) (kept self.new) };
 
     /// What is to be sent at a moment: `poll_transmit` of `turn_client_proto_poll` has it. Where memory
     /// is refused, `NoMemory`, and the client has failed: it is asked for where a request is sent again,
     /// or is made.
     fn poll_transmit(&mut self, now: Instant) -> Result<Option<Transmit<Data<'static>>>, NoMemory>
-        ensures ok { IfOk result (λ answer. IsDrawn (protocol self.old) now
-            (option_map sent_of answer) (protocol self.new)) }
-        ensures err { OnErr result (HasFailed (protocol self.old) (protocol self.new)) }
-        ensures memory { OnErr result (HasToSend (protocol self.old) now) };
+        ensures ok { Leaves (λ old new. IfOk result (λ answer.
+            IsDrawn old now (option_map sent_of answer) new)) (kept self.old) (kept self.new) }
+        ensures err { OnErr result (Leaves HasFailed (kept self.old) (kept self.new)) }
+        ensures memory { OnErr result (HasToSend (kept self.old).core now) };
 
     /// The event that has waited longest. It takes no memory.
     fn poll_event(&mut self) -> Option<TurnEvent>
-        ensures event { (protocol self.old).events
-            ≡ option_to_list result ++ (protocol self.new).events }
-        ensures none { IfNone result ((protocol self.old).events ≡ []) }
-        ensures others { protocol self.new
-            ≡ record (protocol self.old) { events = (protocol self.new).events } };
+        ensures event { (kept self.old).core.events
+            ≡ option_to_list result ++ (kept self.new).core.events }
+        ensures none { IfNone result ((kept self.old).core.events ≡ []) }
+        ensures others { Leaves (λ old new. new ≡ record old { events = new.events })
+            (kept self.old) (kept self.new) };
 
     /// A layer above has met an error, and the client is no longer of use: it ends, and of each family
     /// it is told that no address is allocated. Where memory is refused, `NoMemory`, and nothing
     /// changes: it is asked for where there is a family to tell of, as there is in every client.
     fn protocol_error(&mut self) -> Result<(), NoMemory>
-        ensures ok { OnOk result (protocol self.new ≡ ended (protocol self.old)) }
-        ensures err { OnErr result (protocol self.new ≡ protocol self.old) }
-        ensures memory { OnErr result ((protocol self.old).families ≢ []) };
+        ensures ok { OnOk result (Leaves (λ old new. new ≡ ended old)
+            (kept self.old) (kept self.new)) }
+        ensures err { OnErr result (kept self.new ≡ kept self.old) }
+        ensures memory { OnErr result ((kept self.old).core.families ≢ []) };
 }

@@ -1,6 +1,6 @@
 //! A client over whichever transport.
 
-ghost use Rattle.turn_client_proto.specs.Clients.{protocol_of};
+ghost use Rattle.turn_client_proto.specs.Clients.{kept_of};
 
 use crate::api::{
     BindChannelError, ChannelsIter, CreatePermissionError, DelayedMessageOrChannelSend,
@@ -36,9 +36,9 @@ impl From<TurnClientUdp> for TurnClient {
 }
 
 impl TurnClientApi for TurnClient {
-    ghost use Rattle.turn_client_proto.specs.Clients.{protocol_of};
+    ghost use Rattle.turn_client_proto.specs.Clients.{kept_of};
 
-    ghost protocol = { protocol_of };
+    ghost kept = { kept_of };
 
     fn transport(&self) -> TransportType {
         match self {

@@ -14,7 +14,8 @@ pub use turn_client_proto_poll::laws::nothing_is_sent_before;
 
 /// No two channels that a client shows have one number (RFC 8656, section 12). It is so where no two have
 /// that it keeps, of those that stand and of those that were asked for: so it is of a new client, and
-/// each call keeps it (`numbers_are_distinct` of `turn_client_proto_steps`).
+/// each call keeps it (`numbers_are_distinct` of `turn_client_proto_steps`). A client is here the `core`
+/// of what it keeps.
 pub fn channels_are_distinct()
     ensures new { (transport : TransportType) (here server : SocketAddr) (config : Config)
         (seed : List ℕ) (client : Protocol)

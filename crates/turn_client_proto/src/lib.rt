@@ -10,6 +10,7 @@
 pub mod api;
 pub mod client;
 mod getters;
+mod handing;
 pub mod laws;
 pub mod prelude;
 pub mod udp;

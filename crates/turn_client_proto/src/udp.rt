@@ -1,15 +1,11 @@
 //! A TURN client over UDP.
 
-ghost use Rattle.std.specs.Prelude.{◌≡◌, ◌≤◌, IfOk, IsOkAnd, None, OnErr, length};
+ghost use Rattle.std.specs.Prelude.{◌≡◌, ◌≤◌, IsOkAnd, length};
 ghost use Rattle.std.specs.Bool.{MatchBool};
-ghost use Rattle.stun_types.specs.Grammar.{refusal};
 ghost use Rattle.stun_types.specs.Registry.{longest_username};
 ghost use Rattle.stun_types.specs.declared.transport.TransportType.TheVariants.{Udp};
 ghost use Rattle.turn_client_proto_poll.specs.Core.Beginning.{IsNew};
-ghost use Rattle.turn_client_proto_poll.specs.Core.Ending.{HasFailed};
-ghost use Rattle.turn_client_proto_poll.specs.Core.Receiving.{MayGrow};
-ghost use Rattle.turn_client_proto.specs.HandingIn.{IsHandedIn};
-ghost use Rattle.turn_client_proto.specs.Receipts.{IsOfServer, IsReceived};
+ghost use Rattle.turn_client_proto.specs.Receipts.{IsOfServer};
 
 use crate::api::{
     BindChannelError, ChannelsIter, CreatePermissionError, DelayedMessageOrChannelSend,
@@ -17,6 +13,7 @@ use crate::api::{
     TcpAllocateError, TcpConnectError, TurnClientApi, TurnConfig, TurnEvent, TurnPeerData,
     TurnPollRet, TurnRecvRet,
 };
+use crate::handing::{Taken, given, hand_in};
 use std::alloc::Global;
 use std::convert::AsSlice;
 use std::fmt::Debug;
@@ -24,12 +21,11 @@ use std::marker::Model;
 use std::net::{IpAddr, SocketAddr};
 use stun_proto::Instant;
 use stun_types::data::Data;
-use stun_types::message::Message;
 use stun_types::{NoMemory, Transmit, TransportType};
 use turn_client_proto_poll::permission::asking::permits_any;
 use turn_client_proto_poll::permission::shown::permissions_at;
 use turn_client_proto_poll::protocol::Protocol;
-use turn_client_proto_poll::{drawing, polling};
+use turn_client_proto_poll::{drawing, polling, sending};
 use turn_types::transmit::TransmitBuild;
 
 /// A TURN client over UDP: datagrams to and from the server, and an allocation over UDP. Contracts see
@@ -82,22 +78,10 @@ impl TurnClientUdp {
     }
 }
 
-/// Hands in bytes that came from the server at a moment. Answers whether they are a message for the
-/// client.
-fn hand_in(protocol: &mut Protocol, bytes: &[u8], now: Instant) -> Result<bool, NoMemory>
-    ensures ok { IfOk result (λ handled. IsHandedIn (refusal bytes.now) protocol.old bytes.now now
-        handled protocol.new) }
-    ensures err { OnErr result ((refusal bytes.now ≡ None)
-        × MayGrow protocol.old bytes.now × HasFailed protocol.old protocol.new) }
-{
-    match Message::from_bytes(bytes) {
-        Ok(message) => protocol.handle_message(&message, now),
-        Err(_) => Ok(false),
-    }
-}
-
 impl TurnClientApi for TurnClientUdp {
-    ghost protocol = { λ client. client };
+    ghost use Rattle.turn_client_proto.specs.Kept.{over_udp};
+
+    ghost kept = { λ client. over_udp client };
 
     fn transport(&self) -> TransportType {
         self.protocol.agent.transport()
@@ -184,12 +168,12 @@ impl TurnClientApi for TurnClientUdp {
 
     fn send_to<T: AsSlice<u8> + Debug + Drop>(
         &mut self,
-        _transport: TransportType,
-        _to: SocketAddr,
-        _data: T,
-        _now: Instant,
+        transport: TransportType,
+        to: SocketAddr,
+        data: T,
+        now: Instant,
     ) -> Result<Option<TransmitBuild<DelayedMessageOrChannelSend<T>>>, SendError> {
-        Err(SendError::NoPermission)
+        sending::send_to(&mut self.protocol, transport, to, data, now)
     }
 
     fn poll_recv(&mut self, _now: Instant) -> Result<Option<TurnPeerData<Vec<u8>>>, NoMemory> {
@@ -205,8 +189,9 @@ impl TurnClientApi for TurnClientUdp {
             return TurnRecvRet::Ignored(transmit);
         }
         match hand_in(&mut self.protocol, transmit.bytes.as_slice(), now) {
-            Ok(true) => TurnRecvRet::Handled,
-            Ok(false) => TurnRecvRet::Ignored(transmit),
+            Ok(Taken::Given(payload)) => given(transmit, payload),
+            Ok(Taken::Handled) => TurnRecvRet::Handled,
+            Ok(Taken::Ignored) => TurnRecvRet::Ignored(transmit),
             Err(NoMemory) => TurnRecvRet::NoMemory(transmit),
         }
     }

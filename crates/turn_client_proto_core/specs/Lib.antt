@@ -26,6 +26,7 @@ pub use Rattle.turn_client_proto_api.specs.Moments
 pub use Rattle.turn_client_proto_api.specs.Sending
 pub use Rattle.turn_client_proto_api.specs.State
 pub use Rattle.turn_client_proto_request.specs.Headline
+pub use Rattle.turn_client_proto_request.specs.Indications
 pub use Rattle.turn_client_proto_request.specs.Members
 pub use Rattle.turn_client_proto_request.specs.Messages
 pub use Rattle.turn_client_proto_request.specs.Names

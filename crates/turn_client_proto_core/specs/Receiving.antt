@@ -7,10 +7,10 @@ use Rattle.turn_client_proto_api.specs.ClientValidations.{LongTermClientValidati
 use Rattle.turn_client_proto_api.specs.Handling.{is_awaited, is_response}
 use Rattle.stun_types.specs.Attributes.{kind_at}
 use Rattle.stun_types.specs.Grammar.{number_at}
-use Rattle.stun_types.specs.MessageClasses.{MessageClass, Indication}
 use Rattle.stun_types.specs.Types.{class_of}
 use Rattle.turn_client_proto_allocation.specs.Awaited.{has_number}
 use Rattle.turn_client_proto_core.specs.Authenticating.{IsFirstJudged, IsSignedJudged}
+use Rattle.turn_client_proto_request.specs.Indications.{is_indication}
 use Rattle.turn_client_proto_request.specs.Judging.{IsJudged}
 use Rattle.turn_client_proto_core.specs.Outcomes.{IsIgnored}
 use Rattle.turn_client_proto_core.specs.Responding.{judged}
@@ -30,10 +30,6 @@ pub record IsFollowed (follows : Follows) (old : Protocol) (bytes : List ℕ) (n
   pub auth : auth.Client
   pub is_judged : IsJudged old.auth bytes verdict auth
   pub outcome : follows verdict (judged auth old) bytes now handled new
-
-abbrev pub is_indication : MessageClass → Bool
-is_indication Indication = true
-is_indication _ = false
 
 -- a message is judged where it passes, and is not for the client else
 abbrev pub IsFollowedIf : Bool → Follows → Protocol → List ℕ → ℕ → Bool → Protocol → Type 0

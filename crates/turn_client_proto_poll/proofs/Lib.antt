@@ -1,5 +1,8 @@
 pub mod Draws
 pub mod Lapses
+pub mod Last
+pub mod OfPeers
+pub mod Parts
 pub mod Polls
 pub mod Quiet
 pub mod Tells

@@ -1,5 +1,8 @@
 pub mod Drawing
+pub mod OfPeers
+pub mod Payloads
 pub mod Polling
+pub mod Sending
 pub mod Telling
 pub mod Wanting
 -- What stands above this crate has these through it.
@@ -11,6 +14,7 @@ pub use Rattle.turn_client_proto_core.specs.Permission
 pub use Rattle.turn_client_proto_core.specs.Request
 pub use Rattle.turn_client_proto_core.specs.Response
 pub use Rattle.turn_client_proto_core.specs.Headline
+pub use Rattle.turn_client_proto_core.specs.Indications
 pub use Rattle.turn_client_proto_core.specs.Members
 pub use Rattle.turn_client_proto_core.specs.Messages
 pub use Rattle.turn_client_proto_core.specs.Names

@@ -5,6 +5,7 @@ pub mod ShortTexts
 pub mod ToldRequests
 -- What stands above this crate has these through it.
 pub use Rattle.turn_runs_stun.specs.Headline
+pub use Rattle.turn_runs_stun.specs.Indications
 pub use Rattle.turn_runs_stun.specs.Members
 pub use Rattle.turn_runs_stun.specs.Messages
 pub use Rattle.turn_runs_stun.specs.Names

@@ -176,6 +176,7 @@ module _ (c : Client) (signer : signers.Client) (bytes : List ℕ) (lifetime now
     shown = λ h i. absurd i;
     waits = λ n peer w. none_waits transport number lifetime now all n peer w;
     attempted = λ n h. inl (none_attempted transport number lifetime now all c.core.allocations c.core.queue n h);
+    delivers = λ p h. absurd h;
     names = λ p h. absurd h;
   }
 

@@ -163,6 +163,7 @@ module _ (c : Client) (signer : signers.Client) (bytes : List ℕ) (message : re
       shown = λ h i. absurd i;
       waits = λ n p w. inl (waits_permitting (is_gained gained) none_asks (parts_of c.core) left are n p w);
       attempted = λ n h. inl (attempted_permitting (is_gained gained) none_asks (parts_of c.core) left are n h);
+      delivers = λ p h. absurd h;
       names = λ p h. absurd h;
     }
 

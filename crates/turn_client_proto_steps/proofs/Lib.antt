@@ -12,6 +12,7 @@ pub mod Drawing
 pub mod Ending
 pub mod Fitting
 pub mod Gaining
+pub mod Giving
 pub mod Granting
 pub mod GrantingChannels
 pub mod Hearing
@@ -32,6 +33,7 @@ pub mod Rechallenging
 pub mod Refreshing
 pub mod Requesting
 pub mod RequestingChannels
+pub mod Sending
 pub mod Showing
 pub mod Shown
 pub mod ShownChannels
@@ -39,3 +41,5 @@ pub mod Standing
 pub mod StandingChannels
 pub mod Taken
 pub mod Wanting
+-- What stands above this crate has these through it.
+pub use Rattle.turn_client_proto_poll.proofs.OfPeers

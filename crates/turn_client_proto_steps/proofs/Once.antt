@@ -12,4 +12,5 @@ pub mod Numbering
 pub mod Outcomes
 pub mod Permitting
 pub mod Polling
+pub mod Sending
 pub mod Standing

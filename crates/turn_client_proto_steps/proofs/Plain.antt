@@ -108,6 +108,7 @@ plain_step begun came drawn answered c count core is = record {
   shown = λ h i. absurd i;
   waits = λ n peer h. inl (is.adds.waits n peer h);
   attempted = λ n h. inl (is.adds.attempted n h);
+  delivers = λ p h. absurd h;
   names = λ p h. absurd h;
 }
 

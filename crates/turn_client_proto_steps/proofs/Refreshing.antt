@@ -15,7 +15,7 @@ use Rattle.turn_client_proto_poll.specs.Core.declared.protocol.Phase.{Phase}
 use Rattle.turn_client_proto_poll.specs.Core.declared.protocol.Phase.TheVariants.{Initial, InitialSent, Authenticating, Authenticated, Ended}
 use Rattle.turn_client_proto_poll.specs.Core.declared.protocol.Protocol.{Protocol}
 use Rattle.turn_client_proto_steps.specs.Held.{PendingRefresh}
-use Rattle.turn_client_proto_steps.specs.RunClient.{Client, Parts, parts_of}
+use Rattle.turn_client_proto_steps.specs.RunClient.{Client, Parts, moved, parts_of}
 use Rattle.turn_client_proto_steps.specs.RunSteps.{IsRunStep}
 use Rattle.turn_client_proto_steps.specs.Sound.{AreShort, BeforeAllocated, CanAsk, IsOrderly, IsSound, UntilEnded}
 use Rattle.turn_client_proto_steps.proofs.Adding.{AreLess, HasNumber, adds_both, adds_none, allocations_less}
@@ -23,7 +23,7 @@ use Rattle.turn_client_proto_steps.proofs.Asking.{IsMade, IsUnderWay, asked_adds
 use Rattle.turn_client_proto_steps.proofs.Ending.{still}
 use Rattle.turn_client_proto_steps.proofs.Lessening.{deleted_distinct, each_less, end_asked}
 use Rattle.turn_client_proto_steps.proofs.Numbers.{words_after}
-use Rattle.turn_client_proto_steps.proofs.Orderly.{allocations_orderly, until_all}
+use Rattle.turn_client_proto_steps.proofs.Orderly.{allocations_orderly, until_map}
 use Rattle.turn_client_proto_steps.proofs.Plain.{counts_one, nothing_drawn, quiet, run_step}
 
 -- ---- one REFRESH
@@ -70,17 +70,21 @@ module _ (c : Client) (number now : ℕ) (sound : IsOrderly (parts_of c.core)) (
       (asked_orderly c.core (Refresh 0) number now is (allocated _ c.core.phase stands) sound) in
       asks c c.core (Refresh 0) number under_way is [] None (after_delete number now c.core) adds orderly refl under_way.can_ask.families refl refl (nothing_drawn (told_by text ∷ []) c)
 
+-- a client that could ask for something can, a number later
+can_still : (c : Client) → CanAsk c → CanAsk (moved c (c.drawn + 1) (after_number c.core))
+can_still c can = record {
+  account = can.account;
+  texts = can.texts;
+  families = can.families;
+  words = words_after c.core.rng c.drawn c.seed can.words;
+}
+
 -- a number is drawn, and nothing else is done
-pub number_drawn : (c : Client) → IsSound c → CanAsk c → IsRunStep c [] None [] (after_number c.core)
-number_drawn c sound can =
+pub number_drawn : (c : Client) → IsSound c → IsRunStep c [] None [] (after_number c.core)
+number_drawn c sound =
     run_step [] [] None [] c (c.drawn + 1) (after_number c.core)
     (quiet None [] c (c.drawn + 1) (after_number c.core) (counts_one c (after_number c.core) refl) (adds_none [] (parts_of c.core)) (nothing_drawn [] c) refl)
-    sound.orderly (until_all c.core.phase (record {
-      account = can.account;
-      texts = can.texts;
-      families = can.families;
-      words = words_after c.core.rng c.drawn c.seed can.words;
-    }))
+    sound.orderly (until_map c.core.phase (can_still c) sound.can_ask)
 
 -- refused, and nothing changes
 turned_down : (c : Client) (error : DeleteError) (refused : Option DeleteError) (answer : Result (Unit {0}) DeleteError) (new : Protocol) → IsSound c → refused ≡ Some error
@@ -94,7 +98,7 @@ answered_by c now (Ok x) new sound stands can is =
     let under_way = at_first c sound.orderly can in
     subst (λ (p : Protocol). IsRunStep c [] None [] p) (sym is.after)
     (deletes c is.number now sound.orderly stands under_way (made c c.core (Refresh 0) is.number under_way (omega arith) tt is.is_next))
-answered_by c now (Err e) new sound stands can is = subst (λ (p : Protocol). IsRunStep c [] None [] p) (sym is.1) (number_drawn c sound can)
+answered_by c now (Err e) new sound stands can is = subst (λ (p : Protocol). IsRunStep c [] None [] p) (sym is.1) (number_drawn c sound)
 
 refused_at : (c : Client) (phase : Phase) → c.core.phase ≡ phase → is_authenticated phase ≡ false → delete_refusal c.core ≡ Some NoAllocation
 refused_at c phase at none =

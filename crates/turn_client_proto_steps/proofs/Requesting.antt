@@ -83,7 +83,7 @@ module _ (c : Client) (transport : TransportType) (ip : IpAddr) (now : ℕ) wher
       let under_way = at_first c sound.orderly can in
       subst (λ (p : Protocol). IsRunStep c [] None [] p) (sym is.after)
       (asks_for is.number sound.orderly stands under_way (made c c.core (CreatePermission ip) is.number under_way is.lawful tt is.is_next))
-  answered (Err e) new sound stands can is = subst (λ (p : Protocol). IsRunStep c [] None [] p) (sym is.1) (number_drawn c sound can)
+  answered (Err e) new sound stands can is = subst (λ (p : Protocol). IsRunStep c [] None [] p) (sym is.1) (number_drawn c sound)
 
   -- none is refused but where the server has allocated
   stands_by : (found : Option Allocation) (phase : Phase) → refusal_in found phase ip now ≡ None → is_authenticated phase ≡ true

@@ -85,7 +85,7 @@ module _ (c : Client) (transport : TransportType) (peer : SocketAddr) (now : ℕ
       → MatchOption free ((answer ≡ Err NoChannel) × (new ≡ c.core)) (λ channel. MatchResult answer (λ _. IsChannelAsked c.core transport peer channel now new) (λ error. (error ≡ NoMemory) × (new ≡ after_number c.core)))
       → IsRunStep c [] None [] new
   tried_by None answer new sound stands can least is = still c [] new sound is.1
-  tried_by (Some channel) (Err e) new sound stands can least is = subst (λ (p : Protocol). IsRunStep c [] None [] p) (sym is.1) (number_drawn c sound can)
+  tried_by (Some channel) (Err e) new sound stands can least is = subst (λ (p : Protocol). IsRunStep c [] None [] p) (sym is.1) (number_drawn c sound)
   tried_by (Some channel) (Ok _) new sound stands can least is =
       let under_way = at_first c sound.orderly can in
       subst (λ (p : Protocol). IsRunStep c [] None [] p) (sym is.after)

@@ -1,21 +1,22 @@
--- A call that answers things as held is a step, too, where they are held.
-use Rattle.std.proofs.Common.{ℕ, List, inl, inr}
+-- A call that answers things as held is a step, too, where they are held; and so is one that hands over payloads, where
+-- each was delivered and names something kept.
+use Rattle.std.proofs.Common.{◌≡◌, ℕ, List, refl, subst, inl, inr}
 use Rattle.turn_client_proto_poll.specs.Members.{IsIn}
-use Rattle.turn_client_proto_poll.specs.Messages.{Message, Held, Gain, Holds, Knows}
+use Rattle.turn_client_proto_poll.specs.Messages.{Message, Held, Gain, Holds, Knows, NamesHeld, Payload, FromPeer, Reported, FromChannel, FromConnection}
 use Rattle.turn_client_proto_poll.specs.Words.{Wire, ClientWords}
-use Rattle.turn_client_proto_poll.specs.Steps.{Arrives, Call, ClientStep, IsAnswered, IsTried}
+use Rattle.turn_client_proto_poll.specs.Steps.{Arrives, Call, ClientStep, IsAnswered, IsDelivered, IsTried}
 
-module _ {V : Wire} {C : Type 0} (K : ClientWords V C) (call : Call C) (held : List Held) where
-  abbrev showing : Call C
-  showing = record call { shown = held }
+module _ {V : Wire} {C : Type 0} (K : ClientWords V C) (call : Call C) (held : List Held) (payloads : List Payload) where
+  abbrev telling : Call C
+  telling = record call { shown = held; payloads = payloads }
 
-  arrives : (bytes : List ℕ) (m : Message) → Arrives K call bytes m → Arrives K showing bytes m
+  arrives : (bytes : List ℕ) (m : Message) → Arrives K call bytes m → Arrives K telling bytes m
   arrives bytes m is = record { handled = is.handled; shows = is.shows; key = is.key; own = is.own; algorithm = is.algorithm; text = is.text; valid = is.valid }
 
-  tried : IsTried K call → IsTried K showing
+  tried : IsTried K call → IsTried K telling
   tried is = record { bytes = is.bytes; attempt = is.attempt; arrives = arrives is.bytes is.attempt is.arrives; class_is = is.class_is; method_is = is.method_is }
 
-  answered : (begun : List Message) (gain : Gain) (number : ℕ) → IsAnswered K call begun gain number → IsAnswered K showing begun gain number
+  answered : (begun : List Message) (gain : Gain) (number : ℕ) → IsAnswered K call begun gain number → IsAnswered K telling begun gain number
   answered begun gain number is = record {
     bytes = is.bytes;
     response = is.response;
@@ -28,8 +29,9 @@ module _ {V : Wire} {C : Type 0} (K : ClientWords V C) (call : Call C) (held : L
     brings = is.brings;
   }
 
-  pub shows_step : ((h : Held) → IsIn h held → K.IsHeld call.after h) → ClientStep K call → ClientStep K (record call { shown = held })
-  shows_step are is = record {
+  tells_step : ((h : Held) → IsIn h held → K.IsHeld call.after h) → ((p : Payload) → IsIn p payloads → IsDelivered K telling p)
+      → ((p : Payload) → IsIn p payloads → (h : Held) × NamesHeld p h × K.IsKept call.after h) → ClientStep K call → ClientStep K telling
+  tells_step are delivers names is = record {
     account = is.account;
     seed = is.seed;
     counted = is.counted;
@@ -64,5 +66,23 @@ module _ {V : Wire} {C : Type 0} (K : ClientWords V C) (call : Call C) (held : L
       ]
     ];
     attempted = λ n h. elim (is.attempted n h) [ inl was ↦ inl was | inr came ↦ inr (tried came) ];
-    names = is.names;
+    delivers = delivers;
+    names = names;
   }
+
+-- what was delivered in a call was so in any in which the same was taken up
+delivered : {V : Wire} {C : Type 0} (K : ClientWords V C) (call other : Call C) → call.handled ≡ other.handled → (p : Payload) → IsDelivered K call p → IsDelivered K other p
+delivered K call other same (FromPeer transport peer bytes) is = (is.0, subst (IsIn is.0) same is.1, is.2)
+delivered K call other same (Reported transport peer report) is = (is.0, subst (IsIn is.0) same is.1, is.2)
+delivered K call other same (FromChannel number peer bytes) is = (is.0, subst (IsIn is.0) same is.1, is.2)
+delivered K call other same (FromConnection local peer bytes) is = tt
+
+module _ {V : Wire} {C : Type 0} (K : ClientWords V C) (call : Call C) where
+  pub shows_step : (held : List Held) → ((h : Held) → IsIn h held → K.IsHeld call.after h) → ClientStep K call → ClientStep K (record call { shown = held })
+  shows_step held are is =
+      tells_step K call held call.payloads are (λ p i. delivered K call (record call { shown = held }) refl p (is.delivers p i)) is.names is
+
+  pub gives_step : (payloads : List Payload) → ((p : Payload) → IsIn p payloads → IsDelivered K call p)
+      → ((p : Payload) → IsIn p payloads → (h : Held) × NamesHeld p h × K.IsKept call.after h) → ClientStep K call → ClientStep K (record call { payloads = payloads })
+  gives_step payloads delivers names is =
+      tells_step K call call.shown payloads is.shown (λ p i. delivered K call (record call { payloads = payloads }) refl p (delivers p i)) names is

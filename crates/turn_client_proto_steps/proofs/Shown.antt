@@ -77,7 +77,7 @@ same_v4 a b is = ap (λ (o : List ℕ). record { octets = o }) is
 same_v6 : (a b : Ipv6Addr) → ipv6_segments a ≡ ipv6_segments b → a ≡ b
 same_v6 a b is = ap (λ (s : List ℕ). record { segments = s }) is
 
-same_ip : (a b : IpAddr) → is_same_ip a b ≡ true → a ≡ b
+pub same_ip : (a b : IpAddr) → is_same_ip a b ≡ true → a ≡ b
 same_ip (V4 a) (V4 b) is = ap V4 (same_v4 a b ((bytes_decides (ipv4_octets a) (ipv4_octets b)).0 is))
 same_ip (V6 a) (V6 b) is = ap V6 (same_v6 a b ((bytes_decides (ipv6_segments a) (ipv6_segments b)).0 is))
 same_ip (V4 a) (V6 b) is = absurd (Prim.cc is)

@@ -1,6 +1,6 @@
 -- A call of a client as a step of a run.
 use Rattle.std.specs.Prelude.{◌≡◌, ℕ, List, [], ◌∷◌, Option, None}
-use Rattle.turn_client_proto_poll.specs.Messages.{Notice}
+use Rattle.turn_client_proto_poll.specs.Messages.{Notice, Payload}
 use Rattle.turn_client_proto_poll.specs.Steps.{Call, ClientStep}
 use Rattle.turn_client_proto_poll.specs.Core.declared.protocol.Protocol.{Protocol}
 use Rattle.turn_client_proto_steps.specs.ClientWords.{client_words}
@@ -27,6 +27,13 @@ pub record IsRunStep (before : Client) (came : List (List ℕ)) (drawn : Option 
   pub after : Client
   pub core_is : after.core ≡ core
   pub step : ClientStep client_words (call_of before came drawn answered after)
+  pub sound : IsSound after
+
+-- a message or a channel frame came, and by it these payloads were handed over; nothing was drawn or answered
+pub record IsGiving (before : Client) (bytes : List ℕ) (payloads : List Payload) (core : Protocol) : Type 0 where
+  pub after : Client
+  pub core_is : after.core ≡ core
+  pub step : ClientStep client_words (record (call_of before (bytes ∷ []) None [] after) { payloads = payloads })
   pub sound : IsSound after
 
 -- a message came, and nothing was drawn or answered

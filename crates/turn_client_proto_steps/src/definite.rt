@@ -17,6 +17,7 @@ ghost use Rattle.turn_client_proto_poll.specs.Api.declared.error.CreatePermissio
 ghost use Rattle.turn_client_proto_poll.specs.Api.declared.error.CreatePermissionError.TheVariants as permission;
 ghost use Rattle.turn_client_proto_poll.specs.Api.declared.error.DeleteError.{DeleteError};
 ghost use Rattle.turn_client_proto_poll.specs.Api.declared.error.DeleteError.TheVariants as deletion;
+ghost use Rattle.turn_client_proto_poll.specs.Api.declared.error.SendError.{SendError};
 ghost use Rattle.turn_client_proto_poll.specs.Core.Binding.{IsBindAnswered};
 ghost use Rattle.turn_client_proto_poll.specs.Core.Deleting.{IsDeleteAnswered};
 ghost use Rattle.turn_client_proto_poll.specs.Core.Permitting.{IsPermissionAnswered};
@@ -24,6 +25,7 @@ ghost use Rattle.turn_client_proto_poll.specs.Core.Receiving.{IsHeard};
 ghost use Rattle.turn_client_proto_poll.specs.Core.declared.protocol.Protocol.{Protocol};
 ghost use Rattle.turn_client_proto_poll.specs.Drawing.{IsDrawn, Sent};
 ghost use Rattle.turn_client_proto_poll.specs.Polling.{IsPolled};
+ghost use Rattle.turn_client_proto_poll.specs.Sending.{IsSendAnswered};
 
 /// One message at one moment: whether it was for the client, and what the client is then, are one.
 /// No outcome of this relation is one of a client that was refused memory.
@@ -73,6 +75,16 @@ pub fn permitting_is_definite()
         → again ≢ Err permission.NoMemory
         → IsPermissionAnswered old transport ip now answer one
         → IsPermissionAnswered old transport ip now again other
+        → (answer ≡ again) × (one ≡ other) }
+{}
+
+/// Bytes for one peer, over one transport, at one moment: what `send_to` answers, as bytes, and what
+/// the client is then, are one.
+pub fn sending_is_definite()
+    ensures { (old one other : Protocol) (transport : TransportType) (to : SocketAddr)
+        (bytes : List ℕ) (now : ℕ) (answer again : Result (Option Sent) SendError)
+        → IsSendAnswered old transport to bytes now answer one
+        → IsSendAnswered old transport to bytes now again other
         → (answer ≡ again) × (one ≡ other) }
 {}
 

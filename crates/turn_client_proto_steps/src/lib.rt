@@ -4,13 +4,13 @@
 //! numbers are taken, what is held. `specs/Sound.antt` has what is always true of a client. The
 //! functions here do nothing; each contract is a law: a call that meets its contract is a step of a
 //! run, and leaves a sound client sound. A getter is no step, for nothing changes; nor are bytes that
-//! are no message, or that did not come from the server. [`definite`] has that what a client does is
-//! determined.
+//! did not come from the server, or that are no message and give nothing of a peer. [`definite`] has
+//! that what a client does is determined.
 #![tactic(auto)]
 
 pub mod definite;
 
-ghost use Rattle.std.specs.Prelude.{◌≤◌, ℕ, List, length, ◌≡◌, ◌++◌, Bool, true, [], Option, None, Result, option_to_list};
+ghost use Rattle.std.specs.Prelude.{◌≤◌, ℕ, List, length, ◌≡◌, ◌++◌, Bool, true, [], ◌∷◌, Option, None, Some, Result, option_to_list};
 ghost use Rattle.std.specs.declared.net.ip_addr.IpAddr.{IpAddr};
 ghost use Rattle.std.specs.declared.net.socket_addr.SocketAddr.{SocketAddr};
 ghost use Rattle.stun_types.specs.Registry.{longest_username};
@@ -41,13 +41,18 @@ ghost use Rattle.turn_client_proto_poll.specs.Api.declared.error.BindChannelErro
 ghost use Rattle.turn_client_proto_poll.specs.Api.declared.error.CreatePermissionError.{CreatePermissionError};
 ghost use Rattle.turn_client_proto_poll.specs.Api.declared.error.DeleteError.{DeleteError};
 ghost use Rattle.turn_client_proto_poll.specs.Core.Permitting.{IsPermissionAnswered};
+ghost use Rattle.turn_client_proto_poll.specs.Api.declared.error.SendError.{SendError};
 ghost use Rattle.turn_client_proto_poll.specs.Api.declared.event.TurnEvent.{TurnEvent};
 ghost use Rattle.turn_client_proto_poll.specs.Core.Deleting.{IsDeleteAnswered};
 ghost use Rattle.turn_client_proto_poll.specs.Drawing.{IsDrawn, Sent};
 ghost use Rattle.turn_client_proto_poll.specs.Core.Ending.{HasFailed, ended};
+ghost use Rattle.turn_client_proto_poll.specs.OfPeers.{told_of};
+ghost use Rattle.turn_client_proto_poll.specs.Payloads.{payload_of};
 ghost use Rattle.turn_client_proto_poll.specs.Polling.{IsPolled};
+ghost use Rattle.turn_client_proto_poll.specs.Sending.{IsSendAnswered};
+ghost use Rattle.turn_client_proto_poll.specs.declared.payload.Payload.{Payload};
 ghost use Rattle.turn_client_proto_poll.specs.Core.Receiving.{IsHeard};
-ghost use Rattle.turn_client_proto_steps.specs.RunSteps.{IsReceiving, IsRunStep, IsSilent};
+ghost use Rattle.turn_client_proto_steps.specs.RunSteps.{IsGiving, IsReceiving, IsRunStep, IsSilent};
 
 /// What a run tells of a desk. It has no code; the law of new clients holds for every one.
 pub trait Desk {
@@ -170,6 +175,16 @@ pub fn bindings_are_steps()
         → IsSilent c new }
 {}
 
+/// `send_to` is a step in which nothing is asked for, drawn or gained: what carries bytes to a peer is
+/// written for the user. The number of a SEND indication counts as drawn (RFC 8656, section 11.1).
+pub fn sends_are_steps()
+    ensures { (c : Client) (transport : TransportType) (to : SocketAddr) (bytes : List ℕ) (now : ℕ)
+        (answer : Result (Option Sent) SendError) (new : Protocol)
+        → IsSound c
+        → IsSendAnswered c.core transport to bytes now answer new
+        → IsSilent c new }
+{}
+
 /// `poll` is a step in which nothing is asked for and nothing gained: requests and allocations may
 /// go.
 pub fn polls_are_steps()
@@ -200,4 +215,14 @@ pub fn messages_are_steps()
         → refusal bytes ≡ None
         → IsHeard c.core bytes now handled new
         → IsReceiving c bytes new }
+{}
+
+/// A message or a channel frame that gives something of a peer is a step, too, in which that is handed
+/// over: it is what came, and names a permission or a channel that the client keeps (RFC 8656, sections
+/// 11.4, 11.6 and 12.6). Nothing changes.
+pub fn payloads_are_steps()
+    ensures { (c : Client) (bytes : List ℕ) (payload : Payload)
+        → IsSound c
+        → payload_of c.core bytes ≡ Some payload
+        → IsGiving c bytes (told_of bytes payload ∷ []) c.core }
 {}

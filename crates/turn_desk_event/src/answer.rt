@@ -6,7 +6,9 @@ use stun_types::{Transmit, TransportType};
 use turn_client_proto_api::Instant;
 use turn_client_proto_api::answer::Socket5Tuple;
 use turn_client_proto_api::data::TurnPeerData;
-use turn_client_proto_api::error::{BindChannelError, CreatePermissionError, DeleteError};
+use turn_client_proto_api::error::{
+    BindChannelError, CreatePermissionError, DeleteError, SendError,
+};
 use turn_client_proto_api::event::TurnEvent;
 
 /// Why a client refuses a call.
@@ -18,6 +20,8 @@ pub enum Refusal {
     CreatePermission(CreatePermissionError),
     /// Why no channel is asked for.
     BindChannel(BindChannelError),
+    /// Why nothing is sent to a peer.
+    Send(SendError),
 }
 
 /// What an event is answered.
@@ -27,7 +31,7 @@ pub enum Answer {
     Reply(Vec<u8>),
     /// The desk doesn't reply, the client has nothing to send, or no event waits.
     Nothing,
-    /// The client sends.
+    /// The client sends: what was asked for what it sends, or what carries bytes to a peer.
     Transmit(Transmit<Data<'static>>),
     /// The client took the bytes that came.
     Handled,

@@ -6,7 +6,7 @@ use turn_client_proto_api::Instant;
 use turn_desk_grant::decision::Decision;
 
 /// A call of a client by its user.
-#[derive(Clone, Copy, Debug, PartialEq, Eq)]
+#[derive(Debug, Drop)]
 pub enum ClientCall {
     /// `poll`.
     Poll,
@@ -24,6 +24,8 @@ pub enum ClientCall {
     BindChannel(TransportType, SocketAddr),
     /// `channels`.
     Channels,
+    /// `send_to` the peer, over this transport between the server and the peers, of these bytes.
+    SendTo(TransportType, SocketAddr, Vec<u8>),
     /// `protocol_error`.
     ProtocolError,
     /// `relayed_addresses`.

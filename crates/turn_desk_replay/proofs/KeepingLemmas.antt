@@ -34,7 +34,7 @@ set_up flags p (Desk realm algorithms anonymity) q is = (_, (is.0, refl), is.1)
 set_up flags p (User name password) q is = (_, record { desk = is.desk; there = is.there; after = refl }, is.after)
 set_up flags p (Rto initial max count last) q is = (_, (is.0, is.1, refl), is.2)
 set_up flags p (Client settings) q is =
-    (_, record { client = is.client; first = is.first; new = is.new; after = refl }, is.after)
+    (_, record { core = is.core; first = is.first; new = is.new; after = refl }, is.after)
 
 happened : (flags : List Bool) (p : Progress) (event : Happening) (answer : Answer) (q : Progress)
     → IsHappenedKept flags (cut flags p) event answer q → (r : Progress) × IsHappened p event answer r × (q ≡ cut flags r)

@@ -7,11 +7,13 @@ use Rattle.std.proofs.lemmas.List.Elements.{All-head, All-tail}
 use Rattle.program_lines.specs.LineWords.{AreWords}
 use Rattle.program_lines.specs.LowerHex.{is_dash}
 use Rattle.turn_desk_trace.specs.Bytes.{answer_of, joined, named_bytes, part_bytes, range_of, reference_bytes, some_bytes}
-use Rattle.turn_desk_trace.specs.Event.{IsEvent, IsToClient, IsToDesk}
+use Rattle.turn_desk_trace.specs.Event.{IsEvent, IsSend, IsToClient, IsToDesk}
 use Rattle.turn_desk_trace.specs.TraceLines.{IsLine, IsLineOf}
 use Rattle.turn_desk_trace.specs.TraceNumbers.{number}
 use Rattle.turn_desk_trace.specs.declared.line.Line.{Line}
 use Rattle.turn_desk_trace.specs.declared.line.Line.TheVariants.{Setup, Event}
+use Rattle.turn_desk_world.specs.declared.event.ClientCall.{ClientCall}
+use Rattle.turn_desk_world.specs.declared.event.ClientCall.TheVariants.{SendTo}
 use Rattle.turn_desk_world.specs.declared.event.Event.{Event as Happening}
 use Rattle.turn_desk_world.specs.declared.event.Event.TheVariants.{Call, Draw, ToClient, ToDesk}
 use Rattle.turn_desk_replay.specs.Wanted.{IsCovered, IsPartCovered, IsWanted, IsWordCovered, is_wanted, kept_if, kept_of, named_place, place_in, place_of}
@@ -118,10 +120,19 @@ same_to_desk some others (a ∷ b ∷ bytes ∷ seed ∷ rest) (ToClient t f g n
 same_to_desk some others (a ∷ b ∷ bytes ∷ seed ∷ rest) (Draw n) alike is = is
 same_to_desk some others (a ∷ b ∷ bytes ∷ seed ∷ rest) (Call call n) alike is = is
 
+same_send : (some others words : List (List ℕ)) (call : ClientCall) (moment : ℕ) → AreNamedAlike some others words
+    → IsSend some words call moment → IsSend others words call moment
+same_send some others (a ∷ b ∷ d ∷ bytes ∷ []) (SendTo transport to sent) moment alike is =
+    (is.0, is.1, is.2, subst (λ named. named ≡ Some sent.items) (alike 3 [] (omega arith)) is.3)
+same_send some others words call moment alike is = is
+
 same_event : (some others words : List (List ℕ)) (event : Happening) → AreNamedAlike some others words
     → IsEvent some words event → IsEvent others words event
 same_event some others [] event alike is = is
-same_event some others (name ∷ rest) (Call call moment) alike is = is
+same_event some others (name ∷ rest) (Call call moment) alike is = elim is [
+  | inl plain ↦ inl plain
+  | inr send ↦ inr (send.0, same_send some others rest call moment (All-tail (λ word. named_bytes some word ≡ named_bytes others word) name rest alike) send.1)
+]
 same_event some others (name ∷ rest) (Draw moment) alike is = is
 same_event some others (name ∷ rest) (ToClient t f g n) alike is =
     (is.0, same_to_client some others rest (ToClient t f g n) (All-tail (λ word. named_bytes some word ≡ named_bytes others word) name rest alike) is.1)

@@ -14,12 +14,12 @@ use Rattle.turn_desk_trace.specs.declared.setup.Setup.{Setup}
 use Rattle.turn_desk_trace.specs.declared.setup.Setup.TheVariants.{Desk, User, Rto, Client}
 use Rattle.turn_desk_trace.specs.declared.setup.TheConstants.{MAX_REALM, MAX_USERNAME}
 use Rattle.turn_desk_world.specs.Beginning.{IsNew}
-use Rattle.turn_desk_world.specs.Clients.{protocol_of}
-use Rattle.turn_desk_world.specs.Kept.{Protocol}
+use Rattle.turn_desk_world.specs.Clients.{kept_of}
+use Rattle.turn_desk_world.specs.Kept.{Kept, Protocol, over_udp}
 use Rattle.turn_desk_world.specs.Model.{World}
 use Rattle.turn_desk_world.specs.Runs.{IsRun}
 use Rattle.turn_desk_replay.specs.Settings.{config_of, desk_of, with_user}
-use Rattle.turn_desk_replay.specs.declared.progress.Progress.{Progress as Kept}
+use Rattle.turn_desk_replay.specs.declared.progress.Progress.{Progress as Stored}
 use Rattle.turn_desk_replay.specs.declared.setting.Rto.{Rto as Waiting}
 
 -- what the setup lines have made, the world from the first event on, and the bytes that each event line so far was
@@ -27,16 +27,16 @@ use Rattle.turn_desk_replay.specs.declared.setting.Rto.{Rto as Waiting}
 pub record Progress : Type 0 where
   pub desk : Option State
   pub rto : Option Waiting
-  pub client : Option Protocol
+  pub client : Option Kept
   pub world : Option World
   pub named : List (List ℕ)
 
 -- what contracts see of what a replay keeps
-abbrev pub progress_of : Kept → Progress
+abbrev pub progress_of : Stored → Progress
 progress_of p = record {
   desk = p.desk;
   rto = p.rto;
-  client = option_map protocol_of p.client;
+  client = option_map kept_of p.client;
   world = p.world;
   named = p.named.items;
 }
@@ -70,10 +70,10 @@ IsRtoSet p rto q = (p.rto ≡ None) × (p.client ≡ None) × (q ≡ record p { 
 
 -- the client was made
 pub record IsClientAdded (p : Progress) (settings : ClientSetup) (q : Progress) : Type 0 where
-  pub client : Protocol
+  pub core : Protocol
   pub first : p.client ≡ None
-  pub new : IsNew Udp settings.local settings.remote (config_of settings p.rto) settings.seed client
-  pub after : q ≡ record p { client = Some client }
+  pub new : IsNew Udp settings.local settings.remote (config_of settings p.rto) settings.seed core
+  pub after : q ≡ record p { client = Some (over_udp core) }
 
 -- a setup line was done
 abbrev pub IsSetUp : Progress → Setup → Progress → Type 0
@@ -100,7 +100,7 @@ is_of_client (ToClient bytes from to now) = true
 is_of_client (ToDesk bytes from now decision seed) = false
 
 -- the world as it stands: before the first event that of the desk and the client that were made, where there is a desk
-abbrev pub world_in : Option World → Option State → Option Protocol → Option World
+abbrev pub world_in : Option World → Option State → Option Kept → Option World
 world_in (Some world) desk client = Some world
 world_in None (Some desk) client = Some (record { desk = desk; client = client; is_failed = false })
 world_in None None client = None

@@ -2,7 +2,8 @@
 
 ghost use Rattle.std.specs.Prelude.{◌≡◌, ◌≤◌, IfOk, OnErr, OnOk, length};
 ghost use Rattle.stun_types.specs.declared.transport.TransportType.TheVariants.{Udp};
-ghost use Rattle.turn_desk_world.specs.Clients.{protocol_of};
+ghost use Rattle.turn_desk_world.specs.Clients.{kept_of};
+ghost use Rattle.turn_desk_world.specs.Kept.{over_udp};
 ghost use Rattle.turn_desk_world.specs.Beginning.{IsNew};
 ghost use Rattle.turn_desk_replay.specs.Settings.{config_of, desk_of, waiting, with_user};
 ghost use Rattle.turn_desk_trace.specs.Setup.{algorithms_in_order, families_in_order};
@@ -91,8 +92,9 @@ pub(crate) fn new_client(
     rto: Option<Rto>,
 ) -> Result<TurnClient, NoMemory>
     requires { length settings.now.name.now ≤ MAX_USERNAME }
-    ensures { IfOk result (λ client. IsNew Udp settings.now.local settings.now.remote
-        (config_of settings.now rto) settings.now.seed (protocol_of client)) }
+    ensures new { IfOk result (λ client. IsNew Udp settings.now.local settings.now.remote
+        (config_of settings.now rto) settings.now.seed (kept_of client).core) }
+    ensures udp { IfOk result (λ client. kept_of client ≡ over_udp (kept_of client).core) }
 {
     let config = config_of(alloc, settings, rto)?;
     let client = TurnClientUdp::allocate(

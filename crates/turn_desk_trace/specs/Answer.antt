@@ -17,12 +17,14 @@ use Rattle.turn_desk_event.specs.declared.error.CreatePermissionError.{CreatePer
 use Rattle.turn_desk_event.specs.declared.error.CreatePermissionError.TheVariants as Permits
 use Rattle.turn_desk_event.specs.declared.error.DeleteError.{DeleteError}
 use Rattle.turn_desk_event.specs.declared.error.DeleteError.TheVariants as Deletes
+use Rattle.turn_desk_event.specs.declared.error.SendError.{SendError}
+use Rattle.turn_desk_event.specs.declared.error.SendError.TheVariants as Sends
 use Rattle.turn_desk_event.specs.declared.api_event.TurnEvent.{TurnEvent}
 use Rattle.turn_desk_event.specs.declared.api_event.TurnEvent.TheVariants as Events
 use Rattle.turn_desk_event.specs.declared.answer.Answer.{Answer}
 use Rattle.turn_desk_event.specs.declared.answer.Answer.TheVariants as Answers
 use Rattle.turn_desk_event.specs.declared.answer.Refusal.{Refusal}
-use Rattle.turn_desk_event.specs.declared.answer.Refusal.TheVariants.{BindChannel, CreatePermission, Delete}
+use Rattle.turn_desk_event.specs.declared.answer.Refusal.TheVariants.{BindChannel, CreatePermission, Delete, Send}
 
 -- the word for a transport
 abbrev pub transport_word : TransportType → List ℕ
@@ -68,11 +70,20 @@ bind_error_text Binds.NoAllocation = codes "NoAllocation"
 bind_error_text Binds.NoChannel = codes "NoChannel"
 bind_error_text Binds.NoMemory = codes "NoMemory"
 
+-- why nothing is sent to a peer
+abbrev pub send_error_text : SendError → List ℕ
+send_error_text Sends.NoAllocation = codes "NoAllocation"
+send_error_text Sends.NoPermission = codes "NoPermission"
+send_error_text Sends.NoTcpSocket = codes "NoTcpSocket"
+send_error_text Sends.TooLarge = codes "TooLarge"
+send_error_text Sends.NoMemory = codes "NoMemory"
+
 -- why a client refuses a call
 abbrev pub refusal_text : Refusal → List ℕ
 refusal_text (Delete error) = delete_error_text error
 refusal_text (CreatePermission error) = permission_error_text error
 refusal_text (BindChannel error) = bind_error_text error
+refusal_text (Send error) = send_error_text error
 
 -- whether a permission stands
 abbrev pub have_text : Bool → List ℕ

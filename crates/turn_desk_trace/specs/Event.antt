@@ -1,11 +1,11 @@
 -- Event lines of a trace.
-use Rattle.std.specs.Prelude.{ℕ, ◌≡◌, List, [], ◌∷◌, Some, codes}
+use Rattle.std.specs.Prelude.{ℕ, ◌≡◌, List, [], ◌∷◌, ◌⊎◌, Some, codes}
 use Rattle.std.specs.Net.Grammar.{IsIpText, IsSocketText}
 use Rattle.std.specs.declared.net.ip_addr.IpAddr.{IpAddr}
 use Rattle.std.specs.declared.net.socket_addr.SocketAddr.{SocketAddr}
 use Rattle.stun_types.specs.declared.transport.TransportType.{TransportType}
 use Rattle.turn_desk_event.specs.declared.event.ClientCall.{ClientCall}
-use Rattle.turn_desk_event.specs.declared.event.ClientCall.TheVariants.{Poll, PollEvent, Delete, CreatePermission, HavePermission, Permissions, BindChannel, Channels, ProtocolError, RelayedAddresses}
+use Rattle.turn_desk_event.specs.declared.event.ClientCall.TheVariants.{Poll, PollEvent, Delete, CreatePermission, HavePermission, Permissions, BindChannel, Channels, SendTo, ProtocolError, RelayedAddresses}
 use Rattle.turn_desk_event.specs.declared.event.Event.{Event}
 use Rattle.turn_desk_event.specs.declared.event.Event.TheVariants.{Call, Draw, ToClient, ToDesk}
 use Rattle.turn_desk_trace.specs.Answer.{transport_word}
@@ -50,7 +50,7 @@ abbrev pub IsBind : List (List ℕ) → TransportType → SocketAddr → ℕ →
 IsBind [] transport peer moment = ⊥
 IsBind (now ∷ rest) transport peer moment = (number now ≡ Some moment) × IsPlacedSocket rest transport peer
 
--- a name and the words behind it spell a call of the client at a moment
+-- a name and the words behind it spell a call of the client at a moment; one that sends bytes is spelled below
 abbrev pub IsCall : List ℕ → List (List ℕ) → ClientCall → ℕ → Type 0
 IsCall name rest Poll moment = (name ≡ codes "poll") × IsMoment rest moment
 IsCall name rest PollEvent moment = (name ≡ codes "event") × IsNoMoment rest moment
@@ -64,6 +64,7 @@ IsCall name rest (Permissions transport socket) moment =
 IsCall name rest (BindChannel transport peer) moment =
     (name ≡ codes "bind") × IsBind rest transport peer moment
 IsCall name rest Channels moment = (name ≡ codes "channels") × IsNoMoment rest moment
+IsCall name rest (SendTo transport to bytes) moment = ⊥
 IsCall name rest ProtocolError moment = (name ≡ codes "error") × IsNoMoment rest moment
 IsCall name rest RelayedAddresses moment = (name ≡ codes "relayed") × IsNoMoment rest moment
 
@@ -110,9 +111,17 @@ IsToClient answers [] event = ⊥
 IsToClient answers (a ∷ []) event = ⊥
 IsToClient answers (now ∷ from ∷ rest) event = IsToClientFrom answers now from rest event
 
+-- the words behind `send` spell bytes that the client is to send to a peer at a moment, after these answers
+abbrev pub IsSend : List (List ℕ) → List (List ℕ) → ClientCall → ℕ → Type 0
+IsSend answers (now ∷ name ∷ to ∷ bytes ∷ []) (SendTo transport peer sent) moment =
+    (number now ≡ Some moment) × (name ≡ transport_word transport) × IsSocketText to peer
+    × (named_bytes answers bytes ≡ Some sent.items)
+IsSend answers words call moment = ⊥
+
 -- a name and the words behind it spell the event, after these answers
 abbrev pub IsEventOf : List (List ℕ) → List ℕ → List (List ℕ) → Event → Type 0
-IsEventOf answers name rest (Call call moment) = IsCall name rest call moment
+IsEventOf answers name rest (Call call moment) =
+    IsCall name rest call moment ⊎ ((name ≡ codes "send") × IsSend answers rest call moment)
 IsEventOf answers name rest (Draw moment) = (name ≡ codes "draw") × IsMoment rest moment
 IsEventOf answers name rest (ToClient b f t n) = (name ≡ codes "toclient") × IsToClient answers rest (ToClient b f t n)
 IsEventOf answers name rest (ToDesk b f n d s) = (name ≡ codes "todesk") × IsToDesk answers rest (ToDesk b f n d s)

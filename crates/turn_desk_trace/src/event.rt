@@ -6,7 +6,7 @@ ghost use Rattle.std.specs.declared.net.socket_addr.SocketAddr.{SocketAddr};
 ghost use Rattle.stun_types.specs.declared.transport.TransportType.{TransportType};
 ghost use Rattle.turn_desk_event.specs.declared.event.ClientCall.{ClientCall};
 ghost use Rattle.turn_desk_event.specs.declared.event.Event.{Event};
-ghost use Rattle.turn_desk_trace.specs.Event.{IsBind, IsCall, IsEvent, IsMoment, IsNoMoment, IsPermission, IsPlacedIp, IsPlacedSocket, IsToClient, IsToClientFrom, IsToClientOf, IsToDesk, IsToDeskFrom, IsToDeskOf};
+ghost use Rattle.turn_desk_trace.specs.Event.{IsBind, IsCall, IsEvent, IsMoment, IsNoMoment, IsPermission, IsPlacedIp, IsPlacedSocket, IsSend, IsToClient, IsToClientFrom, IsToClientOf, IsToDesk, IsToDeskFrom, IsToDeskOf};
 
 use crate::address::{read_address, read_ip, read_transport};
 use crate::bytes::read_bytes;
@@ -30,6 +30,10 @@ pub fn read_event(alloc: Global, words: &[&str], answers: &[Named]) -> Result<Ev
     match words {
         ["todesk", rest @ ..] => read_to_desk(alloc, rest, answers),
         ["toclient", rest @ ..] => read_to_client(alloc, rest, answers),
+        ["send", rest @ ..] => match read_send(alloc, rest, answers) {
+            Ok((call, now)) => Ok(Event::Call(call, now)),
+            Err(error) => Err(error),
+        },
         ["draw", rest @ ..] => match read_moment(rest) {
             Some(now) => Ok(Event::Draw(now)),
             None => Err(LineError::Bad),
@@ -182,7 +186,40 @@ fn to_client(
     }
 }
 
-/// The call of the client, and its moment, that a name and the words behind it spell.
+/// The call of the client, and its moment, that the words behind `send` spell.
+fn read_send(
+    alloc: Global,
+    words: &[&str],
+    answers: &[Named],
+) -> Result<(ClientCall, Instant), LineError>
+    ensures ok { IfOk result (λ called. IsSend answers.now (map (λ x. x.now) words.now)
+        called.0 called.1) }
+    ensures bad { result ≡ Err LineError.Bad → (call : ClientCall) (moment : ℕ)
+        → ¬ (IsSend answers.now (map (λ x. x.now) words.now) call moment) }
+{
+    let [now, transport, to, bytes] = words else {
+        return Err(LineError::Bad);
+    };
+    let Some(now) = read_u64(now) else {
+        return Err(LineError::Bad);
+    };
+    let Some(transport) = read_transport(transport) else {
+        return Err(LineError::Bad);
+    };
+    let Some(to) = read_address(to) else {
+        return Err(LineError::Bad);
+    };
+    match read_bytes(alloc, bytes, answers) {
+        Ok(bytes) => Ok((
+            ClientCall::SendTo(transport, to, bytes),
+            Instant::from_nanos(now),
+        )),
+        Err(error) => Err(error),
+    }
+}
+
+/// The call of the client, and its moment, that a name and the words behind it spell; but one that
+/// sends bytes.
 fn read_call(name: &str, words: &[&str]) -> Option<(ClientCall, Instant)>
     ensures { MatchOption result ((call : ClientCall) (moment : ℕ)
         → ¬ (IsCall name.now (map (λ x. x.now) words.now) call moment))

@@ -4,7 +4,7 @@ ghost use Rattle.std.specs.Prelude.{◌≡◌, ◌++◌, IfOk, OnOk, codes, deci
 ghost use Rattle.std.specs.List.{flat_map};
 ghost use Rattle.std.specs.Net.Text.{socket_text};
 ghost use Rattle.program_lines.specs.LowerHex.{hex_text};
-ghost use Rattle.turn_desk_trace.specs.Answer.{answer_text, answer_words, between_text, bind_error_text, channel_text, delete_error_text, event_text, family_word, have_text, icmp_text, permission_error_text, permitted_text, placed_text, refusal_text, relayed_text, transport_word};
+ghost use Rattle.turn_desk_trace.specs.Answer.{answer_text, answer_words, between_text, bind_error_text, channel_text, delete_error_text, event_text, family_word, have_text, icmp_text, permission_error_text, permitted_text, placed_text, refusal_text, relayed_text, send_error_text, transport_word};
 
 use program_lines::lower_hex::write_hex;
 use std::alloc::{AllocError, Global};
@@ -13,7 +13,7 @@ use stun_types::{AddressFamily, TransportType};
 use turn_desk_event::answer::{Answer, Refusal};
 use turn_desk_event::api_answer::Socket5Tuple;
 use turn_desk_event::api_event::TurnEvent;
-use turn_desk_event::error::{BindChannelError, CreatePermissionError, DeleteError};
+use turn_desk_event::error::{BindChannelError, CreatePermissionError, DeleteError, SendError};
 
 /// The line that an answer is printed as, with its line feed. Where memory is refused,
 /// `AllocError`.
@@ -255,6 +255,20 @@ fn print_refusal(alloc: Global, refusal: Refusal) -> Result<String, AllocError>
             format!(in alloc; "refused {}", name_of_permission_error(error))
         }
         Refusal::BindChannel(error) => print_bind_refusal(alloc, error),
+        Refusal::Send(error) => format!(in alloc; "refused {}", name_of_send_error(error)),
+    }
+}
+
+/// The name of a `SendError`.
+fn name_of_send_error(error: SendError) -> &'static str
+    ensures { result.now ≡ send_error_text error }
+{
+    match error {
+        SendError::NoAllocation => "NoAllocation",
+        SendError::NoPermission => "NoPermission",
+        SendError::NoTcpSocket => "NoTcpSocket",
+        SendError::TooLarge => "TooLarge",
+        _ => "NoMemory",
     }
 }
 

@@ -1,9 +1,10 @@
 -- What a client in a world answers is determined.
-use Rattle.std.proofs.Common.{◌≡◌, ◌≢◌, ℕ, Bool, true, false, List, ◌∷◌, Option, Some, None, Result, Ok, Err, refl, sym, ap, ◌∙◌, subst, inl, inr}
+use Rattle.std.proofs.Common.{◌≡◌, ◌≢◌, ℕ, Bool, true, false, List, ◌∷◌, Option, Some, None, Result, Ok, Err, refl, sym, ap, ◌∙◌, subst}
 use Rattle.std.specs.Bool.{MatchBool}
 use Rattle.std.specs.Borrow.{Bor}
 use Rattle.std.specs.declared.net.ip_addr.IpAddr.{IpAddr}
 use Rattle.std.specs.declared.net.socket_addr.SocketAddr.{SocketAddr}
+use Rattle.stun_types.specs.declared.transmit.Transmit.{Transmit}
 use Rattle.stun_types.specs.declared.transport.TransportType.{TransportType}
 use Rattle.turn_client_proto.specs.Api.declared.answer.TurnPollRet.{TurnPollRet}
 use Rattle.turn_client_proto.specs.Api.declared.answer.TurnPollRet.TheVariants as poll
@@ -15,26 +16,29 @@ use Rattle.turn_client_proto.specs.Api.declared.error.CreatePermissionError.{Cre
 use Rattle.turn_client_proto.specs.Api.declared.error.CreatePermissionError.TheVariants as not_permitted
 use Rattle.turn_client_proto.specs.Api.declared.error.DeleteError.{DeleteError}
 use Rattle.turn_client_proto.specs.Api.declared.error.DeleteError.TheVariants as not_deleted
+use Rattle.turn_client_proto.specs.Api.declared.error.SendError.{SendError}
 use Rattle.turn_client_proto.specs.Api.declared.event.TurnEvent.{TurnEvent}
 use Rattle.turn_client_proto.specs.Binding.{IsBindAnswered}
 use Rattle.turn_client_proto.specs.Deleting.{IsDeleteAnswered}
 use Rattle.turn_client_proto.specs.Drawing.{sent_of}
-use Rattle.turn_client_proto.specs.Kept.{Protocol}
+use Rattle.turn_client_proto.specs.Api.Payloads.{PeerPayload}
+use Rattle.turn_client_proto.specs.Kept.{Kept, Leaves, Protocol}
 use Rattle.turn_client_proto.specs.Permitting.{IsPermissionAnswered}
 use Rattle.turn_client_proto.specs.Polling.{IsPolled}
-use Rattle.turn_desk_world.specs.Copies.{IsCopy}
+use Rattle.turn_desk_world.specs.Copies.{AreAlike, BothData, BothGivenBack, BothHandled, BothReports, IsCopy}
 use Rattle.turn_client_proto_steps.proofs.Lists.{inside}
 use Rattle.turn_client_proto_steps.proofs.Once.Calling.{delete_same, permission_same}
 use Rattle.turn_client_proto_steps.proofs.Once.Channels.{bind_same}
 use Rattle.turn_client_proto_steps.proofs.Once.Drawing.{draw_same}
 use Rattle.turn_client_proto_steps.proofs.Once.Polling.{poll_same}
-use Rattle.turn_desk_world.proofs.Receiving.{received_same}
+use Rattle.turn_client_proto_steps.proofs.Once.Sending.{send_same}
+use Rattle.turn_desk_world.proofs.Receiving.{kept_same, received_same}
 use Rattle.turn_desk_event.specs.declared.answer.Answer.{Answer}
 use Rattle.turn_desk_event.specs.declared.answer.Answer.TheVariants as answer
-use Rattle.turn_desk_event.specs.declared.answer.Refusal.TheVariants.{BindChannel as BindRefused, CreatePermission as PermissionRefused, Delete as DeleteRefused}
+use Rattle.turn_desk_event.specs.declared.answer.Refusal.TheVariants.{BindChannel as BindRefused, CreatePermission as PermissionRefused, Delete as DeleteRefused, Send as SendRefused}
 use Rattle.turn_desk_event.specs.declared.event.ClientCall.{ClientCall}
 use Rattle.turn_desk_event.specs.declared.event.ClientCall.TheVariants as call
-use Rattle.turn_desk_world.specs.Calls.{AreChannelsTold, ArePermissionsTold, IsBindTold, IsCalled, IsDeleteTold, IsDrawnAs, IsEndTold, IsEventTold, IsFed, IsHaveTold, IsPermissionTold, IsPolledAs, IsRelayedTold, IsTold}
+use Rattle.turn_desk_world.specs.Calls.{AreChannelsTold, ArePermissionsTold, IsBindTold, IsCalled, IsDeleteTold, IsDrawnAs, IsEndTold, IsEventTold, IsFed, IsHaveTold, IsPermissionTold, IsPolledAs, IsRelayedTold, IsSendTold, IsTold}
 use Rattle.turn_desk_world.specs.Determined.{IsSame}
 use Rattle.turn_desk_world.specs.Runs.{IsAtClient, IsInRange, is_in_range}
 
@@ -158,6 +162,25 @@ module _ (old : Protocol) (now : ℕ) where
     unfolding IsDefinite
     binds one other new left a b = bind_same old transport peer now one other new left a.0 b.0 a.1 b.1
 
+-- ---- `send_to`
+
+sent_same : (transport : TransportType) (to : SocketAddr) (bytes : List ℕ) (old : Protocol) (now : ℕ) (ret again : Answer) (new other : Protocol)
+    → IsSendTold ret transport to bytes old now new → IsSendTold again transport to bytes old now other → AreOne ret again new other
+sent_same transport to bytes old now (answer.Transmit one) (answer.Transmit two) new other a b =
+    let same = send_same old transport to bytes now (Ok (Some (sent_of one))) (Ok (Some (sent_of two))) new other a b in
+    (Prim.cc same.0, same.1)
+sent_same transport to bytes old now (answer.Transmit one) (answer.Refused (SendRefused error)) new other a b =
+    absurd (let never : ⊥ = Prim.cc (send_same old transport to bytes now (Ok (Some (sent_of one))) (Err error) new other a b.0).0 in never)
+sent_same transport to bytes old now (answer.Refused (SendRefused error)) (answer.Transmit two) new other a b =
+    absurd (let never : ⊥ = Prim.cc (send_same old transport to bytes now (Err error) (Ok (Some (sent_of two))) new other a.0 b).0 in never)
+sent_same transport to bytes old now (answer.Refused (SendRefused error)) (answer.Refused (SendRefused other_error)) new other a b =
+    let same = send_same old transport to bytes now (Err error) (Err other_error) new other a.0 b.0 in
+    let errors : error ≡ other_error = Prim.cc same.0 in
+    (ap (λ (e : SendError). answer.Refused (SendRefused e)) errors, same.1)
+sent_same transport to bytes old now (answer.Transmit one) _ new other a b = absurd b
+sent_same transport to bytes old now (answer.Refused (SendRefused error)) _ new other a b = absurd b
+sent_same transport to bytes old now _ again new other a b = absurd a
+
 -- ---- getters, events and ends
 
 event_told : (old : Protocol) (ret again : Answer) (new other : Protocol) → IsEventTold ret old new → IsEventTold again old other → AreOne ret again new other
@@ -199,34 +222,48 @@ end_told old answer.Done answer.Done new other a b = (refl, a ∙ sym b)
 end_told old answer.Done _ new other a b = absurd b
 end_told old _ again new other a b = absurd a
 
-pub called_once : (what : ClientCall) (old : Protocol) (now : ℕ) (ret again : Answer) (new other : Protocol) → IsCalled what ret old now new → IsCalled what again old now other → AreOne ret again new other
+called : (what : ClientCall) (old : Protocol) (now : ℕ) (ret again : Answer) (new other : Protocol) → IsCalled what ret old now new → IsCalled what again old now other → AreOne ret again new other
 unfolding IsCalled
-called_once call.Poll old now ret again new other a b = polled old now ret again new other a b
-called_once call.PollEvent old now ret again new other a b = event_told old ret again new other a b
-called_once call.Delete old now ret again new other a b = by_definite answer_of_deletion (Deletes old now) (deletes old now) ret again new other (by_deletion old now ret new a) (by_deletion old now again other b)
-called_once (call.CreatePermission transport ip) old now ret again new other a b =
+called call.Poll old now ret again new other a b = polled old now ret again new other a b
+called call.PollEvent old now ret again new other a b = event_told old ret again new other a b
+called call.Delete old now ret again new other a b = by_definite answer_of_deletion (Deletes old now) (deletes old now) ret again new other (by_deletion old now ret new a) (by_deletion old now again other b)
+called (call.CreatePermission transport ip) old now ret again new other a b =
     by_definite answer_of_permission (Permits old now transport ip) (permits old now transport ip) ret again new other (by_permission old now transport ip ret new a) (by_permission old now transport ip again other b)
-called_once (call.HavePermission transport ip) old now ret again new other a b = have_told transport ip old ret again new other a b
-called_once (call.Permissions transport relayed) old now ret again new other a b = permissions_told transport relayed old ret again new other a b
-called_once (call.BindChannel transport peer) old now ret again new other a b =
+called (call.HavePermission transport ip) old now ret again new other a b = have_told transport ip old ret again new other a b
+called (call.Permissions transport relayed) old now ret again new other a b = permissions_told transport relayed old ret again new other a b
+called (call.BindChannel transport peer) old now ret again new other a b =
     by_definite answer_of_binding (Binds old now transport peer) (binds old now transport peer) ret again new other (by_binding old now transport peer ret new a) (by_binding old now transport peer again other b)
-called_once call.Channels old now ret again new other a b = channels_told old ret again new other a b
-called_once call.ProtocolError old now ret again new other a b = end_told old ret again new other a b
-called_once call.RelayedAddresses old now ret again new other a b = relayed_told old ret again new other a b
+called call.Channels old now ret again new other a b = channels_told old ret again new other a b
+called (call.SendTo transport to bytes) old now ret again new other a b = sent_same transport to bytes.items old now ret again new other a b
+called call.ProtocolError old now ret again new other a b = end_told old ret again new other a b
+called call.RelayedAddresses old now ret again new other a b = relayed_told old ret again new other a b
+
+-- a call that leaves the stream as it is
+leaves : (Does : Answer → Protocol → Protocol → Type 0) → ((old : Protocol) (ret again : Answer) (new other : Protocol) → Does ret old new → Does again old other → AreOne ret again new other)
+    → (old : Kept) (ret again : Answer) (new other : Kept) → Leaves (Does ret) old new → Leaves (Does again) old other → AreOne ret again new other
+leaves Does once old ret again new other a b =
+    let same = once old.core ret again new.core other.core a.0 b.0 in
+    (same.0, kept_same new other same.1 (a.1 ∙ sym b.1))
+
+pub called_once : (what : ClientCall) (old : Kept) (now : ℕ) (ret again : Answer) (new other : Kept) → Leaves (λ p q. IsCalled what ret p now q) old new → Leaves (λ p q. IsCalled what again p now q) old other → AreOne ret again new other
+called_once what old now ret again new other a b = leaves (λ x p q. IsCalled what x p now q) (λ p x y q r. called what p now x y q r) old ret again new other a b
 
 -- ---- what is sent
 
-pub drawn_once : (old : Protocol) (now : ℕ) (ret again : Answer) (new other : Protocol) → IsDrawnAs ret old now new → IsDrawnAs again old now other → AreOne ret again new other
+drawn : (old : Protocol) (now : ℕ) (ret again : Answer) (new other : Protocol) → IsDrawnAs ret old now new → IsDrawnAs again old now other → AreOne ret again new other
 unfolding IsDrawnAs
-drawn_once old now (answer.Transmit one) (answer.Transmit two) new other a b =
+drawn old now (answer.Transmit one) (answer.Transmit two) new other a b =
     let same = draw_same old now (Some (sent_of one)) (Some (sent_of two)) new other a b in
     (inside same.0, same.1)
-drawn_once old now (answer.Transmit one) answer.Nothing new other a b = absurd (let never : ⊥ = Prim.cc (draw_same old now (Some (sent_of one)) None new other a b).0 in never)
-drawn_once old now answer.Nothing (answer.Transmit two) new other a b = absurd (let never : ⊥ = Prim.cc (draw_same old now None (Some (sent_of two)) new other a b).0 in never)
-drawn_once old now answer.Nothing answer.Nothing new other a b = (refl, (draw_same old now None None new other a b).1)
-drawn_once old now (answer.Transmit one) _ new other a b = absurd b
-drawn_once old now answer.Nothing _ new other a b = absurd b
-drawn_once old now _ again new other a b = absurd a
+drawn old now (answer.Transmit one) answer.Nothing new other a b = absurd (let never : ⊥ = Prim.cc (draw_same old now (Some (sent_of one)) None new other a b).0 in never)
+drawn old now answer.Nothing (answer.Transmit two) new other a b = absurd (let never : ⊥ = Prim.cc (draw_same old now None (Some (sent_of two)) new other a b).0 in never)
+drawn old now answer.Nothing answer.Nothing new other a b = (refl, (draw_same old now None None new other a b).1)
+drawn old now (answer.Transmit one) _ new other a b = absurd b
+drawn old now answer.Nothing _ new other a b = absurd b
+drawn old now _ again new other a b = absurd a
+
+pub drawn_once : (old : Kept) (now : ℕ) (ret again : Answer) (new other : Kept) → Leaves (λ p q. IsDrawnAs ret p now q) old new → Leaves (λ p q. IsDrawnAs again p now q) old other → AreOne ret again new other
+drawn_once old now ret again new other a b = leaves (λ x p q. IsDrawnAs x p now q) (λ p x y q r. drawn p now x y q r) old ret again new other a b
 
 -- ---- what comes
 
@@ -238,7 +275,33 @@ told_ignored : (came : _) (ret : Answer) → IsTold (recv.Ignored came) ret → 
 told_ignored came answer.Ignored is = refl
 told_ignored came _ is = absurd is
 
-pub fed_once : (old : Protocol) (bytes : List ℕ) (from to : SocketAddr) (now : ℕ) (ret again : Answer) (new other : Protocol) → IsFed ret old bytes from to now new → IsFed again old bytes from to now other → AreOne ret again new other
+told_data : (given : PeerPayload) (ret : Answer) → IsTold (recv.PeerData given) ret → ret ≡ answer.Peer (record given { is_owned = true })
+told_data given (answer.Peer owned) is = ap (λ (g : PeerPayload). answer.Peer g) is
+told_data given _ is = absurd is
+
+told_report : (transport : TransportType) (peer : SocketAddr) (kind code details : ℕ) (ret : Answer) → IsTold (recv.PeerIcmp transport peer kind code details) ret → ret ≡ answer.Icmp transport peer kind code details
+told_report transport peer kind code details (answer.Icmp t p k c d) is = cc
+told_report transport peer kind code details _ is = absurd is
+
+-- what is told of one datagram, wherever its bytes lie, is the same
+told_alike : (came copy : Transmit (Bor (List ℕ))) (took retook : TurnRecvRet (Bor (List ℕ))) (ret again : Answer) → AreAlike came copy took retook → IsTold took ret → IsTold retook again → ret ≡ again
+told_alike came copy took retook ret again alike a b = by alike
+  where
+    first : (r : TurnRecvRet (Bor (List ℕ))) → took ≡ r → IsTold r ret
+    first r is = subst (λ (x : TurnRecvRet (Bor (List ℕ))). IsTold x ret) is a
+
+    second : (r : TurnRecvRet (Bor (List ℕ))) → retook ≡ r → IsTold r again
+    second r is = subst (λ (x : TurnRecvRet (Bor (List ℕ))). IsTold x again) is b
+
+    by : AreAlike came copy took retook → ret ≡ again
+    by (BothHandled x y) = told_handled ret (first recv.Handled x) ∙ sym (told_handled again (second recv.Handled y))
+    by (BothGivenBack x y) = told_ignored came ret (first (recv.Ignored came) x) ∙ sym (told_ignored copy again (second (recv.Ignored copy) y))
+    by (BothData given x y) = told_data given ret (first (recv.PeerData given) x) ∙ sym (told_data given again (second (recv.PeerData given) y))
+    by (BothReports transport peer kind code details x y) =
+        told_report transport peer kind code details ret (first (recv.PeerIcmp transport peer kind code details) x)
+        ∙ sym (told_report transport peer kind code details again (second (recv.PeerIcmp transport peer kind code details) y))
+
+pub fed_once : (old : Kept) (bytes : List ℕ) (from to : SocketAddr) (now : ℕ) (ret again : Answer) (new other : Kept) → IsFed ret old bytes from to now new → IsFed again old bytes from to now other → AreOne ret again new other
 fed_once old bytes from to now ret again new other a b =
     let copy : IsCopy (λ (x : Bor (List ℕ)). x.now) a.came b.came = record {
       bytes = b.bytes_are ∙ sym a.bytes_are;
@@ -249,22 +312,12 @@ fed_once old bytes from to now ret again new other a b =
     let ample = λ (e : a.took ≡ recv.NoMemory a.came). subst (λ (r : TurnRecvRet (Bor (List ℕ))). IsTold r ret) e a.told in
     let enough = λ (e : b.took ≡ recv.NoMemory b.came). subst (λ (r : TurnRecvRet (Bor (List ℕ))). IsTold r again) e b.told in
     let same = received_same (λ (x : Bor (List ℕ)). x.now) old a.came b.came now a.took b.took new other ample enough copy a.received b.received in
-    equal_one ret again new other (
-      elim same.0 [
-        | inl both ↦
-            told_handled ret (subst (λ (r : TurnRecvRet (Bor (List ℕ))). IsTold r ret) both.0 a.told)
-            ∙ sym (told_handled again (subst (λ (r : TurnRecvRet (Bor (List ℕ))). IsTold r again) both.1 b.told))
-        | inr both ↦
-            told_ignored a.came ret (subst (λ (r : TurnRecvRet (Bor (List ℕ))). IsTold r ret) both.0 a.told)
-            ∙ sym (told_ignored b.came again (subst (λ (r : TurnRecvRet (Bor (List ℕ))). IsTold r again) both.1 b.told))
-      ],
-      same.1,
-    )
+    equal_one ret again new other (told_alike a.came b.came a.took b.took ret again same.0 a.told b.told, same.1)
 
 -- ---- an event of the client
 
-module _ (now : ℕ) (Does : Answer → Protocol → Protocol → Type 0) (once : (old : Protocol) (ret again : Answer) (new other : Protocol) → Does ret old new → Does again old other → AreOne ret again new other) where
-  in_range : (old : Protocol) (ret again : Answer) (new other : Protocol) → IsInRange now (λ p q. Does ret p q) old ret new → IsInRange now (λ p q. Does again p q) old again other → AreOne ret again new other
+module _ (now : ℕ) (Does : Answer → Kept → Kept → Type 0) (once : (old : Kept) (ret again : Answer) (new other : Kept) → Does ret old new → Does again old other → AreOne ret again new other) where
+  in_range : (old : Kept) (ret again : Answer) (new other : Kept) → IsInRange now (λ p q. Does ret p q) old ret new → IsInRange now (λ p q. Does again p q) old again other → AreOne ret again new other
   unfolding IsInRange
   in_range old ret again new other a b =
       elim (is_in_range now) as (λ (t : Bool). MatchBool t (Does ret old new) ((ret ≡ answer.OutOfRange) × (new ≡ old)) → MatchBool t (Does again old other) ((again ≡ answer.OutOfRange) × (other ≡ old)) → AreOne ret again new other) [
@@ -272,11 +325,11 @@ module _ (now : ℕ) (Does : Answer → Protocol → Protocol → Type 0) (once 
         | false ↦ λ x y. equal_one ret again new other (x.0 ∙ sym y.0, x.1 ∙ sym y.1)
       ] a b
 
-  pub at_client_once : (old : Option Protocol) (ret again : Answer) (new other : Option Protocol) → IsAtClient now (λ p q. Does ret p q) old ret new → IsAtClient now (λ p q. Does again p q) old again other → AreOne ret again new other
+  pub at_client_once : (old : Option Kept) (ret again : Answer) (new other : Option Kept) → IsAtClient now (λ p q. Does ret p q) old ret new → IsAtClient now (λ p q. Does again p q) old again other → AreOne ret again new other
   unfolding IsAtClient
   at_client_once None ret again new other a b = equal_one ret again new other (a.0 ∙ sym b.0, a.1 ∙ sym b.1)
   at_client_once (Some old) ret again None other a b = absurd a
   at_client_once (Some old) ret again (Some new) None a b = absurd b
   at_client_once (Some old) ret again (Some new) (Some other) a b =
       let same = in_range old ret again new other a b in
-      (same.0, ap (λ (p : Protocol). Some p) same.1)
+      (same.0, ap (λ (p : Kept). Some p) same.1)

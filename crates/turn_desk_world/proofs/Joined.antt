@@ -5,7 +5,7 @@ use Rattle.std.specs.Prelude.{IfOk, Result, Ok, Err}
 use Rattle.std.proofs.lemmas.List.{take_more}
 use Rattle.turn_desk_event.specs.declared.answer.Answer.{Answer}
 use Rattle.std.specs.declared.net.socket_addr.SocketAddr.{SocketAddr}
-use Rattle.turn_client_proto.specs.Kept.{Protocol}
+use Rattle.turn_client_proto.specs.Kept.{Kept, Leaves}
 use Rattle.turn_desk_steps.specs.State.{State}
 use Rattle.turn_desk_event.specs.declared.event.ClientCall.{ClientCall}
 use Rattle.turn_desk_event.specs.declared.event.Event.{Event}
@@ -62,18 +62,18 @@ on_answer P Q (Ok a) f is = f a is
 on_answer P Q (Err e) f is = tt
 
 -- an event of the client, of which the client alone may have changed
-module _ {E : Type 0} (desk : State) (client new : Option Protocol) (failed : Bool) (result : Result Answer E) where
+module _ {E : Type 0} (desk : State) (client new : Option Kept) (failed : Bool) (result : Result Answer E) where
   abbrev before : World
   before = record { desk = desk; client = client; is_failed = failed }
 
   abbrev after : World
   after = record { desk = desk; client = new; is_failed = failed }
 
-  pub called : (call : ClientCall) (now : ℕ) → IfOk result (λ a. IsAtClient now (λ p q. IsCalled call a p now q) client a new)
+  pub called : (call : ClientCall) (now : ℕ) → IfOk result (λ a. IsAtClient now (Leaves (λ p q. IsCalled call a p now q)) client a new)
       → IfOk result (λ a. IsStep (Call call now) before a after)
   called call now is = on_answer _ _ result (λ a h. (h, refl)) is
 
-  pub drew : (now : ℕ) → IfOk result (λ a. IsAtClient now (λ p q. IsDrawnAs a p now q) client a new) → IfOk result (λ a. IsStep (Draw now) before a after)
+  pub drew : (now : ℕ) → IfOk result (λ a. IsAtClient now (Leaves (λ p q. IsDrawnAs a p now q)) client a new) → IfOk result (λ a. IsStep (Draw now) before a after)
   drew now is = on_answer _ _ result (λ a h. (h, refl)) is
 
   pub fed : (bytes : Vec ℕ Global) (from to : SocketAddr) (now : ℕ) → IfOk result (λ a. IsAtClient now (λ p q. IsFed a p bytes.items from to now q) client a new)

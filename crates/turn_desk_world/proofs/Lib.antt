@@ -6,6 +6,7 @@ pub mod Bytes
 pub mod Chain
 pub mod Counting
 pub mod Determined
+pub mod Handed
 pub mod Joined
 pub mod Once
 pub mod Receiving

@@ -6,7 +6,7 @@ use Rattle.std.specs.List.{AllByRecursion, filter}
 use Rattle.std.specs.declared.net.socket_addr.SocketAddr.{SocketAddr}
 use Rattle.stun_proto.specs.Claims.{claimed}
 use Rattle.stun_proto.specs.Users.{HashesDiffer, NamesOne}
-use Rattle.turn_client_proto.specs.Kept.{Protocol}
+use Rattle.turn_client_proto.specs.Kept.{Kept, Leaves}
 use Rattle.turn_desk_steps.proofs.Answering.{answer_same, hashes_differ_still}
 use Rattle.turn_desk_steps.specs.State.{State}
 use Rattle.turn_desk_event.specs.declared.answer.Answer.{Answer}
@@ -43,7 +43,7 @@ module _ (old : State) (bytes : List ℕ) (from : SocketAddr) (now : ℕ) (decis
 -- ---- one event
 
 of_client : (old new other : World) → IsOfClient old new → IsOfClient old other → new.client ≡ other.client → new ≡ other
-of_client old new other a b same = a ∙ ap (λ (c : Option Protocol). record old { client = c }) same ∙ sym b
+of_client old new other a b same = a ∙ ap (λ (c : Option Kept). record old { client = c }) same ∙ sym b
 
 -- an event of the client, or one of a desk no two of whose users have the same hash
 abbrev pub IsSure : World → Event → Type 0
@@ -52,10 +52,10 @@ IsSure w _ = Unit {0}
 
 step_once : (event : Event) (old : World) (ret again : Answer) (new other : World) → IsSure old event → IsStep event old ret new → IsStep event old again other → IsSame ret again × (new ≡ other)
 step_once (Call what now) old ret again new other sure a b =
-    let same = at_client_once now (λ x p q. IsCalled what x p now q) (λ p x y q r. called_once what p now x y q r) old.client ret again new.client other.client a.0 b.0 in
+    let same = at_client_once now (λ x p q. Leaves (λ a b. IsCalled what x a now b) p q) (λ p x y q r. called_once what p now x y q r) old.client ret again new.client other.client a.0 b.0 in
     (same.0, of_client old new other a.1 b.1 same.1)
 step_once (Draw now) old ret again new other sure a b =
-    let same = at_client_once now (λ x p q. IsDrawnAs x p now q) (λ p x y q r. drawn_once p now x y q r) old.client ret again new.client other.client a.0 b.0 in
+    let same = at_client_once now (λ x p q. Leaves (λ a b. IsDrawnAs x a now b) p q) (λ p x y q r. drawn_once p now x y q r) old.client ret again new.client other.client a.0 b.0 in
     (same.0, of_client old new other a.1 b.1 same.1)
 step_once (ToClient bytes from to now) old ret again new other sure a b =
     let same = at_client_once now (λ x p q. IsFed x p bytes.items from to now q) (λ p x y q r. fed_once p bytes.items from to now x y q r) old.client ret again new.client other.client a.0 b.0 in

@@ -1,7 +1,7 @@
 -- Each side of a world for itself.
 use Rattle.std.proofs.Common.{◌≡◌, not, List, [], ◌∷◌, Option, ap, subst}
 use Rattle.std.specs.List.{filter}
-use Rattle.turn_client_proto.specs.Kept.{Protocol}
+use Rattle.turn_client_proto.specs.Kept.{Kept}
 use Rattle.turn_desk_steps.specs.State.{State}
 use Rattle.turn_desk_event.specs.declared.answer.Answer.{Answer}
 use Rattle.turn_desk_event.specs.declared.event.Event.{Event}
@@ -10,7 +10,7 @@ use Rattle.turn_desk_world.specs.Model.{World}
 use Rattle.turn_desk_world.specs.Runs.{IsClientRun, IsDeskRun, IsRun, is_at_desk}
 
 -- a world with this client, and one with this desk
-abbrev with_client : Option Protocol → World → World
+abbrev with_client : Option Kept → World → World
 with_client client w = record w { client = client }
 
 abbrev with_desk : State → World → World
@@ -18,11 +18,11 @@ with_desk desk w = record w { desk = desk }
 
 -- ---- the desk's events
 
-desk_behind : (pairs : List (Event × Answer)) (old next : World) (c : Option Protocol) (last : World) → next ≡ with_client next.client old
+desk_behind : (pairs : List (Event × Answer)) (old next : World) (c : Option Kept) (last : World) → next ≡ with_client next.client old
     → IsRun (with_client c next) pairs last → IsRun (with_client c old) pairs last
 desk_behind pairs old next c last is run = subst (λ (w : World). IsRun (with_client c w) pairs last) is run
 
-desk_alone : (pairs : List (Event × Answer)) (c : Option Protocol) (old new : World) → IsRun old pairs new → IsRun (with_client c old) (filter is_at_desk pairs) (with_client c new)
+desk_alone : (pairs : List (Event × Answer)) (c : Option Kept) (old new : World) → IsRun old pairs new → IsRun (with_client c old) (filter is_at_desk pairs) (with_client c new)
 unfolding IsRun
 desk_alone [] c old new run = ap (with_client c) run
 desk_alone ((Call call now, answer) ∷ pairs) c old new run =

@@ -1,5 +1,5 @@
 -- What a client answers in a world.
-use Rattle.std.specs.Prelude.{◌≡◌, ◌≢◌, ℕ, List, [], ◌∷◌, Some, None, Ok, Err}
+use Rattle.std.specs.Prelude.{◌≡◌, ◌≢◌, ℕ, true, List, [], ◌∷◌, Some, None, Ok, Err}
 use Rattle.std.specs.Borrow.{Bor}
 use Rattle.std.specs.declared.net.ip_addr.IpAddr.{IpAddr}
 use Rattle.std.specs.declared.net.socket_addr.SocketAddr.{SocketAddr}
@@ -12,6 +12,7 @@ use Rattle.turn_client_proto.specs.Api.declared.answer.TurnRecvRet.TheVariants a
 use Rattle.turn_client_proto.specs.Api.declared.error.BindChannelError.TheVariants as not_bound
 use Rattle.turn_client_proto.specs.Api.declared.error.CreatePermissionError.TheVariants as not_permitted
 use Rattle.turn_client_proto.specs.Api.declared.error.DeleteError.TheVariants as not_deleted
+use Rattle.turn_client_proto.specs.Api.declared.error.SendError.TheVariants as not_sent
 use Rattle.turn_client_proto.specs.Getters.{channels_of, has_permission, permissions_of, relayed_of}
 use Rattle.turn_client_proto.specs.Receipts.{IsReceived}
 use Rattle.turn_client_proto.specs.Binding.{IsBindAnswered}
@@ -20,12 +21,13 @@ use Rattle.turn_client_proto.specs.Drawing.{IsDrawn, sent_of}
 use Rattle.turn_client_proto.specs.Ending.{ended}
 use Rattle.turn_client_proto.specs.Permitting.{IsPermissionAnswered}
 use Rattle.turn_client_proto.specs.Polling.{IsPolled}
-use Rattle.turn_client_proto.specs.Kept.{Protocol}
+use Rattle.turn_client_proto.specs.Kept.{Kept, Protocol}
+use Rattle.turn_client_proto.specs.Sending.{IsSendAnswered}
 use Rattle.turn_desk_event.specs.declared.answer.Answer.{Answer}
 use Rattle.turn_desk_event.specs.declared.answer.Answer.TheVariants as answer
-use Rattle.turn_desk_event.specs.declared.answer.Refusal.TheVariants.{BindChannel as BindRefused, CreatePermission as PermissionRefused, Delete as DeleteRefused}
+use Rattle.turn_desk_event.specs.declared.answer.Refusal.TheVariants.{BindChannel as BindRefused, CreatePermission as PermissionRefused, Delete as DeleteRefused, Send as SendRefused}
 use Rattle.turn_desk_event.specs.declared.event.ClientCall.{ClientCall}
-use Rattle.turn_desk_event.specs.declared.event.ClientCall.TheVariants.{Poll, PollEvent, Delete, CreatePermission, HavePermission, Permissions, BindChannel, Channels, ProtocolError, RelayedAddresses}
+use Rattle.turn_desk_event.specs.declared.event.ClientCall.TheVariants.{Poll, PollEvent, Delete, CreatePermission, HavePermission, Permissions, BindChannel, Channels, SendTo, ProtocolError, RelayedAddresses}
 
 -- ---- calls
 
@@ -81,6 +83,14 @@ abbrev pub AreChannelsTold : Answer → Protocol → Protocol → Type 0
 AreChannelsTold (answer.Channels list) old new = (list.items ≡ channels_of old) × (new ≡ old)
 AreChannelsTold _ old new = ⊥
 
+-- `send_to`, with its bytes written; want of memory is no answer
+abbrev pub IsSendTold : Answer → TransportType → SocketAddr → List ℕ → Protocol → ℕ → Protocol → Type 0
+IsSendTold (answer.Transmit transmit) transport to bytes old now new =
+    IsSendAnswered old transport to bytes now (Ok (Some (sent_of transmit))) new
+IsSendTold (answer.Refused (SendRefused error)) transport to bytes old now new =
+    IsSendAnswered old transport to bytes now (Err error) new × (error ≢ not_sent.NoMemory)
+IsSendTold _ transport to bytes old now new = ⊥
+
 -- `protocol_error`
 abbrev pub IsEndTold : Answer → Protocol → Protocol → Type 0
 IsEndTold answer.Done old new = new ≡ ended old
@@ -101,6 +111,7 @@ IsCalled (HavePermission transport ip) answer old now new = IsHaveTold answer tr
 IsCalled (Permissions transport relayed) answer old now new = ArePermissionsTold answer transport relayed old new
 IsCalled (BindChannel transport peer) answer old now new = IsBindTold answer transport peer old now new
 IsCalled Channels answer old now new = AreChannelsTold answer old new
+IsCalled (SendTo transport to bytes) answer old now new = IsSendTold answer transport to bytes.items old now new
 IsCalled ProtocolError answer old now new = IsEndTold answer old new
 IsCalled RelayedAddresses answer old now new = IsRelayedTold answer old new
 
@@ -116,19 +127,18 @@ IsDrawnAs _ old now new = ⊥
 abbrev pub IsTold : TurnRecvRet (Bor (List ℕ)) → Answer → Type 0
 IsTold recv.Handled answer.Handled = Unit {0}
 IsTold (recv.Ignored came) answer.Ignored = Unit {0}
-IsTold (recv.PeerData held) (answer.Peer owned) =
-    (owned.payload ≡ held.payload) × (owned.transport ≡ held.transport) × (owned.peer ≡ held.peer)
+IsTold (recv.PeerData held) (answer.Peer owned) = owned ≡ record held { is_owned = true }
 IsTold (recv.PeerIcmp t p k c d) (answer.Icmp transport peer kind code report) =
     (transport ≡ t) × (peer ≡ p) × (kind ≡ k) × (code ≡ c) × (report ≡ d)
 IsTold _ _ = ⊥
 
 -- bytes came to a client by its own transport: `recv`, by its contract
-pub record IsFed (answer : Answer) (old : Protocol) (bytes : List ℕ) (from to : SocketAddr) (now : ℕ)
-    (new : Protocol) : Type 0 where
+pub record IsFed (answer : Answer) (old : Kept) (bytes : List ℕ) (from to : SocketAddr) (now : ℕ)
+    (new : Kept) : Type 0 where
   pub are_bytes : AreBytes bytes
   pub came : Transmit (Bor (List ℕ))
   pub bytes_are : came.bytes.now ≡ bytes
-  pub transport_is : came.transport ≡ old.agent.transport
+  pub transport_is : came.transport ≡ old.core.agent.transport
   pub from_is : came.from ≡ from
   pub to_is : came.to ≡ to
   pub took : TurnRecvRet (Bor (List ℕ))

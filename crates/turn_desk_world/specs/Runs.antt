@@ -2,7 +2,7 @@
 use Rattle.std.specs.Prelude.{◌≡◌, ℕ, ◌^◌, nat_le, Bool, true, false, not, List, [], ◌∷◌, filter, Option, Some, None}
 use Rattle.std.specs.Bool.{MatchBool}
 use Rattle.stun_proto.specs.Users.{HashesDiffer}
-use Rattle.turn_client_proto.specs.Kept.{Protocol}
+use Rattle.turn_client_proto.specs.Kept.{Kept, Leaves}
 use Rattle.turn_desk_world.specs.Calls.{IsCalled, IsDrawnAs, IsFed}
 use Rattle.turn_desk_world.specs.Desks.{IsDeskAnswered}
 use Rattle.turn_desk_world.specs.Determined.{AreSame, HaveSameEvents}
@@ -17,12 +17,12 @@ abbrev pub is_in_range : ℕ → Bool
 is_in_range now = nat_le now (2 ^ 62)
 
 -- something happens to a client, where the moment is in range; else nothing does
-unfoldable pub IsInRange : ℕ → (Protocol → Protocol → Type 0) → Protocol → Answer → Protocol → Type 0
+unfoldable pub IsInRange : ℕ → (Kept → Kept → Type 0) → Kept → Answer → Kept → Type 0
 IsInRange now Does before answer after =
     MatchBool (is_in_range now) (Does before after) ((answer ≡ OutOfRange) × (after ≡ before))
 
 -- the same, where there is a client; else nothing does
-unfoldable pub IsAtClient : ℕ → (Protocol → Protocol → Type 0) → Option Protocol → Answer → Option Protocol → Type 0
+unfoldable pub IsAtClient : ℕ → (Kept → Kept → Type 0) → Option Kept → Answer → Option Kept → Type 0
 IsAtClient now Does None answer new = (answer ≡ OutOfRange) × (new ≡ None)
 IsAtClient now Does (Some before) answer None = ⊥
 IsAtClient now Does (Some before) answer (Some after) = IsInRange now Does before answer after
@@ -34,9 +34,9 @@ IsOfClient old new = new ≡ record old { client = new.client }
 -- an event was answered, by the contracts of the client's calls and of the desk's
 abbrev pub IsStep : Event → World → Answer → World → Type 0
 IsStep (Call call now) old answer new =
-    IsAtClient now (λ p q. IsCalled call answer p now q) old.client answer new.client × IsOfClient old new
+    IsAtClient now (Leaves (λ p q. IsCalled call answer p now q)) old.client answer new.client × IsOfClient old new
 IsStep (Draw now) old answer new =
-    IsAtClient now (λ p q. IsDrawnAs answer p now q) old.client answer new.client × IsOfClient old new
+    IsAtClient now (Leaves (λ p q. IsDrawnAs answer p now q)) old.client answer new.client × IsOfClient old new
 IsStep (ToClient bytes from to now) old answer new =
     IsAtClient now (λ p q. IsFed answer p bytes.items from to now q) old.client answer new.client × IsOfClient old new
 IsStep (ToDesk bytes from now decision seed) old answer new =

@@ -10,7 +10,7 @@ use Rattle.turn_client_proto.specs.Runs.{Step, AtEach, IsCounted, IsLawful, Lead
 use Rattle.turn_client_proto.specs.Words.{Words}
 use Rattle.turn_client_proto.specs.Beginning.{IsNew}
 use Rattle.turn_client_proto.specs.Config.{Config}
-use Rattle.turn_client_proto.specs.Kept.{Protocol}
+use Rattle.turn_client_proto.specs.Kept.{Protocol, over_udp}
 use Rattle.turn_client_proto_steps.specs.Beginning.{first_client}
 use Rattle.turn_client_proto_steps.specs.ClientWords.{run_words}
 use Rattle.turn_client_proto_steps.specs.RunClient.{Client}
@@ -19,7 +19,7 @@ use Rattle.turn_desk_event.specs.declared.answer.Answer.{Answer}
 use Rattle.turn_desk_event.specs.declared.event.Event.{Event}
 use Rattle.turn_desk_steps.specs.DeskRun.{DeskCall, desk_words}
 use Rattle.turn_desk_world.specs.Model.{World}
-use Rattle.turn_desk_world.specs.Told.{IsFair, IsToldBy}
+use Rattle.turn_desk_world.specs.Told.{IsFair, IsToldBy, kept_by}
 
 -- the client and the desk in the words of a run
 abbrev pub words : Words Client DeskCall
@@ -28,20 +28,21 @@ words = run_words desk_words
 -- a world whose client is new, with these settings and numbers of this seed, beside any desk
 pub record BeginsNew (transport : TransportType) (here server : SocketAddr) (config : Config) (seed : List ℕ)
     (core : Protocol) (w : World) : Type 0 where
-  pub client : w.client ≡ Some core
+  pub client : w.client ≡ Some (over_udp core)
   pub new : IsNew transport here server config seed core
   pub short : length config.credentials.username ≤ longest_username
   pub few : length config.families ≤ 2
 
 -- what the answers to some events come to: each is a step of a run by the contracts, and they lead the client from one
 -- state to another; and where nothing that arrives was forged under a key of the client's, and no number is drawn twice,
--- each step is safe, nothing is answered as created twice for one request, and each relayed address, each permission and
--- each channel that is shown was granted before, a channel with that number and to that peer
+-- each step is safe: so each payload is as it was delivered in that step, and names a peer whose permission or channel the
+-- client keeps and the desk granted before; nothing is answered as created twice for one request; and each relayed
+-- address, each permission and each channel that is shown was granted before, a channel with that number and to that peer
 pub record AreSafe (first : Client) (old : World) (pairs : List (Event × Answer)) (new : World) : Type 0 where
   pub run : List (Step Client DeskCall)
   pub told : IsToldBy old pairs run new
   pub last : Client
-  pub left : new.client ≡ Some last.core
+  pub left : new.client ≡ Some (kept_by last)
   pub leads : Leads first run last
   pub lawful : AtEach (λ s _. IsLawful words s) run
   -- as many numbers count as drawn as the client's generator gave, step by step, by the places that it had
@@ -56,7 +57,7 @@ pub record AreSafe (first : Client) (old : World) (pairs : List (Event × Answer
 pub record IsAccount (first : Client) (old : World) (pairs : List (Event × Answer)) (new : World)
     (run : List (Step Client DeskCall)) (last : Client) : Type 0 where
   pub told : IsToldBy old pairs run new
-  pub left : new.client ≡ Some last.core
+  pub left : new.client ≡ Some (kept_by last)
   pub leads : Leads first run last
   pub lawful : AtEach (λ s _. IsLawful words s) run
 

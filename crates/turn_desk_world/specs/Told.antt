@@ -1,14 +1,19 @@
 -- What the events of a world and their answers are in a run of a client and a desk.
-use Rattle.std.specs.Prelude.{◌≡◌, ℕ, Bool, true, ◌++◌, List, [], ◌∷◌, map, Option, Some, None}
+use Rattle.std.specs.Prelude.{◌≡◌, ℕ, Bool, true, false, ◌++◌, List, [], ◌∷◌, map, Option, Some, None, is_none}
 use Rattle.std.specs.List.{filter_map}
 use Rattle.std.specs.declared.net.ip_addr.IpAddr.{IpAddr}
 use Rattle.std.specs.declared.net.socket_addr.SocketAddr.{SocketAddr}
 use Rattle.stun_types.specs.Addresses.{address_value}
 use Rattle.stun_types.specs.Attributes.{Attr}
-use Rattle.stun_types.specs.Grammar.{number_at}
+use Rattle.stun_types.specs.Grammar.{number_at, refusal}
 use Rattle.stun_types.specs.Xor.{xored}
 use Rattle.stun_types.specs.declared.transport.TransportType.{TransportType}
-use Rattle.turn_client_proto.specs.Messages.{Held, Allocation, Permission, Channel, Notice, Payload, FromPeer}
+use Rattle.turn_types.specs.ChannelFrames.{frame_at}
+use Rattle.turn_client_proto.specs.Api.Payloads.{PeerPayload}
+use Rattle.turn_client_proto.specs.Api.declared.answer.TurnRecvRet.{TurnRecvRet}
+use Rattle.turn_client_proto.specs.Api.declared.answer.TurnRecvRet.TheVariants as recv
+use Rattle.turn_client_proto.specs.Kept.{Kept, over_udp}
+use Rattle.turn_client_proto.specs.Messages.{Held, Allocation, Permission, Channel, Notice, Payload, FromPeer, Reported, FromChannel}
 use Rattle.turn_client_proto.specs.Runs.{Step, AtClient, AtDesk}
 use Rattle.turn_client_proto.specs.Steps.{Call}
 use Rattle.turn_client_proto.specs.Drawing.{sent_of}
@@ -31,10 +36,11 @@ use Rattle.turn_desk_world.specs.Runs.{IsStep}
 
 -- ---- what an answer tells
 
--- the bytes that the client sends
-abbrev pub bytes_sent : Answer → Option (List ℕ)
-bytes_sent (answer.Transmit transmit) = Some (sent_of transmit).bytes
-bytes_sent _ = None
+-- the bytes that the client draws, where it is asked for what it sends. What carries bytes to a peer is not drawn: it is
+-- written for the user, and may be any bytes
+abbrev pub bytes_drawn : Event → Answer → Option (List ℕ)
+bytes_drawn (event.Draw now) (answer.Transmit transmit) = Some (sent_of transmit).bytes
+bytes_drawn _ _ = None
 
 -- the desk's reply
 abbrev pub reply_in : Answer → Option (List ℕ)
@@ -46,11 +52,29 @@ abbrev pub notices_in : Answer → List Notice
 notices_in (answer.Event told) = filter_map notice_of (told ∷ [])
 notices_in _ = []
 
+-- what bytes that came give of a peer: by a message, which is an indication, or by a channel frame
+abbrev pub data_of : Bool → List ℕ → PeerPayload → Payload
+data_of true bytes given = FromPeer given.transport given.peer given.payload
+data_of false bytes given = FromChannel (frame_at bytes).id given.peer given.payload
+
+-- what the client hands over of bytes that came
+abbrev pub given_of : List ℕ → Answer → List Payload
+given_of bytes (answer.Peer given) = data_of (is_none (refusal bytes)) bytes given ∷ []
+given_of bytes (answer.Icmp transport peer kind code details) =
+    Reported transport peer (record { icmp_type = kind; code = code; details = details }) ∷ []
+given_of bytes _ = []
+
+-- the same by what `recv` answers
+abbrev pub given_by : {T : Type 0} → List ℕ → TurnRecvRet T → List Payload
+given_by bytes (recv.PeerData given) = data_of (is_none (refusal bytes)) bytes given ∷ []
+given_by bytes (recv.PeerIcmp transport peer kind code details) =
+    Reported transport peer (record { icmp_type = kind; code = code; details = details }) ∷ []
+given_by bytes _ = []
+
 -- the payloads that the client hands over
-abbrev pub payloads_in : Answer → List Payload
-payloads_in (answer.Peer peer_data) = FromPeer peer_data.transport peer_data.peer ∷ []
-payloads_in (answer.Icmp transport peer kind code report) = FromPeer transport peer ∷ []
-payloads_in _ = []
+abbrev pub payloads_in : Event → Answer → List Payload
+payloads_in (event.ToClient bytes from to now) answer = given_of bytes.items answer
+payloads_in _ answer = []
 
 -- the permissions that a call asks for, over the transport that it names
 abbrev pub permissions_listed : Event → List IpAddr → List Held
@@ -72,16 +96,24 @@ shown_in happening _ = []
 
 -- ---- a step
 
--- a call of the client, to which exactly these bytes came: it draws, tells, hands over and shows what the answer says
-pub record IsCallOf (happening : Event) (old new : World) (came : List (List ℕ)) (answer : Answer)
-    (call : Call Client) : Type 0 where
-  pub before : old.client ≡ Some call.before.core
-  pub after : new.client ≡ Some call.after.core
-  pub came_is : call.came ≡ came
-  pub handled_is : call.handled ≡ came
-  pub drawn_is : call.drawn ≡ bytes_sent answer
+-- what a client of a run keeps
+abbrev pub kept_by : Client → Kept
+kept_by c = over_udp c.core
+
+-- the bytes that come to the client
+abbrev pub arriving : Event → List (List ℕ)
+arriving (event.ToClient bytes from to now) = bytes.items ∷ []
+arriving _ = []
+
+-- a call of the client, to which exactly those bytes came: it draws, tells, hands over and shows what the answer says
+pub record IsCallOf (happening : Event) (old new : World) (answer : Answer) (call : Call Client) : Type 0 where
+  pub before : old.client ≡ Some (kept_by call.before)
+  pub after : new.client ≡ Some (kept_by call.after)
+  pub came_is : call.came ≡ arriving happening
+  pub handled_is : call.handled ≡ arriving happening
+  pub drawn_is : call.drawn ≡ bytes_drawn happening answer
   pub answered_is : call.answered ≡ notices_in answer
-  pub payloads_are : call.payloads ≡ payloads_in answer
+  pub payloads_are : call.payloads ≡ payloads_in happening answer
   pub shown_is : call.shown ≡ shown_in happening answer
 
 -- what reached the desk, and what it made of it
@@ -97,25 +129,22 @@ desk_call old bytes from now decision seed answer new = record {
   after = new.desk;
 }
 
--- a step of a run is this event with its answer
-abbrev pub IsStepBy : Event → Answer → World → Step Client DeskCall → World → Type 0
-IsStepBy (event.Call what now) answer old (AtClient c) new = IsCallOf (event.Call what now) old new [] answer c
-IsStepBy (event.Draw now) answer old (AtClient c) new = IsCallOf (event.Draw now) old new [] answer c
-IsStepBy (event.ToClient bytes from to now) answer old (AtClient c) new =
-    IsCallOf (event.ToClient bytes from to now) old new (bytes.items ∷ []) answer c
-IsStepBy (event.ToDesk bytes from now decision seed) answer old (AtDesk d) new =
-    d ≡ desk_call old bytes.items from now decision seed answer new
-IsStepBy _ answer old _ new = ⊥
+-- steps of a run, the newest first, are this event with its answer: one
+abbrev pub AreStepsBy : Event → Answer → World → List (Step Client DeskCall) → World → Type 0
+AreStepsBy (event.ToDesk bytes from now decision seed) answer old steps new =
+    steps ≡ AtDesk (desk_call old bytes.items from now decision seed answer new) ∷ []
+AreStepsBy happening answer old steps new =
+    (call : Call Client) × (steps ≡ AtClient call ∷ []) × IsCallOf happening old new answer call
 
 -- ---- a run
 
--- a step of the run is each event with its answer, the first event's step the last in the list, between worlds through
--- which the events lead by the contracts
+-- steps of the run are each event with its answer, the first event's the last in the list, between worlds through which
+-- the events lead by the contracts
 unfoldable pub IsToldBy : World → List (Event × Answer) → List (Step Client DeskCall) → World → Type 0
 IsToldBy old [] run new = (run ≡ []) × (new ≡ old)
 IsToldBy old (pair ∷ pairs) run new =
-    (next : World) × (one : Step Client DeskCall) × (later : List (Step Client DeskCall))
-    × (run ≡ later ++ one ∷ []) × IsStep pair.0 old pair.1 next × IsStepBy pair.0 pair.1 old one next
+    (next : World) × (steps later : List (Step Client DeskCall))
+    × (run ≡ later ++ steps) × IsStep pair.0 old pair.1 next × AreStepsBy pair.0 pair.1 old steps next
     × IsToldBy next pairs later new
 
 -- ---- what is taken for granted of events

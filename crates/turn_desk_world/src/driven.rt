@@ -1,9 +1,10 @@
 //! What happens to a client.
 
 ghost use Rattle.std.specs.Prelude.{◌≡◌, IfOk};
-ghost use Rattle.turn_client_proto.specs.Clients.{protocol_of};
+ghost use Rattle.turn_client_proto.specs.Clients.{kept_of};
 ghost use Rattle.turn_client_proto.specs.Getters.{channels_of, permissions_of, relayed_of};
-ghost use Rattle.turn_desk_world.specs.Calls.{IsBindTold, IsCalled, IsDeleteTold, IsDrawnAs, IsEventTold, IsFed, IsPermissionTold, IsPolledAs};
+ghost use Rattle.turn_client_proto.specs.Kept.{Leaves};
+ghost use Rattle.turn_desk_world.specs.Calls.{IsBindTold, IsCalled, IsDeleteTold, IsDrawnAs, IsEventTold, IsFed, IsPermissionTold, IsPolledAs, IsSendTold};
 ghost use Rattle.turn_desk_world.specs.Runs.{IsAtClient, IsInRange, is_in_range};
 
 use crate::typed::are_bytes;
@@ -11,9 +12,11 @@ use std::alloc::Global;
 use std::marker::Model;
 use std::net::{IpAddr, SocketAddr};
 use stun_proto::Instant;
+use stun_types::data::{Data, DataOwned};
 use stun_types::{NoMemory, Transmit, TransportType};
 use turn_client_proto::api::{
-    BindChannelError, CLIENT_END, CreatePermissionError, DeleteError, TurnPollRet, TurnRecvRet,
+    BindChannelError, CLIENT_END, CreatePermissionError, DeleteError, SendError, TurnPollRet,
+    TurnRecvRet,
 };
 use turn_client_proto::client::TurnClient;
 use turn_client_proto::prelude::TurnClientApi;
@@ -25,33 +28,37 @@ use turn_desk_event::event::ClientCall;
 fn call(
     alloc: Global,
     client: &mut TurnClient,
-    call: ClientCall,
+    call: &ClientCall,
     now: Instant,
 ) -> Result<Answer, NoMemory>
     ensures { IfOk result (λ answer.
-        IsCalled call answer (protocol_of client.old) now (protocol_of client.new)) }
+        Leaves (λ p q. IsCalled call.now answer p now q)
+        (kept_of client.old) (kept_of client.new)) }
 {
     match call {
         ClientCall::Poll => poll(client, now),
         ClientCall::PollEvent => Ok(poll_event(client)),
         ClientCall::Delete => delete(client, now),
         ClientCall::CreatePermission(transport, ip) => {
-            create_permission(client, transport, ip, now)
+            create_permission(client, *transport, *ip, now)
         }
         ClientCall::HavePermission(transport, ip) => {
-            Ok(Answer::Have(client.have_permission(transport, ip)))
+            Ok(Answer::Have(client.have_permission(*transport, *ip)))
         }
         ClientCall::Permissions(transport, relayed) => {
-            match permissions(alloc, client, transport, relayed) {
+            match permissions(alloc, client, *transport, *relayed) {
                 Ok(list) => Ok(Answer::Permissions(list)),
                 Err(error) => Err(error),
             }
         }
-        ClientCall::BindChannel(transport, peer) => bind_channel(client, transport, peer, now),
+        ClientCall::BindChannel(transport, peer) => bind_channel(client, *transport, *peer, now),
         ClientCall::Channels => match channels(alloc, client) {
             Ok(list) => Ok(Answer::Channels(list)),
             Err(error) => Err(error),
         },
+        ClientCall::SendTo(transport, peer, bytes) => {
+            send_to(alloc, client, *transport, *peer, bytes.as_slice(), now)
+        }
         ClientCall::ProtocolError => {
             client.protocol_error()?;
             Ok(Answer::Done)
@@ -66,7 +73,7 @@ fn call(
 /// The client is polled.
 fn poll(client: &mut TurnClient, now: Instant) -> Result<Answer, NoMemory>
     ensures { IfOk result (λ answer.
-        IsPolledAs answer (protocol_of client.old) now (protocol_of client.new)) }
+        Leaves (λ p q. IsPolledAs answer p now q) (kept_of client.old) (kept_of client.new)) }
 {
     match client.poll(now) {
         TurnPollRet::WaitUntil(moment) => Ok(Answer::Wait(moment)),
@@ -93,7 +100,7 @@ fn poll(client: &mut TurnClient, now: Instant) -> Result<Answer, NoMemory>
 
 /// The event that has waited longest.
 fn poll_event(client: &mut TurnClient) -> Answer
-    ensures { IsEventTold result (protocol_of client.old) (protocol_of client.new) }
+    ensures { Leaves (IsEventTold result) (kept_of client.old) (kept_of client.new) }
 {
     match client.poll_event() {
         Some(event) => Answer::Event(event),
@@ -104,7 +111,7 @@ fn poll_event(client: &mut TurnClient) -> Answer
 /// The client is to delete its allocations.
 fn delete(client: &mut TurnClient, now: Instant) -> Result<Answer, NoMemory>
     ensures { IfOk result (λ answer.
-        IsDeleteTold answer (protocol_of client.old) now (protocol_of client.new)) }
+        Leaves (λ p q. IsDeleteTold answer p now q) (kept_of client.old) (kept_of client.new)) }
 {
     match client.delete(now) {
         Ok(()) => Ok(Answer::Done),
@@ -120,8 +127,9 @@ fn create_permission(
     ip: IpAddr,
     now: Instant,
 ) -> Result<Answer, NoMemory>
-    ensures { IfOk result (λ answer. IsPermissionTold answer transport ip
-        (protocol_of client.old) now (protocol_of client.new)) }
+    ensures { IfOk result (λ answer.
+        Leaves (λ p q. IsPermissionTold answer transport ip p now q)
+        (kept_of client.old) (kept_of client.new)) }
 {
     match client.create_permission(transport, ip, now) {
         Ok(()) => Ok(Answer::Done),
@@ -138,7 +146,7 @@ fn permissions(
     relayed: SocketAddr,
 ) -> Result<Vec<IpAddr>, NoMemory>
     ensures { IfOk result (λ list.
-        list.items ≡ permissions_of transport relayed (protocol_of client.now)) }
+        list.items ≡ permissions_of transport relayed (kept_of client.now).core) }
 {
     let mut list = Vec::new(alloc);
     for ip in client.permissions(transport, relayed) {
@@ -154,8 +162,9 @@ fn bind_channel(
     peer: SocketAddr,
     now: Instant,
 ) -> Result<Answer, NoMemory>
-    ensures { IfOk result (λ answer. IsBindTold answer transport peer
-        (protocol_of client.old) now (protocol_of client.new)) }
+    ensures { IfOk result (λ answer.
+        Leaves (λ p q. IsBindTold answer transport peer p now q)
+        (kept_of client.old) (kept_of client.new)) }
 {
     match client.bind_channel(transport, peer, now) {
         Ok(()) => Ok(Answer::Done),
@@ -166,7 +175,7 @@ fn bind_channel(
 
 /// The channels that the client shows.
 fn channels(alloc: Global, client: &TurnClient) -> Result<Vec<(u16, SocketAddr)>, NoMemory>
-    ensures { IfOk result (λ list. list.items ≡ channels_of (protocol_of client.now)) }
+    ensures { IfOk result (λ list. list.items ≡ channels_of (kept_of client.now).core) }
 {
     let mut list = Vec::new(alloc);
     for channel in client.channels() {
@@ -175,9 +184,35 @@ fn channels(alloc: Global, client: &TurnClient) -> Result<Vec<(u16, SocketAddr)>
     Ok(list)
 }
 
+/// The client is to send bytes to a peer.
+fn send_to(
+    alloc: Global,
+    client: &mut TurnClient,
+    transport: TransportType,
+    peer: SocketAddr,
+    bytes: &[u8],
+    now: Instant,
+) -> Result<Answer, NoMemory>
+    ensures { IfOk result (λ answer.
+        Leaves (λ p q. IsSendTold answer transport peer bytes.now p now q)
+        (kept_of client.old) (kept_of client.new)) }
+{
+    match client.send_to(transport, peer, bytes, now) {
+        Ok(Some(sent)) => {
+            let sent = sent.build(alloc)?;
+            let bytes = Data::Owned(DataOwned::from(sent.bytes.into_boxed_slice()));
+            Ok(Answer::Transmit(Transmit::new(bytes, sent.transport, sent.from, sent.to)))
+        }
+        // What isn't refused is carried.
+        Ok(None) => unreachable!(),
+        Err(SendError::NoMemory) => Err(NoMemory),
+        Err(error) => Ok(Answer::Refused(Refusal::Send(error))),
+    }
+}
+
 /// The relayed addresses that the client shows.
 fn relayed(alloc: Global, client: &TurnClient) -> Result<Vec<(TransportType, SocketAddr)>, NoMemory>
-    ensures { IfOk result (λ list. list.items ≡ relayed_of (protocol_of client.now)) }
+    ensures { IfOk result (λ list. list.items ≡ relayed_of (kept_of client.now).core) }
 {
     let mut list = Vec::new(alloc);
     for relayed in client.relayed_addresses() {
@@ -190,7 +225,7 @@ fn relayed(alloc: Global, client: &TurnClient) -> Result<Vec<(TransportType, Soc
 #[tactic(auto, unfolding(crate::specs::Calls::IsDrawnAs))]
 fn draw(client: &mut TurnClient, now: Instant) -> Result<Answer, NoMemory>
     ensures { IfOk result (λ answer.
-        IsDrawnAs answer (protocol_of client.old) now (protocol_of client.new)) }
+        Leaves (λ p q. IsDrawnAs answer p now q) (kept_of client.old) (kept_of client.new)) }
 {
     match client.poll_transmit(now) {
         Ok(Some(transmit)) => Ok(Answer::Transmit(transmit)),
@@ -208,8 +243,8 @@ fn feed(
     to: SocketAddr,
     now: Instant,
 ) -> Result<Answer, NoMemory>
-    ensures { IfOk result (λ answer. IsFed answer (protocol_of client.old) bytes.now from to now
-        (protocol_of client.new)) }
+    ensures { IfOk result (λ answer. IsFed answer (kept_of client.old) bytes.now from to now
+        (kept_of client.new)) }
 {
     are_bytes(bytes);
     let transmit = Transmit::new(bytes, client.transport(), from, to);
@@ -249,11 +284,12 @@ fn is_in_range(now: Instant) -> bool
 fn call_in_range(
     alloc: Global,
     client: &mut TurnClient,
-    what: ClientCall,
+    what: &ClientCall,
     now: Instant,
 ) -> Result<Answer, NoMemory>
-    ensures { IfOk result (λ answer. IsInRange now (λ p q. IsCalled what answer p now q)
-        (protocol_of client.old) answer (protocol_of client.new)) }
+    ensures { IfOk result (λ answer.
+        IsInRange now (Leaves (λ p q. IsCalled what.now answer p now q))
+        (kept_of client.old) answer (kept_of client.new)) }
 {
     if !is_in_range(now) {
         return Ok(Answer::OutOfRange);
@@ -264,8 +300,9 @@ fn call_in_range(
 /// The client is asked for what it sends, where the moment is in range.
 #[tactic(auto, unfolding(crate::specs::Runs::IsInRange))]
 fn draw_in_range(client: &mut TurnClient, now: Instant) -> Result<Answer, NoMemory>
-    ensures { IfOk result (λ answer. IsInRange now (λ p q. IsDrawnAs answer p now q)
-        (protocol_of client.old) answer (protocol_of client.new)) }
+    ensures { IfOk result (λ answer.
+        IsInRange now (Leaves (λ p q. IsDrawnAs answer p now q))
+        (kept_of client.old) answer (kept_of client.new)) }
 {
     if !is_in_range(now) {
         return Ok(Answer::OutOfRange);
@@ -285,7 +322,7 @@ fn feed_in_range(
 ) -> Result<Answer, NoMemory>
     ensures { IfOk result (λ answer.
         IsInRange now (λ p q. IsFed answer p bytes.now from to now q)
-        (protocol_of client.old) answer (protocol_of client.new)) }
+        (kept_of client.old) answer (kept_of client.new)) }
 {
     if !is_in_range(now) {
         return Ok(Answer::OutOfRange);
@@ -303,22 +340,23 @@ pub(crate) struct Driven {
 impl Model for Driven {
     ghost use Rattle.std.specs.Option.{option_map};
     ghost use Rattle.std.specs.Prelude.{Option};
-    ghost use Rattle.turn_client_proto.specs.Clients.{protocol_of};
-    ghost use Rattle.turn_client_proto.specs.Kept.{Protocol};
+    ghost use Rattle.turn_client_proto.specs.Clients.{kept_of};
+    ghost use Rattle.turn_client_proto.specs.Kept.{Kept};
     ghost use Rattle.turn_desk_world.specs.Model.{driven_code};
 
-    ghost Value = { Option Protocol };
+    ghost Value = { Option Kept };
 
     ghost coded = { driven_code };
 
-    ghost view = { λ d. option_map protocol_of d.client };
+    ghost view = { λ d. option_map kept_of d.client };
 }
 
 impl Driven {
     /// The client's user calls it at a moment, where there is a client, and the moment is in range.
     #[tactic(auto, unfolding(crate::specs::Runs::IsAtClient))]
-    pub(crate) fn call(&mut self, what: ClientCall, now: Instant) -> Result<Answer, NoMemory>
-        ensures { IfOk result (λ answer. IsAtClient now (λ p q. IsCalled what answer p now q)
+    pub(crate) fn call(&mut self, what: &ClientCall, now: Instant) -> Result<Answer, NoMemory>
+        ensures { IfOk result (λ answer.
+            IsAtClient now (Leaves (λ p q. IsCalled what.now answer p now q))
             self.old answer self.new) }
     {
         let Some(client) = &mut self.client else {
@@ -330,7 +368,8 @@ impl Driven {
     /// The client is asked for what it sends, where there is one, and the moment is in range.
     #[tactic(auto, unfolding(crate::specs::Runs::IsAtClient))]
     pub(crate) fn draw(&mut self, now: Instant) -> Result<Answer, NoMemory>
-        ensures { IfOk result (λ answer. IsAtClient now (λ p q. IsDrawnAs answer p now q)
+        ensures { IfOk result (λ answer.
+            IsAtClient now (Leaves (λ p q. IsDrawnAs answer p now q))
             self.old answer self.new) }
     {
         let Some(client) = &mut self.client else {

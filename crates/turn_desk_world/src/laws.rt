@@ -6,33 +6,38 @@ ghost use Rattle.std.specs.List.{AllByRecursion};
 ghost use Rattle.std.specs.Prelude.{◌≡◌, ◌≢◌, ◌++◌, List, ℕ, [], ◌∷◌, true, Vec};
 ghost use Rattle.std.specs.declared.alloc.Global.{Global};
 ghost use Rattle.std.specs.declared.net.ip_addr.IpAddr.{IpAddr};
+ghost use Rattle.std.specs.Net.Socket.{socket_ip};
 ghost use Rattle.std.specs.declared.net.socket_addr.SocketAddr.{SocketAddr};
 ghost use Rattle.stun_proto.specs.Users.{HashesDiffer};
 ghost use Rattle.turn_client_proto.specs.Members.{IsIn};
-ghost use Rattle.turn_client_proto.specs.Messages.{Allocation, Channel, Permission};
+ghost use Rattle.turn_client_proto.specs.Api.Payloads.{PeerPayload};
+ghost use Rattle.turn_client_proto.specs.Indications.{Carries};
+ghost use Rattle.turn_client_proto.specs.Messages.{Allocation, Channel, FromChannel, FromPeer, Permission, Reported};
 ghost use Rattle.turn_client_proto.specs.Runs.{Step};
 ghost use Rattle.turn_desk_steps.specs.DeskRun.{AreTold, DeskCall};
 ghost use Rattle.turn_desk_event.specs.declared.answer.Answer.{Answer};
 ghost use Rattle.turn_desk_event.specs.declared.answer.Answer.TheVariants as answer;
 ghost use Rattle.turn_desk_event.specs.declared.event.ClientCall.TheVariants as call;
 ghost use Rattle.turn_desk_event.specs.declared.event.Event.{Event};
-ghost use Rattle.turn_desk_event.specs.declared.event.Event.TheVariants.{Call};
+ghost use Rattle.turn_desk_event.specs.declared.event.Event.TheVariants.{Call, ToClient};
 ghost use Rattle.turn_desk_world.specs.Model.{World};
 ghost use Rattle.turn_desk_world.specs.Runs.{IsRun};
+ghost use Rattle.stun_types.specs.Grammar.{refusal};
 ghost use Rattle.stun_types.specs.Headers.{AreBytes};
+ghost use Rattle.turn_types.specs.ChannelFrames.{frame_at};
 ghost use Rattle.stun_types.specs.declared.transmit.Transmit.{Transmit};
 ghost use Rattle.stun_types.specs.declared.transport.TransportType.{TransportType};
-ghost use Rattle.turn_client_proto.specs.Kept.{Protocol};
+ghost use Rattle.turn_client_proto.specs.Kept.{Kept};
 ghost use Rattle.turn_client_proto.specs.Receipts.{IsReceived};
 ghost use Rattle.turn_client_proto.specs.Api.declared.answer.TurnRecvRet.{TurnRecvRet};
 ghost use Rattle.turn_client_proto.specs.Api.declared.answer.TurnRecvRet.TheVariants as recv;
 ghost use Rattle.turn_client_proto_steps.specs.RunClient.{Client};
-ghost use Rattle.turn_client_proto_steps.specs.RunSteps.{IsReceiving};
+ghost use Rattle.turn_client_proto_steps.specs.RunSteps.{IsGiving};
 ghost use Rattle.turn_client_proto_steps.specs.Sound.{IsSound, IsWhole};
 ghost use Rattle.turn_desk_world.specs.Copies.{AreAlike, IsCopy};
 ghost use Rattle.turn_desk_world.specs.Determined.{AreSame, HaveSameEvents};
 ghost use Rattle.turn_desk_world.specs.Safety.{IsAccount, IsLastAnswered, IsSafeRun, WasGranted};
-ghost use Rattle.turn_desk_world.specs.Told.{IsReadBack};
+ghost use Rattle.turn_desk_world.specs.Told.{IsReadBack, given_by, kept_by};
 
 use std::convert::AsSlice;
 
@@ -111,6 +116,34 @@ pub fn answers_show_what_was_granted()
         → WasGranted first run last (Channel number peer) }
 {}
 
+/// What the theorem says of what a client hands over, in the words of the answers. Where by the last
+/// event of a run bytes came to the client, and it gave data of a peer, those bytes carry just this data:
+/// as the value of the last DATA of an indication that names the peer, whose permission the desk granted
+/// in that run, in answer to a request of the client's; or as the data of a channel frame, whose channel
+/// to the peer it granted so. A report is that of the last ICMP of such an indication, without a DATA.
+pub fn answers_give_what_was_delivered()
+    ensures messages { (first last : Client) (run : List (Step Client DeskCall)) (now : ℕ)
+        (bytes : Vec ℕ Global) (from to : SocketAddr) (given : PeerPayload)
+        → IsLastAnswered (ToClient bytes from to now) (answer.Peer given) first run last
+        → refusal bytes.items ≡ None
+        → Carries bytes.items (FromPeer given.transport given.peer given.payload)
+        × WasGranted first run last (Permission given.transport (socket_ip given.peer)) }
+    ensures frames { (first last : Client) (run : List (Step Client DeskCall)) (now : ℕ)
+        (bytes : Vec ℕ Global) (from to : SocketAddr) (given : PeerPayload)
+        → IsLastAnswered (ToClient bytes from to now) (answer.Peer given) first run last
+        → refusal bytes.items ≢ None
+        → Carries bytes.items (FromChannel (frame_at bytes.items).id given.peer given.payload)
+        × WasGranted first run last (Channel (frame_at bytes.items).id given.peer) }
+    ensures reports { (first last : Client) (run : List (Step Client DeskCall)) (now : ℕ)
+        (bytes : Vec ℕ Global) (from to : SocketAddr) (transport : TransportType)
+        (peer : SocketAddr) (kind code details : ℕ)
+        → IsLastAnswered (ToClient bytes from to now)
+        (answer.Icmp transport peer kind code details) first run last
+        → Carries bytes.items (Reported transport peer
+        (record { icmp_type = kind; code = code; details = details }))
+        × WasGranted first run last (Permission transport (socket_ip peer)) }
+{}
+
 /// All accounts of a run count as many numbers as drawn: how many is no account's choice.
 pub fn accounts_count_alike()
     ensures { (first : Client) (old new : World) (pairs : List (Event × Answer))
@@ -134,16 +167,16 @@ pub fn runs_are_determined()
 
 /// One datagram at one moment: what `recv` answers, and what the client is then, are one, unless
 /// memory was refused. So it is of two datagrams that differ in nothing but where their bytes lie:
-/// both are handled, or each is given back.
+/// both are handled, or each is given back, or both give the same of a peer.
 pub fn receiving_is_definite<T: AsSlice<u8>>()
-    ensures same { (old one other : Protocol) (came : Transmit T) (now : ℕ)
+    ensures same { (old one other : Kept) (came : Transmit T) (now : ℕ)
         (answer again : TurnRecvRet T)
         → answer ≢ recv.NoMemory came
         → again ≢ recv.NoMemory came
         → IsReceived T.items old came now answer one
         → IsReceived T.items old came now again other
         → (answer ≡ again) × (one ≡ other) }
-    ensures copied { (old one other : Protocol) (came copy : Transmit T) (now : ℕ)
+    ensures copied { (old one other : Kept) (came copy : Transmit T) (now : ℕ)
         (answer again : TurnRecvRet T)
         → IsCopy T.items came copy
         → answer ≢ recv.NoMemory came
@@ -153,12 +186,13 @@ pub fn receiving_is_definite<T: AsSlice<u8>>()
         → AreAlike came copy answer again × (one ≡ other) }
 {}
 
-/// `recv` is a step, whatever datagram came, and leaves a sound client sound: what is no message, or did
-/// not come from the server, changes nothing.
+/// `recv` is a step, whatever datagram came, and leaves a sound client sound: what is neither a message
+/// nor a channel frame, or did not come from the server, changes nothing. What it gives of a peer is
+/// handed over in that step.
 pub fn receipts_are_steps<T: AsSlice<u8>>()
-    ensures { (c : Client) (came : Transmit T) (now : ℕ) (answer : TurnRecvRet T) (new : Protocol)
+    ensures { (c : Client) (came : Transmit T) (now : ℕ) (answer : TurnRecvRet T) (new : Kept)
         → IsSound c
         → AreBytes (T.items came.bytes)
-        → IsReceived T.items c.core came now answer new
-        → IsReceiving c (T.items came.bytes) new }
+        → IsReceived T.items (kept_by c) came now answer new
+        → IsGiving c (T.items came.bytes) (given_by (T.items came.bytes) answer) new.core }
 {}

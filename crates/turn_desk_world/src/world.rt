@@ -3,7 +3,7 @@
 ghost use Rattle.std.specs.Prelude.{◌≡◌, IfOk, OnErr, OnOk, false, length, true};
 ghost use Rattle.std.specs.List.{zip};
 ghost use Rattle.std.specs.Option.{option_map};
-ghost use Rattle.turn_client_proto.specs.Clients.{protocol_of};
+ghost use Rattle.turn_client_proto.specs.Clients.{kept_of};
 ghost use Rattle.turn_desk_world.specs.Runs.{IsRun, IsRunOfEach, IsStep};
 ghost use Rattle.turn_desk_world.specs.Safety.{IsSafeRun};
 
@@ -45,7 +45,7 @@ impl World {
     pub fn new(alloc: Global, desk: Desk, client: Option<TurnClient>) -> World
         ensures { result ≡ record {
           desk = desk;
-          client = option_map protocol_of client;
+          client = option_map kept_of client;
           is_failed = false;
         } }
     {
@@ -66,7 +66,7 @@ impl World {
 
     /// The client, where there is one.
     pub fn client(&self) -> Option<&TurnClient>
-        ensures { option_map (λ c. protocol_of c.now) result ≡ self.now.client }
+        ensures { option_map (λ c. kept_of c.now) result ≡ self.now.client }
     {
         self.driven.client.as_ref()
     }
@@ -135,7 +135,7 @@ impl World {
                 decision,
                 *seed,
             ),
-            Event::Call(what, now) => self.driven.call(*what, *now),
+            Event::Call(what, now) => self.driven.call(what, *now),
             Event::Draw(now) => self.driven.draw(*now),
             Event::ToClient {
                 bytes,

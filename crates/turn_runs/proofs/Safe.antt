@@ -68,7 +68,7 @@ module _ {C D : Type 0} (W : Words C D) (laws : WireLaws W.wire) (first last : C
         from_some _ ⊥ (λ one before h. not_own W laws kept.all kept.requests bytes key text a m valid shows responds one h.1 h.0)
         earlier (both_at (λ s _. DrewWell W kept.all s) (λ one _. IsSignedByClient W key a text one) earlier kept.drew signed);
     holds = λ h k. after.kept h (step.shows h k);
-    names = λ p i. let n = step.names p i in (n.0, n.1, n.2, after.kept n.0 n.2);
+    names = λ p i. let n = step.names p i in (step.delivers p i, (n.0, n.1, n.2, after.kept n.0 n.2));
   }
 
   safe_from : IsNew W first → (run : List (Step C D)) (c : C) → Leads first run c → AtEach (λ s _. IsLawful W s) run → NoForgery W first (W.client.count last) run →

@@ -4,7 +4,7 @@ use Rattle.turn_runs.specs.Members.{IsIn, NoneTwice}
 use Rattle.turn_runs.specs.Messages.{Message, Held, Connection, Gain, Holds, Knows, IsResponse, GrantIs, Payload, NamesHeld, IsOf}
 use Rattle.turn_runs.specs.Names.{IntegrityAlgorithm, Request, Success}
 use Rattle.turn_runs.specs.Words.{Words}
-use Rattle.turn_runs.specs.Steps.{told_for, Told, Grants}
+use Rattle.turn_runs.specs.Steps.{told_for, Told, Grants, IsDelivered}
 use Rattle.turn_runs.specs.Runs.{IsKeyOf, Step, AtClient, AtDesk, AreDistinct, AtEach, AtSome, HasNumber, IsSignedByClient, IsSignedByDesk, NoForgery}
 
 module _ {C D : Type 0} (W : Words C D) where
@@ -54,11 +54,12 @@ module _ {C D : Type 0} (W : Words C D) where
       (h : Held) → W.client.IsHeld call.after h → Traced (AtClient call ∷ earlier) h
   HoldsTraced (AtDesk d) earlier = Unit {0}
 
-  -- each payload names the peer of something so traced, which is held when the step ends, or would
-  -- be but for a mark as expired
+  -- each payload is as it was delivered in this step, and names the peer of something so traced, which
+  -- is held when the step ends, or would be but for a mark as expired
   abbrev pub NamesTraced : Step C D → List (Step C D) → Type 0
   NamesTraced (AtClient call) earlier = (p : Payload) → IsIn p call.payloads →
-      (h : Held) × NamesHeld p h × W.client.IsKept call.after h × Traced (AtClient call ∷ earlier) h
+      IsDelivered W.client call p
+      × ((h : Held) × NamesHeld p h × W.client.IsKept call.after h × Traced (AtClient call ∷ earlier) h)
   NamesTraced (AtDesk d) earlier = Unit {0}
 
   -- a response that the client takes up and that validates with a client's key was signed by the

@@ -2,7 +2,7 @@
 use Rattle.std.specs.Prelude.{◌≡◌, ◌⊎◌, ℕ, List, [], ◌∷◌, Option, Some}
 use Rattle.turn_runs.specs.Members.{IsIn}
 use Rattle.turn_types.specs.TurnRegistry.{allocate_method, channel_bind_method, connect_method, connection_bind_method, create_permission_method, refresh_method}
-use Rattle.turn_runs.specs.Names.{SocketAddr, IpAddr, socket_ip, TransportType, MessageClass, Success, Error}
+use Rattle.turn_runs.specs.Names.{SocketAddr, IpAddr, socket_ip, IcmpReport, TransportType, MessageClass, Success, Error}
 
 -- ---- what bytes show, as far as allocations, permissions, channels and connections go
 
@@ -128,18 +128,21 @@ GrantIs g (Knows number peer) =
 -- ---- payloads
 
 pub data Payload : Type 0 where
-  -- of a DATA indication, or an ICMP report in one, from a peer
-  FromPeer : (transport : TransportType) (peer : SocketAddr) → Payload
-  -- of a channel frame with this number, told as from this peer
-  FromChannel : (number : ℕ) (peer : SocketAddr) → Payload
+  -- the data of a DATA indication, told as from this peer
+  FromPeer : (transport : TransportType) (peer : SocketAddr) (bytes : List ℕ) → Payload
+  -- what a host on the way to this peer reports, in a DATA indication
+  Reported : (transport : TransportType) (peer : SocketAddr) (report : IcmpReport) → Payload
+  -- the data of a channel frame with this number, told as from this peer
+  FromChannel : (number : ℕ) (peer : SocketAddr) (bytes : List ℕ) → Payload
   -- raw bytes of the data connection with this local address, told as from this peer
-  FromConnection : (local peer : SocketAddr) → Payload
+  FromConnection : (local peer : SocketAddr) (bytes : List ℕ) → Payload
 
 -- a payload names the peer of something held
 abbrev pub NamesHeld : Payload → Held → Type 0
-NamesHeld (FromPeer transport peer) h = h ≡ Permission transport (socket_ip peer)
-NamesHeld (FromChannel number peer) h = h ≡ Channel number peer
-NamesHeld (FromConnection local peer) h = (number : ℕ) × (h ≡ Connection local peer number)
+NamesHeld (FromPeer transport peer bytes) h = h ≡ Permission transport (socket_ip peer)
+NamesHeld (Reported transport peer report) h = h ≡ Permission transport (socket_ip peer)
+NamesHeld (FromChannel number peer bytes) h = h ≡ Channel number peer
+NamesHeld (FromConnection local peer bytes) h = (number : ℕ) × (h ≡ Connection local peer number)
 
 -- ---- what a client tells as created
 

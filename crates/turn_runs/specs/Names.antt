@@ -5,3 +5,4 @@ pub use Rattle.std.specs.declared.net.socket_addr.SocketAddr.{SocketAddr}
 pub use Rattle.stun_types.specs.IntegrityAlgorithms.{IntegrityAlgorithm}
 pub use Rattle.stun_types.specs.MessageClasses.{MessageClass, Request, Indication, Success, Error}
 pub use Rattle.stun_types.specs.declared.transport.TransportType.{TransportType}
+pub use Rattle.turn_types.specs.PeerValues.{IcmpReport}

@@ -1,7 +1,7 @@
 -- What any call of a client, and any reply of a desk, keeps and gains.
 use Rattle.std.specs.Prelude.{◌≡◌, ◌≢◌, ◌⊎◌, ℕ, ◌+◌, ◌<◌, ◌≤◌, List, [], ◌∷◌, ◌++◌, map, Option, Some, None}
 use Rattle.turn_runs.specs.Members.{IsIn, NoneTwice}
-use Rattle.turn_runs.specs.Messages.{Message, Held, Connection, Gain, Holds, Knows, Asks, IsResponse, Brings, Grant, IsGrantFor, Payload, NamesHeld, Notice, IsOf}
+use Rattle.turn_runs.specs.Messages.{Message, Held, Connection, Gain, Holds, Knows, Asks, IsResponse, Brings, Grant, IsGrantFor, Payload, FromConnection, NamesHeld, Notice, IsOf}
 use Rattle.turn_runs.specs.Names.{SocketAddr, IntegrityAlgorithm, Request, Indication, Success, Error}
 use Rattle.turn_types.specs.TurnRegistry.{connection_attempt_method}
 use Rattle.turn_runs.specs.Words.{Wire, ClientWords, DeskWords}
@@ -94,6 +94,12 @@ module _ {V : Wire} {C : Type 0} (K : ClientWords V C) where
       ⊎ ((m.class ≡ Indication)
       ⊎ (IsResponse m.class × K.IsAttempted c m.number))
 
+  -- a payload that was told is what a message or a channel frame carries that was taken up. Raw bytes of a data
+  -- connection stand in none
+  abbrev pub IsDelivered : Call C → Payload → Type 0
+  IsDelivered call (FromConnection local peer bytes) = Unit {0}
+  IsDelivered call payload = (frame : List ℕ) × IsIn frame call.handled × V.Carries frame payload
+
   pub record ClientStep (call : Call C) : Type 0 where
     pub account : K.account call.after ≡ K.account call.before
     pub seed : K.seed call.after ≡ K.seed call.before
@@ -139,7 +145,8 @@ module _ {V : Wire} {C : Type 0} (K : ClientWords V C) where
         K.Waits call.before number peer
         ⊎ (((n : ℕ) × IsAnswered call begun (Knows number peer) n) ⊎ IsTried call)
     pub attempted : (n : ℕ) → K.IsAttempted call.after n → K.IsAttempted call.before n ⊎ IsTried call
-    -- each payload names something kept
+    -- each payload is as it was delivered, and names something kept
+    pub delivers : (p : Payload) → IsIn p call.payloads → IsDelivered call p
     pub names : (p : Payload) → IsIn p call.payloads → (h : Held) × NamesHeld p h × K.IsKept call.after h
 
 module _ {D : Type 0} (V : Wire) (E : DeskWords D) where

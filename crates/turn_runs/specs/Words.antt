@@ -1,6 +1,6 @@
 -- The words that the layers below give a meaning, and what must hold of them.
 use Rattle.std.specs.Prelude.{◌≡◌, ℕ, List, Option}
-use Rattle.turn_runs.specs.Messages.{Message, Held, Grant, Notice}
+use Rattle.turn_runs.specs.Messages.{Message, Held, Grant, Notice, Payload}
 use Rattle.turn_runs.specs.Names.{SocketAddr, IntegrityAlgorithm}
 
 -- what is said of bytes
@@ -17,6 +17,8 @@ pub record Wire : Type 1 where
   pub Covers : (bytes : List ℕ) → IntegrityAlgorithm → (text : List ℕ) → Type 0
   -- both show the same, a FINGERPRINT aside
   pub ShowsSame : (one other : List ℕ) → Type 0
+  -- the bytes are a message or a channel frame, and carry this of a peer
+  pub Carries : (frame : List ℕ) → Payload → Type 0
   -- the key of an account in a realm
   pub key : Account → (realm : List ℕ) → IntegrityAlgorithm → List ℕ
   -- the number at a place of the stream of a seed

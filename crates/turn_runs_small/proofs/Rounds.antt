@@ -8,7 +8,7 @@ use Rattle.turn_runs.specs.Members.{IsIn}
 use Rattle.turn_runs.specs.Messages.{Message, Held, Permission, Channel, Connection, Gain, Holds, Knows, Asks, Brings, IsGrantFor, Payload, NamesHeld}
 use Rattle.turn_runs.specs.Names.{socket_ip, Request, Success, Error}
 use Rattle.turn_runs.specs.Runs.{AreDistinct, AtEach, IsLawful, IsNew, IsUnforged, Leads, NoForgery}
-use Rattle.turn_runs.specs.Steps.{Told, IsAnswered, ClientStep, DeskStep}
+use Rattle.turn_runs.specs.Steps.{Told, IsAnswered, IsDelivered, ClientStep, DeskStep}
 use Rattle.turn_runs.specs.Words.{WireLaws}
 use Rattle.turn_types.specs.TurnRegistry.{connection_attempt_method}
 use Rattle.turn_runs.proofs.Safe.{promised}
@@ -69,6 +69,7 @@ module _ (a : Addresses) where
     shown = λ h i. absurd i;
     waits = λ number to w. inl w;
     attempted = λ k t. absurd t;
+    delivers = λ p i. absurd i;
     names = λ p i. absurd i;
   }
 
@@ -102,6 +103,23 @@ module _ (a : Addresses) where
     | inr none ↦ absurd none
   ]
   names_next (suc (suc (suc (suc (suc n))))) p i = absurd i
+
+  delivers_next : (n : ℕ) (p : Payload) → IsIn p (payloads_at a n) → IsDelivered (small_client a) (takes_next a n) p
+  delivers_next zero p i = absurd i
+  delivers_next (suc zero) p i = elim i [
+    | inl e ↦ subst (λ (x : Payload). IsDelivered (small_client a) (takes_next a 1) x) e (1 ∷ 1 ∷ [], inl refl, refl)
+    | inr none ↦ absurd none
+  ]
+  delivers_next (suc (suc zero)) p i = elim i [
+    | inl e ↦ subst (λ (x : Payload). IsDelivered (small_client a) (takes_next a 2) x) e (1 ∷ 2 ∷ [], inl refl, refl)
+    | inr none ↦ absurd none
+  ]
+  delivers_next (suc (suc (suc zero))) p i = absurd i
+  delivers_next (suc (suc (suc (suc zero)))) p i = elim i [
+    | inl e ↦ subst (λ (x : Payload). IsDelivered (small_client a) (takes_next a 4) x) e tt
+    | inr none ↦ absurd none
+  ]
+  delivers_next (suc (suc (suc (suc (suc n))))) p i = absurd i
 
   takes_step : (n : ℕ) → ClientStep (small_client a) (takes_next a n)
   takes_step n = record {
@@ -137,6 +155,7 @@ module _ (a : Addresses) where
       | inr new ↦ inr (inl (number_at n, answered_here n (Knows number to) new.0 new.1))
     ];
     attempted = λ k t. absurd t;
+    delivers = delivers_next n;
     names = names_next n;
   }
 
@@ -169,6 +188,7 @@ module _ (a : Addresses) where
     shown = held;
     waits = λ number to w. inl w;
     attempted = λ k t. absurd t;
+    delivers = λ p i. absurd i;
     names = λ p i. absurd i;
   }
 

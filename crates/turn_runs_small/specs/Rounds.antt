@@ -40,9 +40,9 @@ hears n bytes = record (quiet (idle n) (idle n)) { came = bytes ∷ []; handled 
 module _ (a : Addresses) where
   -- a payload from the peer by each thing that can bring one
   abbrev pub payloads_at : ℕ → List Payload
-  payloads_at (suc zero) = FromPeer Tcp a.peer ∷ []
-  payloads_at (suc (suc zero)) = FromChannel 0x4000 a.peer ∷ []
-  payloads_at (suc (suc (suc (suc zero)))) = FromConnection a.local a.peer ∷ []
+  payloads_at (suc zero) = FromPeer Tcp a.peer (1 ∷ 1 ∷ []) ∷ []
+  payloads_at (suc (suc zero)) = FromChannel 0x4000 a.peer (1 ∷ 2 ∷ []) ∷ []
+  payloads_at (suc (suc (suc (suc zero)))) = FromConnection a.local a.peer (1 ∷ 4 ∷ []) ∷ []
   payloads_at _ = []
 
   -- it takes up the response, and a payload by what that brought

@@ -1,7 +1,7 @@
 -- A small client and a small desk, in the words of a run.
 use Rattle.std.specs.Prelude.{◌≡◌, ℕ, zero, suc, ◌+◌, ◌-◌, ◌%◌, List, [], ◌∷◌, ◌++◌, Option, Some, None}
 use Rattle.turn_runs.specs.Members.{IsIn}
-use Rattle.turn_runs.specs.Messages.{Message}
+use Rattle.turn_runs.specs.Messages.{Message, Payload, FromPeer, Reported, FromChannel, FromConnection}
 use Rattle.turn_runs.specs.Words.{Wire, ClientWords, DeskWords, Words}
 use Rattle.turn_runs_small.specs.Handshakes.{Addresses, number_at, request_at, response_at, grant_at, recorded_after, held_after, WaitsAfter}
 
@@ -40,6 +40,13 @@ module _ (a : Addresses) where
   IsOutstandingIn (Idle n) m = ⊥
   IsOutstandingIn (Waiting n) m = m ≡ request_at a n
 
+  -- a response carries a payload of its own bytes, too
+  abbrev pub CarriesIn : List ℕ → Payload → Type 0
+  CarriesIn frame (FromPeer transport peer bytes) = bytes ≡ frame
+  CarriesIn frame (Reported transport peer report) = ⊥
+  CarriesIn frame (FromChannel number peer bytes) = bytes ≡ frame
+  CarriesIn frame (FromConnection local peer bytes) = ⊥
+
   -- there is one account and one key, and a message is covered whole
   abbrev pub small_wire : Wire
   small_wire = record {
@@ -49,6 +56,7 @@ module _ (a : Addresses) where
     Validates = λ bytes key algorithm text. (text ≡ bytes) × (key ≡ []);
     Covers = λ bytes algorithm text. text ≡ bytes;
     ShowsSame = λ one other. one ≡ other;
+    Carries = CarriesIn;
     key = λ account realm algorithm. [];
     number = λ seed place. number_at place;
   }

@@ -1,3 +1,4 @@
+pub mod Indications
 pub mod StunWire
 -- What stands above this crate has these through it.
 pub use Rattle.turn_runs.specs.Headline

@@ -16,6 +16,7 @@ use Rattle.stun_types.specs.declared.transport.TransportType.{TransportType}
 use Rattle.stun_types.specs.declared.transport.TransportType.TheVariants.{Udp, Tcp}
 use Rattle.turn_runs.specs.Messages.{Message}
 use Rattle.turn_runs.specs.Words.{Wire}
+use Rattle.turn_runs_stun.specs.Indications.{Carries}
 use Rattle.turn_types.specs.TurnRegistry.{channel_number_kind, connection_id_kind, lifetime_kind, requested_transport_kind, tcp_protocol, udp_protocol, xor_peer_address_kind, xor_relayed_address_kind}
 use Rattle.turn_types.specs.TurnShows.{addresses_shown, number_shown, unless_refused}
 
@@ -69,6 +70,7 @@ stun_wire = record {
   Validates = AreValid;
   Covers = Cover;
   ShowsSame = AreSame;
+  Carries = Carries;
   key = key_in;
   number = λ seed place. drawn_number (stream_after (number_words * place) seed);
 }

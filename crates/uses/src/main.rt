@@ -5,6 +5,7 @@
 mod answers;
 mod client;
 mod message;
+mod payloads;
 mod samples;
 mod served;
 mod user;
@@ -13,6 +14,7 @@ mod validating;
 use crate::answers::{redirect, reject};
 use crate::client::{begin, hear};
 use crate::message::{Looked, lifetime, look, sign};
+use crate::payloads::{reach, send, take};
 use crate::samples::{PASSWORD, SAMPLE, UNSIGNED};
 use crate::served::{allocate, serve};
 use crate::user::{key_of_user, server};
@@ -33,6 +35,9 @@ use stun_types::message::{
 };
 use stun_types::prelude::{MessageWrite, MessageWriteExt};
 use turn_client_proto::udp::TurnClientUdp;
+use turn_desk::Desk;
+use turn_types::prelude::DelayedTransmitBuild;
+use turn_types::transmit::DelayedMessage;
 
 fn main(rt: HostRuntime) -> anyhow::Result<()> {
     look_at_samples(&rt)?;
@@ -41,7 +46,8 @@ fn main(rt: HostRuntime) -> anyhow::Result<()> {
     answer_sample(&rt, rt.alloc())?;
     serve_user(&rt, rt.alloc())?;
     challenge_client(&rt, rt.alloc())?;
-    begin_client(&rt, rt.alloc())
+    begin_client(&rt, rt.alloc())?;
+    talk_to_peer(&rt, rt.alloc())
 }
 
 /// Looks into the sample, and into bytes that are no message.
@@ -246,6 +252,78 @@ fn tell_client(
     }
     let is_heard = hear(client, UNSIGNED, from, Instant::ZERO)?;
     println!(rt; "hear: {is_heard}")?;
+    Ok(())
+}
+
+/// Has a client reach a peer by a desk.
+fn talk_to_peer(rt: &impl Print, alloc: Global) -> anyhow::Result<()> {
+    match server(alloc) {
+        Ok(server) => {
+            let mut desk = Desk::new(alloc, server);
+            let done = talk_by_desk(rt, alloc, &mut desk);
+            drop(desk);
+            done
+        }
+        Err(error) => Err(error.into()),
+    }
+}
+
+/// Makes a client that reaches a peer by a desk.
+fn talk_by_desk(rt: &impl Print, alloc: Global, desk: &mut Desk) -> anyhow::Result<()> {
+    let local = SocketAddr::new(IpAddr::V4(Ipv4Addr::new(192, 168, 0, 1)), 1000);
+    let server = SocketAddr::new(IpAddr::V4(Ipv4Addr::new(10, 0, 0, 2)), 2000);
+    match begin(alloc, local, server, "user", "pass", [0; 32]) {
+        Ok((mut client, first)) => {
+            let peer = SocketAddr::new(IpAddr::V4(Ipv4Addr::new(10, 0, 0, 1)), 5);
+            let reached = reach(alloc, &mut client, desk, first.as_ref(), peer);
+            drop(first);
+            let talked = talk(rt, alloc, &mut client, peer);
+            drop(client);
+            reached?;
+            talked
+        }
+        Err(error) => Err(error.into()),
+    }
+}
+
+/// Prints what goes to a peer, and data of the peer's.
+fn talk(
+    rt: &impl Print,
+    alloc: Global,
+    client: &mut TurnClientUdp,
+    peer: SocketAddr,
+) -> anyhow::Result<()> {
+    let now = Instant::from_nanos(100_000_000);
+    match send(alloc, client, peer, b"hi", now)? {
+        Some(sent) => {
+            let printed = print_hex(rt, "send", sent.bytes.as_slice());
+            drop(sent);
+            printed?;
+        }
+        None => println!(rt; "send: nothing is sent")?,
+    }
+    let told = DelayedMessage::for_client(peer, TransactionId::from(7u128), "hello".as_bytes());
+    match told.build(alloc) {
+        Ok(told) => {
+            let taken = take(alloc, client, told.as_slice(), now);
+            drop(told);
+            print_taken(rt, taken?)
+        }
+        Err(error) => Err(error.into()),
+    }
+}
+
+/// Prints data of a peer's.
+fn print_taken(rt: &impl Print, taken: Option<(SocketAddr, Vec<u8>)>) -> anyhow::Result<()> {
+    match taken {
+        Some((peer, data)) => {
+            println!(rt; "take: of {peer}")?;
+            let printed = print_hex(rt, "take", data.as_slice());
+            drop(data);
+            printed?;
+        }
+        None => println!(rt; "take: nothing is given")?,
+    }
     Ok(())
 }
 

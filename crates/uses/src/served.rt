@@ -88,7 +88,7 @@ fn relay<R: Rng>(
 }
 
 /// The decision that 203.0.113.5:50000 is relayed for ten minutes.
-fn decision(alloc: Global) -> Result<Decision, NoMemory>
+pub(crate) fn decision(alloc: Global) -> Result<Decision, NoMemory>
     ensures { IfOk result (λ decision. (relayed : Address)
         × (decision ≡ Allocate (relayed ∷ []) 600)) }
 {

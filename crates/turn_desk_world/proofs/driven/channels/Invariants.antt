@@ -1,5 +1,5 @@
 use Rattle.std.proofs.Common.{◌≡◌, ◌++◌}
-use Rattle.turn_client_proto.specs.Clients.{protocol_of}
+use Rattle.turn_client_proto.specs.Clients.{kept_of}
 use Rattle.turn_client_proto.specs.Getters.{channels_of}
 use Rattle.turn_desk_world.proofs.driven.channels.Given as goal
 
@@ -8,4 +8,4 @@ abbrev pub invariant-loop-channel : goal.invariant-loop-channel
 invariant-loop-channel l =
     (goal.iterator-loop-channel).can_next l.channel-iterator ×
     (goal.iterator-loop-channel).is_finite l.channel-iterator ×
-    (l.list.items ++ l.channel-iterator ≡ channels_of (protocol_of l.client))
+    (l.list.items ++ l.channel-iterator ≡ channels_of (kept_of l.client).core)

@@ -1,5 +1,5 @@
 use Rattle.std.proofs.Common.{◌≡◌, ◌++◌}
-use Rattle.turn_client_proto.specs.Clients.{protocol_of}
+use Rattle.turn_client_proto.specs.Clients.{kept_of}
 use Rattle.turn_client_proto.specs.Getters.{permissions_of}
 use Rattle.turn_desk_world.proofs.driven.permissions.Given as goal
 
@@ -8,4 +8,4 @@ abbrev pub invariant-loop-ip : goal.invariant-loop-ip
 invariant-loop-ip l =
     (goal.iterator-loop-ip).can_next l.ip-iterator ×
     (goal.iterator-loop-ip).is_finite l.ip-iterator ×
-    (l.list.items ++ l.ip-iterator ≡ permissions_of l.fn.transport l.fn.relayed (protocol_of l.client))
+    (l.list.items ++ l.ip-iterator ≡ permissions_of l.fn.transport l.fn.relayed (kept_of l.client).core)

@@ -1,3 +1,0 @@
-pub mod Indications
-pub mod Payloads
-pub mod Standing
