@@ -1,16 +1,10 @@
-//! Tests that cross crates, as tables, of messages: built, parsed, judged. Each kind of thing has a helper
-//! that asserts, and each row says what it shows. Expected values come from outside: from RFCs, from
-//! recorded messages, from Python's hmac and zlib, or worked by hand. What a message or an attribute is
-//! that comes as bytes stands in the stored run of `stun_inspect`.
+//! Tests of what no printed row shows: bytes that are lent and change hands, names that a program adds.
+//! What has bytes or words to show stands in the stored runs of `turn_rows_wire` and `stun_inspect`.
 #![tactic(auto)]
 
 #[cfg(test)]
-mod building;
+mod lent;
 #[cfg(test)]
-mod headers;
+mod names;
 #[cfg(test)]
-mod objections;
-#[cfg(test)]
-mod samples;
-#[cfg(test)]
-mod validating;
+mod owned;

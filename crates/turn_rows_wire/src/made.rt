@@ -1,0 +1,198 @@
+//! Attributes as they are made, written and read again.
+
+use crate::line::Line;
+use stun_types::AddressFamily;
+use stun_types::attribute::{
+    AlternateDomain, AlternateServer, AttributeFromRaw, AttributeWrite, ErrorCode, Fingerprint,
+    MessageIntegrity, MessageIntegritySha256, Nonce, PasswordAlgorithm, PasswordAlgorithmValue,
+    PasswordAlgorithms, Realm, Software, UnknownAttributes, Userhash, Username, XorMappedAddress,
+};
+use stun_types::laws::written_and_read;
+use stun_types::message::{IntegrityAlgorithm, StunWriteError};
+use turn_types::attribute::{
+    AdditionalAddressFamily, ChannelNumber, ConnectionId, Data, DontFragment, Icmp, Lifetime,
+    RequestedAddressFamily, RequestedTransport, XorPeerAddress, XorRelayedAddress,
+};
+
+/// An attribute in bytes; what writing it is answered, and leaves of 09, into one byte more than it takes
+/// and into one less; the same of its header alone; and, in bytes, what is read of what it writes. Or why
+/// it is not made.
+fn made<'a, A: AttributeWrite + AttributeFromRaw<'a> + Drop>(
+    line: &mut Line<'_>,
+    made: Result<A, StunWriteError>,
+) {
+    match made {
+        Ok(attribute) => {
+            line.attribute(&attribute);
+            let size = attribute.padded_len();
+            written(line, &attribute, false, size.saturating_add(1));
+            written(line, &attribute, false, size.saturating_sub(1));
+            written(line, &attribute, true, 4);
+            written(line, &attribute, true, 3);
+            line.say(&"|");
+            line.read("read", written_and_read(line.alloc, &attribute));
+        }
+        Err(error) => line.say(&error),
+    }
+}
+
+/// What writing an attribute, or its header alone, into so many bytes of 09 is answered, and leaves.
+fn written<A: AttributeWrite>(line: &mut Line<'_>, attribute: &A, is_header: bool, room: usize) {
+    if let Ok(mut room) = Vec::from_elem(line.alloc, 9u8, room) {
+        let size = if is_header {
+            attribute.write_header(room.as_mut_slice())
+        } else {
+            attribute.write_into(room.as_mut_slice())
+        };
+        line.say(&"|");
+        line.gave(size);
+        line.hex(room.as_slice());
+    }
+}
+
+/// Makes the attribute of a line. Texts are `username TEXT`, `realm TEXT`, `nonce TEXT`, `software TEXT` and
+/// `alternate-domain TEXT`; addresses `mapped`, `relayed`, `peer` and `server ADDRESS NUMBER`, of which the
+/// last is not xored.
+pub(crate) fn ask(line: &mut Line<'_>, kind: &str) {
+    match kind {
+        "username" | "realm" | "nonce" | "software" | "alternate-domain" => text(line, kind),
+        "error-code" | "error-reason" => error(line, kind == "error-reason"),
+        "mapped" | "relayed" | "peer" | "server" => address(line, kind),
+        "unknown-attributes" => unknown(line),
+        "password-algorithm" | "password-algorithms" => algorithms(line, kind),
+        "integrity" | "integrity-sha256" | "fingerprint" | "data" => bytes(line, kind),
+        _ => number(line, kind),
+    }
+}
+
+/// An attribute of a text.
+fn text(line: &mut Line<'_>, kind: &str) {
+    let (text, alloc) = (line.text(), line.alloc);
+    let text = text.as_str();
+    match kind {
+        "username" => made(line, Username::new(alloc, text)),
+        "realm" => made(line, Realm::new(alloc, text)),
+        "nonce" => made(line, Nonce::new(alloc, text)),
+        "software" => made(line, Software::new(alloc, text)),
+        _ => made(line, AlternateDomain::new(alloc, text)),
+    }
+}
+
+/// `error-code CODE`, with the reason that goes with the code; `error-reason CODE TEXT`, made at once and by a
+/// builder.
+fn error(line: &mut Line<'_>, has_reason: bool) {
+    let (code, alloc) = (line.value(0), line.alloc);
+    if has_reason {
+        let reason = line.text();
+        made(line, ErrorCode::new(alloc, code, reason.as_str()));
+        made(
+            line,
+            ErrorCode::builder(code)
+                .reason(reason.as_str())
+                .build(alloc),
+        );
+    } else {
+        made(line, ErrorCode::builder(code).build(alloc));
+        line.say(&ErrorCode::default_reason_for_code(code));
+    }
+}
+
+/// An attribute of an address.
+fn address(line: &mut Line<'_>, kind: &str) {
+    let (addr, number) = (line.address(), line.transaction());
+    match kind {
+        "mapped" => made(line, Ok(XorMappedAddress::new(addr, number))),
+        "relayed" => made(line, Ok(XorRelayedAddress::new(addr, number))),
+        "peer" => made(line, Ok(XorPeerAddress::new(addr, number))),
+        _ => made(line, Ok(AlternateServer::new(addr))),
+    }
+}
+
+/// `lifetime N`, `requested-transport N`, `channel-number N`, `connection-id N`, `icmp TYPE CODE N`,
+/// `dont-fragment`, `requested-family IPV4`, `additional-family IPV6` and the other way round, and
+/// `userhash NAME REALM`.
+fn number(line: &mut Line<'_>, kind: &str) {
+    let one = line.word();
+    match kind {
+        "lifetime" => made(line, Ok(Lifetime::new(one.parse().unwrap_or(0)))),
+        "requested-transport" => made(line, Ok(RequestedTransport::new(one.parse().unwrap_or(0)))),
+        "channel-number" => made(line, Ok(ChannelNumber::new(one.parse().unwrap_or(0)))),
+        "connection-id" => made(line, Ok(ConnectionId::new(one.parse().unwrap_or(0)))),
+        "icmp" => {
+            let (code, data) = (line.value(0), line.value(0));
+            made(line, Ok(Icmp::new(one.parse().unwrap_or(0), code, data)));
+        }
+        "dont-fragment" => made(line, Ok(DontFragment::new())),
+        "requested-family" => made(line, Ok(RequestedAddressFamily::new(family_of(one)))),
+        "additional-family" => made(line, Ok(AdditionalAddressFamily::new(family_of(one)))),
+        "userhash" => {
+            let hash = Userhash::compute(one, line.word());
+            made(line, Ok(Userhash::new(hash)));
+        }
+        _ => line.is_bad = true,
+    }
+}
+
+/// The family of a name.
+fn family_of(name: &str) -> AddressFamily {
+    if name == "IPV4" {
+        AddressFamily::IPV4
+    } else {
+        AddressFamily::IPV6
+    }
+}
+
+/// `password-algorithm NAME`, with its name and whether it goes with HMAC-SHA1; `password-algorithms NAME..`.
+fn algorithms(line: &mut Line<'_>, kind: &str) {
+    let mut algorithms = Vec::new(line.alloc);
+    for _ in 0..line.left() {
+        let _ = algorithms.push(if line.word() == "MD5" {
+            PasswordAlgorithmValue::MD5
+        } else {
+            PasswordAlgorithmValue::SHA256
+        });
+    }
+    match (kind, algorithms.as_slice()) {
+        ("password-algorithm", [algorithm]) => {
+            line.say(algorithm);
+            line.say(&(algorithm.as_integrity() == IntegrityAlgorithm::Sha1));
+            made(line, Ok(PasswordAlgorithm::new(*algorithm)));
+        }
+        (_, all) => made(line, PasswordAlgorithms::new(line.alloc, all)),
+    }
+}
+
+/// `unknown-attributes TYPES ADDED`: the UNKNOWN-ATTRIBUTES of some types, to which others are added: whether each
+/// is there before, and why it is not added.
+fn unknown(line: &mut Line<'_>) {
+    let (types, added) = (line.types(), line.types());
+    let mut unknown = UnknownAttributes::new(line.alloc, types.as_slice());
+    if let Ok(unknown) = &mut unknown {
+        for atype in added.as_slice() {
+            line.say(&unknown.has_attribute(*atype));
+            if let Err(error) = unknown.add_attribute(*atype) {
+                line.say(&error);
+            }
+        }
+    }
+    made(line, unknown);
+}
+
+/// `integrity BYTES`, `integrity-sha256 BYTES`, `data BYTES`, and `fingerprint BYTES`, of the CRC-32 of these
+/// bytes.
+fn bytes(line: &mut Line<'_>, kind: &str) {
+    let bytes = line.bytes();
+    let (front, _) = bytes.as_slice().split_at(bytes.len().min(65_535));
+    match kind {
+        "integrity" => match front.first_chunk::<20>() {
+            Some(hmac) => made(line, Ok(MessageIntegrity::new(*hmac))),
+            None => line.is_bad = true,
+        },
+        "integrity-sha256" => made(line, MessageIntegritySha256::new(front)),
+        "fingerprint" => made(line, Ok(Fingerprint::new(Fingerprint::compute(front)))),
+        _ => match Data::new(line.alloc, front) {
+            Ok(data) => made(line, Ok(data)),
+            Err(error) => line.say(&error),
+        },
+    }
+}
