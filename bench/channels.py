@@ -235,11 +235,17 @@ def forbidden_channel():
     return "A channel is refused, and so its permission is; that can be asked for by itself, and is granted", t
 
 
-def forbidden_channel_again():
+def forbidden():
+    """A client whose first channel the desk has refused, with its permission."""
     t = holding()
     drawn = t.binds(50 * MS, 2, A, ONE)
     t.decides(100 * MS, drawn, "refuse 403", error(CHANNEL_BIND, 2, FORBIDDEN))
     failed(t, ONE)
+    return t
+
+
+def forbidden_channel_again():
+    t = forbidden()
     bound(t, 100 * MS, 3, A, ONE)
     t.channels((A, ONE))
     t.permits(ONE_IP)

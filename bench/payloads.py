@@ -8,12 +8,15 @@ DATA of an indication that names a peer whose permission stands, or without one 
 import struct
 import zlib
 
-from channels import A, B, C, CHANNEL_LAPSE, ONE, ONE_IP, SIX, TWO, TWO_IP, bound, created, failed, lasting, of_both_families, renewing
+from channels import (
+    A, B, C, CHANNEL_LAPSE, ONE, ONE_IP, SIX, TWO, TWO_IP, bound, created, forbidden, lasting, of_both_families,
+    renewing,
+)
 from permissions import DUE, FORBIDDEN, LAPSE, PEER_1, PEER_2, PEER_3, PEER_6, RELAYED_6, RENEWAL, holding
 from world import (
     ALLOCATE, BINDING, CHANNEL_BIND, CLIENT, CREATE_PERMISSION, ERROR, INDICATION, MAGIC, MS, NONCE, PEER, REALM,
-    RELAYED, SECOND, SERVER, SHA1, SHA256, SUCCESS, UNKNOWN, USERNAME, LIFETIME, Trace, attribute, channel_bind, create_permission,
-    error, lifetime, message, number, setup, success, xored,
+    RELAYED, SECOND, SERVER, SHA1, SHA256, SUCCESS, UNKNOWN, USERNAME, LIFETIME, Trace, attribute, channel_bind,
+    create_permission, error, lifetime, message, number, setup, success, xored,
 )
 
 SEND, DATA_METHOD = 0x006, 0x007
@@ -97,14 +100,20 @@ def not_sent(t, now, peer, why, value=HI, transport="udp"):
 # ---- what comes
 
 
-def data_of_a_peer():
-    t = holding()
+def asks_for_two(t):
+    """Permissions are asked for, of which the desk grants the first and refuses the second: its replies."""
     t.permission(50 * MS, PEER_1)
     t.permission(50 * MS, PEER_2)
     one = t.draw(100 * MS, create_permission(2, PEER_1))
     other = t.draw(150 * MS, create_permission(3, PEER_2))
     granted = t.ask(100 * MS, f"@{one}", "grant", success(CREATE_PERMISSION, 2))
     refused = t.ask(150 * MS, f"@{other}", "refuse 403", error(CREATE_PERMISSION, 3, FORBIDDEN))
+    return granted, refused
+
+
+def data_of_a_peer():
+    t = holding()
+    granted, refused = asks_for_two(t)
     now = 150 * MS
     passes(t, now, told(of(AT_1), data(HI)))
     t.hear(now, f"@{refused}")
@@ -360,10 +369,7 @@ def longest_frame():
 
 
 def refused_channel():
-    t = holding()
-    drawn = t.binds(50 * MS, 2, A, ONE)
-    t.decides(100 * MS, drawn, "refuse 403", error(CHANNEL_BIND, 2, FORBIDDEN))
-    failed(t, ONE)
+    t = forbidden()
     passes(t, 100 * MS, frame(A, HI), told(of(ONE), data(HI)))
     not_sent(t, 100 * MS, ONE, "NoPermission")
     bound(t, 100 * MS, 3, A, TWO)
@@ -595,12 +601,7 @@ def example():
     t = of_both_families(RELAYED, RELAYED_6)
     t.is_created(RELAYED, RELAYED_6)
     four = bytes((1, 2, 3, 4))
-    t.permission(50 * MS, PEER_1)
-    t.permission(50 * MS, PEER_2)
-    one = t.draw(100 * MS, create_permission(2, PEER_1))
-    other = t.draw(150 * MS, create_permission(3, PEER_2))
-    granted = t.ask(100 * MS, f"@{one}", "grant", success(CREATE_PERMISSION, 2))
-    refused = t.ask(150 * MS, f"@{other}", "refuse 403", error(CREATE_PERMISSION, 3, FORBIDDEN))
+    granted, refused = asks_for_two(t)
     now = 150 * MS
     t.hear(now, f"@{refused}")
     t.hear(now, f"@{granted}")

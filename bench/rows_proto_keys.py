@@ -9,11 +9,12 @@ import struct
 from typing import NamedTuple, Optional
 
 from rows_proto_base import MAGIC, message
-from world import quarter
+from world import (
+    ERROR_CODE, INTEGRITY, INTEGRITY_SHA256, NONCE, PASSWORD_ALGORITHM, PASSWORD_ALGORITHMS, REALM, TRANSPORT, USERHASH,
+    USERNAME, attribute as attribute_of, block,
+)
 
-USERNAME, INTEGRITY, ERROR_CODE, REALM, NONCE, TRANSPORT = 0x06, 0x08, 0x09, 0x14, 0x15, 0x19
-INTEGRITY_SHA256, PASSWORD_ALGORITHM, USERHASH = 0x1C, 0x1D, 0x1E
-PASSWORD_ALGORITHMS, FINGERPRINT = 0x8002, 0x8028
+FINGERPRINT = 0x8028
 SHA1, SHA256 = "Sha1", "Sha256"
 WORDS = {SHA1: "sha1", SHA256: "sha256"}
 # the attribute and the digest of an HMAC, that of a long-term key, the number of the latter, the lawful lengths
@@ -42,8 +43,7 @@ def hash_of(name, realm="realm"):
 
 
 def attribute(kind, value):
-    value = value.encode() if isinstance(value, str) else value
-    return struct.pack(">HH", kind, len(value)) + value + bytes(-len(value) % 4)
+    return attribute_of(kind, value.encode() if isinstance(value, str) else value)
 
 
 def with_length(data, size):
@@ -73,15 +73,7 @@ def entries(algorithms):
 
 def words(seed):
     """The first words of the ChaCha20 generator of a seed, 32 bytes of one value (RFC 8439, section 2.3)."""
-    key = [seed * 0x01010101] * 8
-    start = [0x61707865, 0x3320646E, 0x79622D32, 0x6B206574, *key, 0, 0, 0, 0]
-    state = start[:]
-    for _ in range(10):
-        for i in range(4):
-            quarter(state, i, i + 4, i + 8, i + 12)
-        for i in range(4):
-            quarter(state, i, 4 + (i + 1) % 4, 8 + (i + 2) % 4, 12 + (i + 3) % 4)
-    return [(a + b) & 0xFFFFFFFF for a, b in zip(state, start)]
+    return block(0, [seed * 0x01010101] * 8)
 
 
 COOKIE = "obMatJos2"

@@ -3,11 +3,11 @@
 import struct
 import zlib
 
-from world import MAGIC
+from payloads import DATA_METHOD as DATA, SEND
+from world import ALLOCATE, BINDING, CHANNEL_BIND, MAGIC
 
 COOKIE = struct.pack(">I", MAGIC)
 CLASSES = ["request", "indication", "success", "error"]
-BINDING, ALLOCATE, CHANNEL_BIND, SEND, DATA = 0x001, 0x003, 0x009, 0x006, 0x007
 # the number of most messages here, one of a recorded ALLOCATE, and that of the samples of RFC 5769
 SMALL, NUMBER, SAMPLES = (bytes.fromhex(it.rjust(24, "0")) for it in (
     "7392", "ade0b876903df1a0e56a5d40", "b7e7a701bc34d686fa87dfae",

@@ -11,7 +11,7 @@ from rows_wire_messages import (
     FINGERPRINT, INTEGRITY, INTEGRITY_SHA256, PASSWORD, PION, SAMPLE, USER, attributes_of, crc, hmac_of,
     message_type, signed, type_told,
 )
-from world import attribute, message, quarter, xored
+from world import attribute, block, message, xored
 
 # ---- messages that are written
 
@@ -195,14 +195,7 @@ def drawn(seed, count):
     """Words of 32 bits of ChaCha20 under a key (RFC 8439, section 2.3)."""
     words = []
     for number in range(-(-count // 16)):
-        start = [0x61707865, 0x3320646E, 0x79622D32, 0x6B206574, *struct.unpack("<8I", seed), number, 0, 0, 0]
-        w = start[:]
-        for _ in range(10):
-            for i in range(4):
-                quarter(w, i, i + 4, i + 8, i + 12)
-            for i in range(4):
-                quarter(w, i, 4 + (i + 1) % 4, 8 + (i + 2) % 4, 12 + (i + 3) % 4)
-        words += [(a + b) & 0xFFFFFFFF for a, b in zip(w, start)]
+        words += block(number, struct.unpack("<8I", seed))
     return words[:count]
 
 

@@ -35,7 +35,7 @@ MS = 1_000_000
 SECOND = 1000 * MS
 
 
-# ---- ChaCha20 (RFC 8439, section 2.3), of a key of zeros
+# ---- ChaCha20 (RFC 8439, section 2.3)
 
 
 def rotated(x, n):
@@ -48,8 +48,9 @@ def quarter(w, a, b, c, d):
         w[third] = rotated(w[third] ^ w[one], by)
 
 
-def block(number):
-    start = [0x61707865, 0x3320646E, 0x79622D32, 0x6B206574, *[0] * 8, number, 0, 0, 0]
+def block(number, key=(0,) * 8):
+    """The words of the block of a number, under a key of eight words: where none is told, zeros."""
+    start = [0x61707865, 0x3320646E, 0x79622D32, 0x6B206574, *key, number, 0, 0, 0]
     w = start[:]
     for _ in range(10):
         for i in range(4):
