@@ -8,7 +8,11 @@ frames are made in `rows_wire_frames.py`, of attributes in `rows_wire_attributes
 `rows_wire_messages.py`, and of messages that are written in `rows_wire_written.py`.
 """
 
+import sys
 from pathlib import Path
+
+# what is imported leaves no folder of compiled files behind
+sys.dont_write_bytecode = True
 
 import rows_wire_attributes
 import rows_wire_frames

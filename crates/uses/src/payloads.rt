@@ -1,10 +1,11 @@
 //! A client that sends bytes to a peer, and takes those of one; and the desk that it asks before.
 
-ghost use Rattle.std.specs.Prelude.{◌≡◌, IfOk, IsNone, None, Ok, false};
+ghost use Rattle.std.specs.Prelude.{◌≡◌, IfOk, IsNone, None, Ok, false, is_none, is_some};
 ghost use Rattle.std.specs.Net.Socket.{socket_ip};
 ghost use Rattle.stun_types.specs.declared.transport.TransportType.TheVariants.{Udp};
 ghost use Rattle.turn_client_proto.specs.Getters.{has_permission};
 ghost use Rattle.turn_client_proto.specs.Payloads.{payload_of};
+ghost use Rattle.turn_client_proto.specs.Sending.{send_refusal};
 
 use crate::client::hear;
 use crate::served::decision;
@@ -22,7 +23,7 @@ use turn_desk::{Decision, Desk};
 
 /// What goes to the server for a peer: bytes that are to be written to the socket. `None` where no
 /// permission for the peer's address stands, or there are more bytes than a datagram carries.
-#[tactic(auto, using(crate::proofs::Sending::nothing_sent))]
+#[tactic(auto, using(crate::proofs::Sending::nothing_sent, crate::proofs::Sending::is_sent))]
 pub(crate) fn send(
     alloc: Global,
     client: &mut TurnClientUdp,
@@ -30,8 +31,10 @@ pub(crate) fn send(
     bytes: &[u8],
     now: Instant,
 ) -> Result<Option<Transmit<Vec<u8>>>, NoMemory>
-    ensures { has_permission Udp (socket_ip peer) client.old ≡ false
+    ensures refused { has_permission Udp (socket_ip peer) client.old ≡ false
         → (result ≡ Ok None) × (client.new ≡ client.old) }
+    ensures sent { IfOk result (λ sent. is_some sent
+        ≡ is_none (send_refusal Udp client.old peer bytes.now)) }
 {
     match client.send_to(TransportType::Udp, peer, bytes, now) {
         Ok(Some(carrier)) => Ok(Some(carrier.build(alloc)?)),
