@@ -105,6 +105,8 @@ size_t stun_bench_write_channel(uint16_t id, const uint8_t *data, size_t data_le
 size_t stun_bench_feed(const uint8_t *bytes, size_t len, size_t size);
 size_t stun_bench_check_types(const uint8_t *bytes, size_t len, uint8_t *out, size_t out_len);
 size_t stun_bench_take(size_t channels, size_t rounds, const uint8_t *bytes, size_t len);
+size_t stun_bench_drain(size_t channels, size_t rounds, const uint8_t *bytes, size_t len,
+                        size_t size);
 size_t stun_bench_send(size_t channels, size_t rounds, uint16_t port, const uint8_t *bytes,
                        size_t len, uint8_t *out, size_t out_len);
 
@@ -709,9 +711,9 @@ static size_t call_client(const struct client_row *row, size_t rounds) {
     return stun_bench_send(row->channels, rounds, port, WHOLE(payload), WHOLE(wide));
 }
 
-// what a call takes and allocates is the difference that so many of them make
-static void tell_client(void) {
-    double start = now();
+// what a call takes and allocates is the difference that so many of them make; answers that of the first row
+static double tell_client(void) {
+    double start = now(), datagram = 0;
     for (unsigned i = 0; i < CLIENT_ROUNDS; i++) {
         memcpy(wide, payload, PAYLOAD);
         sink += wide[i % PAYLOAD];
@@ -734,9 +736,64 @@ static void tell_client(void) {
             least_none = between - begun < least_none ? between - begun : least_none;
             least_all = ended < least_all ? ended : least_all;
         }
-        tell(row->name, row->wanted, (least_all - least_none) / CLIENT_ROUNDS);
+        double least = (least_all - least_none) / CLIENT_ROUNDS;
+        datagram = i ? datagram : least;
+        tell(row->name, row->wanted, least);
         tell("  its allocations", 0, (double)(taken_by_all - taken_by_none));
     }
+    return datagram;
+}
+
+// ---- a client over TCP: frames of a channel, one behind another in a stream
+
+enum {
+    STREAM_FRAME = ATTRIBUTE_HEADER_SIZE + PAYLOAD,
+    STREAM_FRAMES = 54,         // some 64 kB
+    STREAM_ROUNDS = 4000,
+    BYTE_FRAMES = 8,            // that come byte by byte, and twice as many
+    BYTE_ROUNDS = 40,
+};
+
+// a frame in a stream to a datagram; twice as many bytes, one by one, to so many
+static const double MOST_OF_STREAM = 2, MOST_OF_TWICE = 2.5;
+
+// what a frame of these takes, in pieces of a size, in nanoseconds, and how many allocations one makes
+static double drained(const uint8_t *stream, size_t frames, size_t size, size_t rounds, double *taken) {
+    double least_none = DBL_MAX, least_all = DBL_MAX;
+    size_t len = frames * STREAM_FRAME, by_none = 0, by_all = 0;
+    for (unsigned run = 0; run < CLIENT_RUNS; run++) {
+        size_t before = allocations;
+        double begun = now();
+        must(stun_bench_drain(1, 0, stream, len, size) == 0, "nothing comes in a stream");
+        double between = now();
+        by_none = allocations - before;
+        before = allocations;
+        must(stun_bench_drain(1, rounds, stream, len, size) == rounds * frames, "frames of a stream");
+        double ended = now() - between;
+        by_all = allocations - before;
+        least_none = between - begun < least_none ? between - begun : least_none;
+        least_all = ended < least_all ? ended : least_all;
+    }
+    double all = (double)(rounds * frames);
+    *taken = (double)(by_all - by_none) / all;
+    return (least_all - least_none) / all;
+}
+
+static void tell_drained(double datagram) {
+    static uint8_t stream[STREAM_FRAMES * STREAM_FRAME];
+    for (size_t i = 0; i < STREAM_FRAMES; i++) {
+        write_short(stream + i * STREAM_FRAME, LEAST_CHANNEL);
+        write_short(stream + i * STREAM_FRAME + 2, PAYLOAD);
+    }
+    double taken;
+    double frame = drained(stream, STREAM_FRAMES, sizeof stream, STREAM_ROUNDS, &taken);
+    tell("take a frame of 1200 bytes in a piece of 54 over TCP, ns", NO_BOUND, frame);
+    tell("  its allocations", 1, taken);
+    tell("  to a datagram over UDP", MOST_OF_STREAM, frame / datagram);
+    double few = drained(stream, BYTE_FRAMES, 1, BYTE_ROUNDS, &taken);
+    double many = drained(stream, 2 * BYTE_FRAMES, 1, BYTE_ROUNDS, &taken);
+    tell("8 frames byte by byte over TCP, ns a byte", NO_BOUND, few / STREAM_FRAME);
+    tell("  16 frames to 8", MOST_OF_TWICE, 2 * many / few);
 }
 
 int main(int argc, char **argv) {
@@ -755,7 +812,7 @@ int main(int argc, char **argv) {
     tell_building();
     tell_streams();
     tell_allocations();
-    tell_client();
+    tell_drained(tell_client());
     if (missed) {
         printf("\nA bound is missed.\n");
     }

@@ -256,14 +256,19 @@ def without_credentials():
     return c
 
 
+def offered(party):
+    """Algorithms are added one by one, some of them twice; then they are set, and one more is added."""
+    party.tell()
+    for it in (SHA1, SHA256, SHA256, SHA1):
+        party.adds(it)
+        party.tell()
+    party.sets(SHA256)
+    party.adds(SHA1)
+
+
 def settings_of_clients():
     c = Client("settings, and what stays of the choice where they change")
-    c.tell()
-    for it in (SHA1, SHA256, SHA256, SHA1):
-        c.adds(it)
-        c.tell()
-    c.sets(SHA256)
-    c.adds(SHA1)
+    offered(c)
     c.tell()
     for it in ("Required", "Disabled", "Auto"):
         c.names(it)
@@ -726,12 +731,7 @@ def long_texts():
 
 def settings_of_servers():
     s = Server("settings")
-    s.tell()
-    for it in (SHA1, SHA256, SHA256, SHA1):
-        s.adds(it)
-        s.tell()
-    s.sets(SHA256)
-    s.adds(SHA1)
+    offered(s)
     s.adds(SHA256)
     s.tell()
     for it in ("Required", "Disabled", "Auto"):

@@ -84,6 +84,21 @@ class Stream:
                 break
         return self
 
+    def front(self):
+        """The frame at the front is shown, and stays."""
+        kept, dead = self.kept, self.dead
+        found = self.look()
+        self.kept, self.dead = kept, dead
+        self.words.append("front")
+        self.answers.append(found[1] if found else "nothing")
+        return self
+
+    def drop(self):
+        """The frame at the front goes, unseen."""
+        self.look()
+        self.words.append("drop")
+        return self
+
     def empty(self):
         self.words.append("empty")
         self.answers.append(not self.kept)
@@ -115,6 +130,19 @@ def streams():
             stream.take(piece).polls()
         whole_frames(stream.empty())
         whole_frames(Stream().take(*chunks(STREAM, size)).polls().empty())
+    part("frames that are shown before they go, cut in two anywhere; what is broken is shown as nothing, and ends it")
+    for cut in range(len(STREAM) + 1):
+        stream = Stream().take(STREAM[:cut]).front().front()
+        for _ in range(len(FRAMES)):
+            stream.drop().front()
+        stream.take(STREAM[cut:])
+        for _ in range(len(FRAMES)):
+            stream.front().drop()
+        stream.empty().front().row()
+    for first in (b"\x80", b"\xc0", b"\0\0\0\0\x21\x13"):
+        Stream().take(FRAMES[3][0] + first).front().drop().empty().take(UNSIGNED).front().drop().row()
+        Stream().take(FRAMES[3][0] + UNSIGNED + first).front().drop().front().poll().front().drop().empty().row()
+    Stream().front().drop().front().empty().row()
     part("two frames: in one piece, byte by byte, and by pieces of no bytes")
     both = FRAMES[1][0] + UNSIGNED
     Stream().take(both).empty().poll().poll().empty().row()

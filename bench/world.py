@@ -4,9 +4,10 @@
 It knows nothing of the repository's code. Messages are written here by RFC 8489 and RFC 8656, signed by
 HMAC, and numbered from ChaCha20 words of a seed of zeros, three a number, the first of them highest. The
 moments were worked out by hand, from the waits that a client is documented to have. It was run once, and
-what it wrote is stored: six examples, and the traces of a client and a desk in the stored run of
+what it wrote is stored: seven examples, and the traces of a client and a desk in the stored run of
 `turn_traces`, behind those of a desk alone. The traces of permissions are in `permissions.py`, those of
-channels in `channels.py`, those of sends and payloads in `payloads.py`.
+channels in `channels.py`, those of sends and payloads in `payloads.py`, those of a client over TCP in
+`streams.py`.
 """
 
 import hashlib
@@ -888,6 +889,7 @@ def good_traces():
     from channels import channel_traces
     from payloads import payload_traces
     from permissions import permission_traces
+    from streams import stream_traces
 
     yield from (
         handshake(), forged_grant(), repeated_grant(), reflected_request(),
@@ -900,13 +902,14 @@ def good_traces():
         family_unknown(), family_not_supported(), both_families(), refresh_times_out(),
         *refreshes_answered(), stale_refresh(), stale_refresh_lost(), stale_deletion(),
         mismatched_deletion(), *each_setting(), *permission_traces(), *channel_traces(),
-        *payload_traces(),
+        *payload_traces(), *stream_traces(),
     )
 
 
 DESK = "desk realm sha1 auto\nuser user pass\n"
 BOTH = setup()
 MADE = BOTH[len(DESK) :]
+TCP = MADE.replace("client udp", "client tcp")
 
 
 def bad_traces():
@@ -917,8 +920,15 @@ def bad_traces():
     yield "Two clients", MADE + MADE, "", 3
     yield "How long is waited, behind the client", MADE + rto, "", 3
     yield "The same twice", rto + rto, "", 3
-    yield "A client over TCP", MADE.replace("udp 192", "tcp 192"), "", 2
-    yield "An allocation over TCP", MADE.replace("udp 4", "tcp 4"), "", 2
+    yield "An allocation over TCP of a client over UDP", MADE.replace("udp 4", "tcp 4"), "", 2
+    yield "A client over another transport", MADE.replace("udp 192", "sctp 192"), "", 2
+    yield "A client over TCP, and an allocation over another transport", TCP.replace("udp 4", "sctp 4"), "", 2
+    yield "A client over TCP, and no transport of its allocation", TCP.replace("udp 4", "4"), "", 2
+    yield "A client over TCP without a seed", TCP[:-3] + "\n", "", 2
+    yield "A client over TCP, and no more", "client tcp\n", "", 2
+    yield "A client over TCP without its server", TCP.replace(f" {SERVER}", ""), "", 2
+    yield "A client over TCP with a word more", TCP[:-1] + " 0\n", "", 2
+    yield "A client over each transport", TCP + MADE, "", 3
     yield "One family twice", MADE.replace("udp 4", "udp 4,4"), "", 2
     yield "Behind an event", BOTH + "relayed\n" + rto, "relayed\n", 6
     yield "A moment too much", BOTH + "event 0\n", "", 5
@@ -950,6 +960,13 @@ def bad_traces():
     yield "A send of what no event answered", BOTH + "send 0 udp 10.0.0.1:5 @1\n", "", 5
     yield "A send of an answer that has no bytes", BOTH + "event\nsend 0 udp 10.0.0.1:5 @1\n", "none\n", 6
     yield "A bad peer of a send, at a moment out of range", BOTH + f"send {2**62 + 1} udp x 00\n", "", 5
+    yield "What waits is asked for, and no client", "desk realm sha1 auto\nrecv 0\n", "", 3
+    yield "What waits is asked for at no moment", DESK + TCP + "recv\n", "", 5
+    yield "What waits is asked for at two moments", DESK + TCP + "recv 0 0\n", "", 5
+    yield "What waits is asked for at a moment that is no number", DESK + TCP + "recv now\n", "", 5
+    yield "What waits is asked for at a moment with a sign", BOTH + "recv +0\n", "", 5
+    named = f"recv 0\ntoclient 0 {SERVER} {CLIENT} @1\n"
+    yield "What waits is named where there is none", DESK + TCP + named, "none\n", 6
 
 
 def all_traces():
@@ -964,6 +981,7 @@ def examples():
     from channels import granted_channel_again
     from payloads import example
     from permissions import granted_reply_again
+    from streams import example as example_over_tcp
 
     yield "handshake", handshake()
     yield "forged", forged_challenge()
@@ -971,6 +989,7 @@ def examples():
     yield "permission", granted_reply_again()
     yield "channel", granted_channel_again()
     yield "payload", example()
+    yield "tcp", example_over_tcp()
 
 
 def store_examples():

@@ -1,4 +1,7 @@
-//! A client that holds channels: datagrams that it is handed, and bytes that it sends to peers.
+//! A client that holds channels: datagrams and pieces of a stream that it is handed, and bytes that it sends to
+//! peers.
+
+ghost use Rattle.std.specs.Prelude.{◌≢◌};
 
 use rand_chacha::ChaCha20Rng;
 use rand_core::SeedableRng;
@@ -10,6 +13,7 @@ use turn_client_proto::api::{TurnConfig, TurnRecvRet};
 use turn_client_proto::prelude::TurnClientApi;
 use turn_client_proto::stun::Instant;
 use turn_client_proto::stun::auth::LongTermServerAuth;
+use turn_client_proto::tcp::TurnClientTcp;
 use turn_client_proto::types::TurnCredentials;
 use turn_client_proto::udp::TurnClientUdp;
 use turn_desk::{Decision, Desk};
@@ -33,12 +37,28 @@ fn peer(channel: usize, port: u16) -> SocketAddr {
     address(0x0a01_0000u32.wrapping_add((channel % 65_536) as u32), port)
 }
 
-/// A client at 192.168.0.1:1000 of a server at 10.0.0.2:2000.
-fn client(alloc: Global) -> Result<TurnClientUdp, NoMemory> {
+/// The own address of a client, and that of its server.
+const HERE: (u32, u16) = (0xc0a8_0001, 1000);
+
+const SERVER: (u32, u16) = (0x0a00_0002, 2000);
+
+/// A client over UDP.
+fn over_udp(alloc: Global) -> Result<TurnClientUdp, NoMemory> {
     match TurnCredentials::new(alloc, "user", "pass") {
         Ok(user) => {
-            let (here, server) = (address(0xc0a8_0001, 1000), address(0x0a00_0002, 2000));
+            let (here, server) = (address(HERE.0, HERE.1), address(SERVER.0, SERVER.1));
             TurnClientUdp::allocate(alloc, here, server, TurnConfig::new(user), [0; 32])
+        }
+        Err(error) => Err(error),
+    }
+}
+
+/// A client over TCP, that asks for an allocation over UDP.
+fn over_tcp(alloc: Global) -> Result<TurnClientTcp, NoMemory> {
+    match TurnCredentials::new(alloc, "user", "pass") {
+        Ok(user) => {
+            let (here, server) = (address(HERE.0, HERE.1), address(SERVER.0, SERVER.1));
+            TurnClientTcp::allocate(alloc, here, server, TurnConfig::new(user), [0; 32])
         }
         Err(error) => Err(error),
     }
@@ -75,7 +95,7 @@ fn add_user(alloc: Global, auth: &mut LongTermServerAuth) -> Result<(), NoMemory
 
 /// Has a desk answer what a client sends now, and hands the client the reply.
 fn exchange(
-    client: &mut TurnClientUdp,
+    client: &mut impl TurnClientApi,
     desk: &mut Desk,
     decision: &Decision,
     now: Instant,
@@ -102,7 +122,7 @@ fn exchange(
 }
 
 /// Hands a client bytes of its server's. Answers whether they gave data of a peer.
-fn hand_in(client: &mut TurnClientUdp, bytes: &[u8], now: Instant) -> bool {
+fn hand_in(client: &mut impl TurnClientApi, bytes: &[u8], now: Instant) -> bool {
     let came = Transmit::new(
         bytes,
         client.transport(),
@@ -115,7 +135,7 @@ fn hand_in(client: &mut TurnClientUdp, bytes: &[u8], now: Instant) -> bool {
 /// A client is granted an hour, and so many channels, each with a permission.
 fn hold(
     alloc: Global,
-    client: &mut TurnClientUdp,
+    client: &mut impl TurnClientApi,
     desk: &mut Desk,
     channels: usize,
 ) -> Result<(), NoMemory> {
@@ -132,7 +152,7 @@ fn hold(
 
 /// The same, where the allocation is decided so.
 fn bind(
-    client: &mut TurnClientUdp,
+    client: &mut impl TurnClientApi,
     desk: &mut Desk,
     granted: &Decision,
     channels: usize,
@@ -149,7 +169,7 @@ fn bind(
 }
 
 /// A client is granted so many channels by a desk of its own. Answers whether memory was there for that.
-fn is_held(alloc: Global, client: &mut TurnClientUdp, channels: usize) -> bool {
+fn is_held(alloc: Global, client: &mut impl TurnClientApi, channels: usize) -> bool {
     match desk(alloc) {
         Ok(mut desk) => {
             let done = hold(alloc, client, &mut desk, channels);
@@ -169,7 +189,7 @@ pub extern "C" fn stun_bench_take(
     rounds: usize,
     bytes: &[u8],
 ) -> usize {
-    match client(alloc) {
+    match over_udp(alloc) {
         Ok(mut client) => {
             let taken = if is_held(alloc, &mut client, channels) {
                 take(&mut client, moment(channels), rounds, bytes)
@@ -184,11 +204,60 @@ pub extern "C" fn stun_bench_take(
 }
 
 /// Hands a client these bytes so many times. Answers how many times they gave data of a peer.
-fn take(client: &mut TurnClientUdp, now: Instant, rounds: usize, bytes: &[u8]) -> usize {
+fn take(client: &mut impl TurnClientApi, now: Instant, rounds: usize, bytes: &[u8]) -> usize {
     let mut taken = 0usize;
     for _ in 0..rounds {
         if hand_in(client, bytes, now) {
             taken = taken.saturating_add(1);
+        }
+    }
+    taken
+}
+
+/// Hands a client over TCP that holds so many channels these bytes of its stream, so many times, each time in
+/// pieces of this size, and asks behind each piece for all that waits. Answers how many frames gave data of a
+/// peer; 0 where memory is refused. What is answered is compared by `bench.c`.
+#[unsafe(no_mangle)]
+pub extern "C" fn stun_bench_drain(
+    alloc: Global,
+    channels: usize,
+    rounds: usize,
+    bytes: &[u8],
+    size: usize,
+) -> usize {
+    match over_tcp(alloc) {
+        Ok(mut client) => {
+            let mut taken = 0usize;
+            if is_held(alloc, &mut client, channels) {
+                for _ in 0..rounds {
+                    let given = drain(&mut client, moment(channels), bytes, size.max(1));
+                    taken = taken.saturating_add(given);
+                }
+            }
+            drop(client);
+            taken
+        }
+        Err(_) => 0,
+    }
+}
+
+/// Hands a client these bytes of its stream in pieces. Answers how many frames gave data of a peer.
+fn drain(client: &mut impl TurnClientApi, now: Instant, bytes: &[u8], size: usize) -> usize
+    requires { size ≢ 0 }
+{
+    let mut taken = 0usize;
+    for piece in bytes.chunks(size) {
+        if hand_in(client, piece, now) {
+            taken = taken.saturating_add(1);
+        }
+        for _ in 0..bytes.len() {
+            match client.poll_recv(now) {
+                Ok(Some(given)) => {
+                    drop(given);
+                    taken = taken.saturating_add(1);
+                }
+                _ => break,
+            }
         }
     }
     taken
@@ -207,7 +276,7 @@ pub extern "C" fn stun_bench_send(
     out: &mut [u8],
 ) -> usize {
     let to = peer(channels.saturating_sub(1), port);
-    match client(alloc) {
+    match over_udp(alloc) {
         Ok(mut client) => {
             let sent = if is_held(alloc, &mut client, channels) {
                 send(&mut client, moment(channels), rounds, to, bytes, out)
@@ -223,7 +292,7 @@ pub extern "C" fn stun_bench_send(
 
 /// Has a client send these bytes to a peer, so many times. Answers how many times they were written.
 fn send(
-    client: &mut TurnClientUdp,
+    client: &mut impl TurnClientApi,
     now: Instant,
     rounds: usize,
     to: SocketAddr,

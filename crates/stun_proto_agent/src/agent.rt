@@ -42,27 +42,28 @@ pub enum StunAgentPollRet {
 /// up (RFC 8489, section 6.2.1). It performs no input or output, and reads no clock: the caller sends what
 /// it answers, and tells it the moment. After each call that changes it, this loop drives it:
 ///
-/// <!-- crates/turn_tests_agent/src/driving.rt: sends_at -->
+/// <!-- crates/turn_rows_proto/src/agent.rt: drive -->
 /// ```rust
 /// for _ in 0..MOST_TURNS {
-///     if agent.poll_transmit(now).is_some() {
-///         let [first, rest @ ..] = left else {
-///             return false;
-///         };
-///         if first.saturating_mul(unit) != now.as_nanos() {
-///             return false;
-///         }
-///         left = rest;
-///     } else if let StunAgentPollRet::WaitUntil(next) = agent.poll(now) {
-///         now = next.min(until);
+///     write!(text, "{} ", now.as_nanos())?;
+///     if let Some(sent) = agent.poll_transmit(now) {
+///         push_sent(&sent, text)?;
 ///     } else {
-///         return false;
+///         let answer = agent.poll(now);
+///         push_polled(&answer, text)?;
+///         if let StunAgentPollRet::WaitUntil(next) = &answer {
+///             now = *next;
+///         }
 ///     }
+///     if now > last {
+///         return Ok(());
+///     }
+///     text.push_str("\n")?;
 /// }
 /// ```
 ///
-/// A program sends what `poll_transmit` gives, where this one looks whether the moment is the expected
-/// one, and waits where this one goes to the next moment. Nothing is sent again or ended before its
+/// A program sends what `poll_transmit` gives, and minds what has ended, where this one prints it; and it
+/// waits where this one goes to the next moment. Nothing is sent again or ended before its
 /// moment, whatever moments the caller tells. Contracts see the record `Agent` of `specs/State.antt`.
 #[derive(Debug, Drop)]
 pub struct StunAgent {

@@ -1,10 +1,11 @@
 -- The code of a client, by which proofs tell its values apart.
 use Rattle.std.specs.Coded.{Coded, code_by, coded×, coded_bool, coded_list, coded_option, coded_ℕ}
-use Rattle.std.specs.Prelude.{ℕ, Bool, List, Option, refl}
+use Rattle.std.specs.Prelude.{◌≡◌, ℕ, Bool, List, Option, None, Some, refl}
 use Rattle.turn_types.specs.Streams.{Stream}
 use Rattle.turn_client_proto_poll.specs.Core.contracts.protocol.Protocol as protocol
 use Rattle.turn_client_proto_poll.specs.Core.declared.protocol.Protocol.{Protocol}
-use Rattle.turn_client_proto.specs.Kept.{Kept}
+use Rattle.turn_client_proto_receipt.specs.Control.{Control, Datagrams, Open, Closed}
+use Rattle.turn_client_proto_receipt.specs.Kept.{Kept}
 
 abbrev pub protocol_code : Coded Protocol
 protocol_code = protocol.the_row.coded
@@ -13,6 +14,25 @@ abbrev pub stream_code : Coded Stream
 stream_code = code_by (List ℕ × Bool) (coded× (coded_list coded_ℕ) coded_bool)
     (λ s. (s.kept, s.dead)) (λ c. record { kept = c.0; dead = c.1 }) (λ s. refl)
 
+-- how bytes come, as options: over UDP none; over TCP what is kept of the stream while it stands
+abbrev pub in_options : Control → Option (Option Stream)
+in_options Datagrams = None
+in_options (Open stream) = Some (Some stream)
+in_options Closed = Some None
+
+abbrev pub of_options : Option (Option Stream) → Control
+of_options None = Datagrams
+of_options (Some None) = Closed
+of_options (Some (Some stream)) = Open stream
+
+pub same_control : (c : Control) → of_options (in_options c) ≡ c
+same_control Datagrams = refl
+same_control (Open stream) = refl
+same_control Closed = refl
+
+abbrev pub control_code : Coded Control
+control_code = code_by (Option (Option Stream)) (coded_option (coded_option stream_code)) in_options of_options same_control
+
 abbrev pub kept_code : Coded Kept
-kept_code = code_by (Protocol × Option Stream) (coded× protocol_code (coded_option stream_code))
+kept_code = code_by (Protocol × Control) (coded× protocol_code control_code)
     (λ k. (k.core, k.control)) (λ c. record { core = c.0; control = c.1 }) (λ k. refl)

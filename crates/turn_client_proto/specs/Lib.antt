@@ -2,9 +2,16 @@
 pub mod Clients
 pub mod Codes
 pub mod Getters
-pub mod HandingIn
-pub mod Receipts
 pub mod Refusals
+pub use Rattle.turn_client_proto_receipt.specs.Control
+pub use Rattle.turn_client_proto_receipt.specs.Cuts
+pub use Rattle.turn_client_proto_receipt.specs.Datagrams
+pub use Rattle.turn_client_proto_receipt.specs.HandingIn
+pub use Rattle.turn_client_proto_receipt.specs.Kept
+pub use Rattle.turn_client_proto_receipt.specs.Pieces
+pub use Rattle.turn_client_proto_receipt.specs.Pulls
+pub use Rattle.turn_client_proto_receipt.specs.Receipts
+pub use Rattle.turn_client_proto_receipt.specs.declared.handing.Taken
 pub use Rattle.turn_client_proto_poll.specs.Core.Beginning
 pub use Rattle.turn_client_proto_poll.specs.Core.Binding
 pub use Rattle.turn_client_proto_poll.specs.Core.Deleting
@@ -16,7 +23,6 @@ pub use Rattle.turn_client_proto_poll.specs.Core.Ending
 pub use Rattle.turn_client_proto_poll.specs.Core.Permitting
 pub use Rattle.turn_client_proto_poll.specs.Polling
 pub use Rattle.turn_client_proto_poll.specs.Api.Config
-pub mod Kept
 pub use Rattle.turn_client_proto_poll.specs.Allocation
 pub use Rattle.turn_client_proto_poll.specs.Api
 pub use Rattle.turn_client_proto_poll.specs.Channel

@@ -1,6 +1,6 @@
 -- How a client answers calls of what it can't do yet.
 use Rattle.std.specs.Prelude.{◌≡◌, Result, Err}
-use Rattle.turn_client_proto.specs.Kept.{Kept}
+use Rattle.turn_client_proto_receipt.specs.Kept.{Kept}
 
 -- a call was refused with an error, and nothing changed
 abbrev pub IsTurnedDown : {A E : Type 0} → Result A E → E → Kept → Kept → Type 0

@@ -10,8 +10,8 @@ ghost use Rattle.turn_client_proto_poll.specs.Core.Permitting.{IsPermissionAnswe
 ghost use Rattle.turn_client_proto_poll.specs.Polling.{IsPolled};
 ghost use Rattle.turn_client_proto_poll.specs.Sending.{IsSendAnswered, answered_as};
 ghost use Rattle.turn_client_proto.specs.Getters.{channels_of, has_permission, permissions_of, relayed_of};
-ghost use Rattle.turn_client_proto.specs.Kept.{Kept, Leaves};
-ghost use Rattle.turn_client_proto.specs.Receipts.{IsReceived};
+ghost use Rattle.turn_client_proto_receipt.specs.Kept.{Kept, Leaves};
+ghost use Rattle.turn_client_proto_receipt.specs.Receipts.{IsReceived, IsWaitingGiven, IsWaitingLost};
 ghost use Rattle.turn_client_proto.specs.Refusals.{IsAnsweredStill, IsTurnedDown};
 
 pub use crate::getters::{ChannelsIter, PermissionAddressesIter, RelayedAddressesIter};
@@ -42,8 +42,12 @@ pub const CLIENT_END: u64 = 1 << 62;
 /// Bytes go to peers by `send_to`, which answers what carries them, and those of peers are told by
 /// `recv` as they come.
 ///
-/// No client has connections yet: calls that ask for one are refused, with the error of a client that
-/// has no allocation of the kind, and change nothing.
+/// Over TCP the bytes of the server come in a stream, in pieces that are cut anywhere. `recv` tells what the
+/// first frame gives that a piece makes whole, and `poll_recv` what the others do: it is to be called after
+/// each piece until it answers `None`.
+///
+/// No client has connections to peers yet: calls that ask for one are refused, with the error of a client
+/// that has no allocation of the kind, and change nothing.
 pub trait TurnClientApi: Debug + Send {
     ghost kept: { Self → Kept };
 
@@ -184,13 +188,21 @@ pub trait TurnClientApi: Debug + Send {
             IsSendAnswered old transport to (T.items «data») now (answered_as T.items result) new)
             (kept self.old) (kept self.new) };
 
-    /// A payload that has come in a stream and waits. A client over UDP has none.
+    /// The data of a peer that has come in the stream and waits. The frames that wait are taken up in
+    /// order, until one carries data; `None`, where none is whole any more, or the client has failed. What
+    /// is neither a message nor a channel frame is passed over, and so is a report in ICMP. A client over
+    /// UDP has no stream.
+    ///
+    /// Where memory is refused, `NoMemory`, and the client has failed: it is asked for where a message
+    /// makes the client grow, and for the data that is answered.
     fn poll_recv(&mut self, now: Instant) -> Result<Option<TurnPeerData<Vec<u8>>>, NoMemory>
-        ensures { IsAnsweredStill result (Ok None) (kept self.old) (kept self.new) };
+        ensures ok { IfOk result (λ given. IsWaitingGiven (kept self.old) now given (kept self.new)) }
+        ensures err { OnErr result (IsWaitingLost (kept self.old) now (kept self.new)) };
 
-    /// Hands in a datagram that came at a moment. What didn't come from the server to the client's own
-    /// address, by the client's transport, is given back as `Ignored`, and so is what is neither a
-    /// message nor a channel frame, or not for the client.
+    /// Hands in what came at a moment: over UDP a datagram, over TCP a piece of the stream. What didn't
+    /// come from the server to the client's own address, by the client's transport, is given back as
+    /// `Ignored`, and so is a datagram that is neither a message nor a channel frame, or not for the
+    /// client.
     ///
     /// A channel frame gives its data as `PeerData`, in every state of the client, if and only if a
     /// channel of its number stands; what stands behind the data is not looked at (RFC 8656, section
@@ -201,11 +213,21 @@ pub trait TurnClientApi: Debug + Send {
     /// the first decides, whether it is marked as expired or not. The data is told by where it stands in
     /// the bytes that came: nothing is copied, and nothing changes.
     ///
-    /// Where memory is refused, `NoMemory`, with the datagram: the client has failed. It is asked for
+    /// Over TCP the first frame that is whole then is taken up, and what it gives is answered: where the
+    /// piece begins with the frame, data by where it stands in the piece, and else in a vector of its own.
+    /// A piece that makes none whole is `Handled`, and so is one whose first frame is neither a message
+    /// nor a channel frame, as soon as that is seen. Where the first frame gives nothing of a peer, what
+    /// `poll_recv` answers then is the answer, and without any whether the first frame was for the client.
+    /// A piece of no bytes is the end of the stream, and `Handled`; behind it, and by a client that has
+    /// failed, all is `Ignored`. Where the two top bits of a frame are 10 or 11, or a byte of a message's
+    /// cookie is wrong, the stream gives nothing more, and pieces of it are `Handled`.
+    ///
+    /// Where memory is refused, `NoMemory`, with what came: the client has failed. It is asked for
     /// where there is something to keep or to tell of a message: `handle_message` of
     /// `turn_client_proto_core` has it. So a datagram of another host, bytes that are no message, an
     /// indication, and any message that comes to a client that has sent nothing or has ended are never
-    /// answered so.
+    /// answered so. Over TCP it is asked for besides where bytes of the stream are kept, and for data in a
+    /// vector of its own.
     fn recv<T: AsSlice<u8> + Debug + Drop>(
         &mut self,
         transmit: Transmit<T>,

@@ -8,6 +8,7 @@ use crate::api::{
     TcpAllocateError, TcpConnectError, TurnClientApi, TurnEvent, TurnPeerData, TurnPollRet,
     TurnRecvRet,
 };
+use crate::tcp::TurnClientTcp;
 use crate::udp::TurnClientUdp;
 use std::convert::AsSlice;
 use std::fmt::Debug;
@@ -22,6 +23,8 @@ use turn_types::transmit::TransmitBuild;
 pub enum TurnClient {
     /// A client over UDP.
     Udp(TurnClientUdp),
+    /// A client over TCP.
+    Tcp(TurnClientTcp),
 }
 
 impl From<TurnClientUdp> for TurnClient {
@@ -35,6 +38,17 @@ impl From<TurnClientUdp> for TurnClient {
     }
 }
 
+impl From<TurnClientTcp> for TurnClient {
+    ghost use Rattle.std.specs.Prelude.{◌≡◌};
+    ghost use Rattle.turn_client_proto.specs.declared.client.TurnClient.TheVariants.{Tcp};
+
+    ghost from_gives = { λ client whole. whole ≡ Tcp client };
+
+    fn from(value: TurnClientTcp) -> TurnClient {
+        TurnClient::Tcp(value)
+    }
+}
+
 impl TurnClientApi for TurnClient {
     ghost use Rattle.turn_client_proto.specs.Clients.{kept_of};
 
@@ -43,30 +57,35 @@ impl TurnClientApi for TurnClient {
     fn transport(&self) -> TransportType {
         match self {
             TurnClient::Udp(client) => client.transport(),
+            TurnClient::Tcp(client) => client.transport(),
         }
     }
 
     fn local_addr(&self) -> SocketAddr {
         match self {
             TurnClient::Udp(client) => client.local_addr(),
+            TurnClient::Tcp(client) => client.local_addr(),
         }
     }
 
     fn remote_addr(&self) -> SocketAddr {
         match self {
             TurnClient::Udp(client) => client.remote_addr(),
+            TurnClient::Tcp(client) => client.remote_addr(),
         }
     }
 
     fn relayed_addresses(&self) -> RelayedAddressesIter<'_> {
         match self {
             TurnClient::Udp(client) => client.relayed_addresses(),
+            TurnClient::Tcp(client) => client.relayed_addresses(),
         }
     }
 
     fn delete(&mut self, now: Instant) -> Result<(), DeleteError> {
         match self {
             TurnClient::Udp(client) => client.delete(now),
+            TurnClient::Tcp(client) => client.delete(now),
         }
     }
 
@@ -78,12 +97,14 @@ impl TurnClientApi for TurnClient {
     ) -> Result<(), CreatePermissionError> {
         match self {
             TurnClient::Udp(client) => client.create_permission(transport, peer_addr, now),
+            TurnClient::Tcp(client) => client.create_permission(transport, peer_addr, now),
         }
     }
 
     fn have_permission(&self, transport: TransportType, to: IpAddr) -> bool {
         match self {
             TurnClient::Udp(client) => client.have_permission(transport, to),
+            TurnClient::Tcp(client) => client.have_permission(transport, to),
         }
     }
 
@@ -94,6 +115,7 @@ impl TurnClientApi for TurnClient {
     ) -> PermissionAddressesIter<'_> {
         match self {
             TurnClient::Udp(client) => client.permissions(transport, relayed),
+            TurnClient::Tcp(client) => client.permissions(transport, relayed),
         }
     }
 
@@ -105,18 +127,21 @@ impl TurnClientApi for TurnClient {
     ) -> Result<(), BindChannelError> {
         match self {
             TurnClient::Udp(client) => client.bind_channel(transport, peer_addr, now),
+            TurnClient::Tcp(client) => client.bind_channel(transport, peer_addr, now),
         }
     }
 
     fn channels(&self) -> ChannelsIter<'_> {
         match self {
             TurnClient::Udp(client) => client.channels(),
+            TurnClient::Tcp(client) => client.channels(),
         }
     }
 
     fn tcp_connect(&mut self, peer_addr: SocketAddr, now: Instant) -> Result<(), TcpConnectError> {
         match self {
             TurnClient::Udp(client) => client.tcp_connect(peer_addr, now),
+            TurnClient::Tcp(client) => client.tcp_connect(peer_addr, now),
         }
     }
 
@@ -132,6 +157,9 @@ impl TurnClientApi for TurnClient {
             TurnClient::Udp(client) => client.allocated_tcp_socket(
                 id, five_tuple, peer_addr, local_addr, now,
             ),
+            TurnClient::Tcp(client) => client.allocated_tcp_socket(
+                id, five_tuple, peer_addr, local_addr, now,
+            ),
         }
     }
 
@@ -143,6 +171,7 @@ impl TurnClientApi for TurnClient {
     ) -> Result<(), NoMemory> {
         match self {
             TurnClient::Udp(client) => client.tcp_closed(local_addr, remote_addr, now),
+            TurnClient::Tcp(client) => client.tcp_closed(local_addr, remote_addr, now),
         }
     }
 
@@ -155,12 +184,14 @@ impl TurnClientApi for TurnClient {
     ) -> Result<Option<TransmitBuild<DelayedMessageOrChannelSend<T>>>, SendError> {
         match self {
             TurnClient::Udp(client) => client.send_to(transport, to, data, now),
+            TurnClient::Tcp(client) => client.send_to(transport, to, data, now),
         }
     }
 
     fn poll_recv(&mut self, now: Instant) -> Result<Option<TurnPeerData<Vec<u8>>>, NoMemory> {
         match self {
             TurnClient::Udp(client) => client.poll_recv(now),
+            TurnClient::Tcp(client) => client.poll_recv(now),
         }
     }
 
@@ -171,30 +202,35 @@ impl TurnClientApi for TurnClient {
     ) -> TurnRecvRet<T> {
         match self {
             TurnClient::Udp(client) => client.recv(transmit, now),
+            TurnClient::Tcp(client) => client.recv(transmit, now),
         }
     }
 
     fn poll(&mut self, now: Instant) -> TurnPollRet {
         match self {
             TurnClient::Udp(client) => client.poll(now),
+            TurnClient::Tcp(client) => client.poll(now),
         }
     }
 
     fn poll_transmit(&mut self, now: Instant) -> Result<Option<Transmit<Data<'static>>>, NoMemory> {
         match self {
             TurnClient::Udp(client) => client.poll_transmit(now),
+            TurnClient::Tcp(client) => client.poll_transmit(now),
         }
     }
 
     fn poll_event(&mut self) -> Option<TurnEvent> {
         match self {
             TurnClient::Udp(client) => client.poll_event(),
+            TurnClient::Tcp(client) => client.poll_event(),
         }
     }
 
     fn protocol_error(&mut self) -> Result<(), NoMemory> {
         match self {
             TurnClient::Udp(client) => client.protocol_error(),
+            TurnClient::Tcp(client) => client.protocol_error(),
         }
     }
 }

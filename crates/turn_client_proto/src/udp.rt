@@ -1,11 +1,9 @@
 //! A TURN client over UDP.
 
 ghost use Rattle.std.specs.Prelude.{◌≡◌, ◌≤◌, IsOkAnd, length};
-ghost use Rattle.std.specs.Bool.{MatchBool};
 ghost use Rattle.stun_types.specs.Registry.{longest_username};
 ghost use Rattle.stun_types.specs.declared.transport.TransportType.TheVariants.{Udp};
 ghost use Rattle.turn_client_proto_poll.specs.Core.Beginning.{IsNew};
-ghost use Rattle.turn_client_proto.specs.Receipts.{IsOfServer};
 
 use crate::api::{
     BindChannelError, ChannelsIter, CreatePermissionError, DelayedMessageOrChannelSend,
@@ -13,7 +11,6 @@ use crate::api::{
     TcpAllocateError, TcpConnectError, TurnClientApi, TurnConfig, TurnEvent, TurnPeerData,
     TurnPollRet, TurnRecvRet,
 };
-use crate::handing::{Taken, given, hand_in};
 use std::alloc::Global;
 use std::convert::AsSlice;
 use std::fmt::Debug;
@@ -26,6 +23,7 @@ use turn_client_proto_poll::permission::asking::permits_any;
 use turn_client_proto_poll::permission::shown::permissions_at;
 use turn_client_proto_poll::protocol::Protocol;
 use turn_client_proto_poll::{drawing, polling, sending};
+use turn_client_proto_receipt::datagram::{is_of_server, take_datagram};
 use turn_types::transmit::TransmitBuild;
 
 /// A TURN client over UDP: datagrams to and from the server, and an allocation over UDP. Contracts see
@@ -66,20 +64,10 @@ impl TurnClientUdp {
         let protocol = Protocol::new(alloc, TransportType::Udp, local, remote, config, seed);
         Ok(TurnClientUdp { protocol })
     }
-
-    /// Whether a datagram came from the server to the client's own address, by its transport.
-    fn is_of_server<T>(&self, transmit: &Transmit<T>) -> bool
-        ensures { MatchBool result (IsOfServer self.now transmit.now)
-            (IsOfServer self.now transmit.now → ⊥) }
-    {
-        transmit.transport == self.protocol.agent.transport()
-            && transmit.from == self.protocol.server
-            && transmit.to == self.protocol.agent.local_addr()
-    }
 }
 
 impl TurnClientApi for TurnClientUdp {
-    ghost use Rattle.turn_client_proto.specs.Kept.{over_udp};
+    ghost use Rattle.turn_client_proto_receipt.specs.Kept.{over_udp};
 
     ghost kept = { λ client. over_udp client };
 
@@ -185,15 +173,10 @@ impl TurnClientApi for TurnClientUdp {
         transmit: Transmit<T>,
         now: Instant,
     ) -> TurnRecvRet<T> {
-        if !self.is_of_server(&transmit) {
+        if !is_of_server(&self.protocol, &transmit) {
             return TurnRecvRet::Ignored(transmit);
         }
-        match hand_in(&mut self.protocol, transmit.bytes.as_slice(), now) {
-            Ok(Taken::Given(payload)) => given(transmit, payload),
-            Ok(Taken::Handled) => TurnRecvRet::Handled,
-            Ok(Taken::Ignored) => TurnRecvRet::Ignored(transmit),
-            Err(NoMemory) => TurnRecvRet::NoMemory(transmit),
-        }
+        take_datagram(&mut self.protocol, transmit, now)
     }
 
     fn poll(&mut self, now: Instant) -> TurnPollRet {

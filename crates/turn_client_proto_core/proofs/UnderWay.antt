@@ -39,6 +39,7 @@ failed_from old mid new events count is after = record {
   server = ap (λ (p : Protocol). p.server) after ∙ is.server;
   transport = ap (λ (p : Protocol). p.agent.transport) after ∙ is.transport;
   here = ap (λ (p : Protocol). p.agent.here) after ∙ is.here;
+  no_remote = ap (λ (p : Protocol). p.agent.remote) after;
   phase = ap (λ (p : Protocol). p.phase) after;
   none_outstanding = ap (λ (p : Protocol). p.agent.outstanding) after;
   none_allocated = ap (λ (p : Protocol). p.allocations) after;

@@ -40,11 +40,13 @@ pub record IsUnderWay (old new : Protocol) : Type 0 where
   pub drew : HasDrawn old.rng new.rng
 
 -- a client that was refused memory in a call: it holds nothing, awaits nothing, and sends nothing more; the events
--- that waited before the call still do, and one number was drawn at most
+-- that waited before the call still do, and one number was drawn at most. No other call takes the agent's other side
+-- away: by that a failed client is told from one that has ended
 pub record HasFailed (old new : Protocol) : Type 0 where
   pub server : new.server ≡ old.server
   pub transport : new.agent.transport ≡ old.agent.transport
   pub here : new.agent.here ≡ old.agent.here
+  pub no_remote : new.agent.remote ≡ None
   pub phase : new.phase ≡ Ended
   pub none_outstanding : new.agent.outstanding ≡ finite.empty
   pub none_allocated : new.allocations ≡ []

@@ -1,5 +1,5 @@
 -- What a client makes of a message that came from the server (RFC 8489, section 6.3; RFC 8656).
-use Rattle.std.specs.Prelude.{◌≡◌, ◌≢◌, ℕ, Bool, true, false, ◌&&◌, List, [], Result, Ok, Err}
+use Rattle.std.specs.Prelude.{◌≡◌, ◌≢◌, ℕ, Bool, true, ◌&&◌, List, [], Result, Ok, Err}
 use Rattle.std.specs.Bool.{MatchBool}
 use Rattle.turn_client_proto_api.specs.Client as auth
 use Rattle.turn_client_proto_api.specs.ClientAuthErrors.{LongTermClientAuthError, IntegrityFailed, NoMemory}

@@ -17,7 +17,6 @@ use Rattle.turn_client_proto_core.specs.Deleting.{is_authenticated}
 use Rattle.turn_client_proto_core.specs.declared.protocol.Protocol.{Protocol}
 use Rattle.turn_client_proto_core.specs.Indications.{HasData, IsOfPeer, is_data, last_shown, peer_told, place_of, report_told}
 use Rattle.turn_client_proto_core.specs.Api.Payloads.{part_of}
-use Rattle.turn_client_proto_core.specs.Messages.{Payload as Told}
 use Rattle.turn_client_proto_poll.specs.Payloads.{bound, permitted, carried_for, carried_over, framed_by, payload_framed, payload_of, payload_told}
 use Rattle.turn_client_proto_poll.specs.OfPeers.{IsGiven}
 use Rattle.turn_client_proto_poll.specs.declared.payload.Payload.{Payload}

@@ -88,7 +88,8 @@ Answer = Result (Option Sent) SendError
 
 -- an indication goes under the next number. Where every number there is is taken, memory is refused
 pub data IsIndicated (old : Protocol) (to : SocketAddr) (bytes : List ℕ) (answer : Answer) : Type 0 where
-  Numbered : (number : ℕ) → IsNextNumber old number → answer ≡ Ok (Some (by_control old (indication_to to number bytes)))
+  Numbered : (number : ℕ) → IsNextNumber old number
+      → answer ≡ Ok (Some (by_control old (indication_to to number bytes)))
       → IsIndicated old to bytes answer
   Full : AreAllTaken old → answer ≡ Err NoMemory → IsIndicated old to bytes answer
 

@@ -30,7 +30,8 @@ pub(crate) fn told_in(message: &Message<'_>) -> Option<Told>
     ensures { MatchOption result (shows_unexpected message.now ≡ true) (λ told.
         (shows_unexpected message.now ≡ false)
         × (told.peer ≡ peer_told message.now)
-        × (told.value ≡ option_map (λ e. (e.0, length e.1.value)) (last_shown data_kind message.now))
+        × (told.value
+        ≡ option_map (λ e. (e.0, length e.1.value)) (last_shown data_kind message.now))
         × (told.report ≡ report_told message.now)) }
 {
     let (mut peer, mut value, mut report) = (None, None, None);

@@ -26,6 +26,8 @@ pub enum ClientCall {
     Channels,
     /// `send_to` the peer, over this transport between the server and the peers, of these bytes.
     SendTo(TransportType, SocketAddr, Vec<u8>),
+    /// `poll_recv`.
+    PollRecv,
     /// `protocol_error`.
     ProtocolError,
     /// `relayed_addresses`.

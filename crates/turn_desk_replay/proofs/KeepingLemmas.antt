@@ -33,8 +33,8 @@ set_up : (flags : List Bool) (p : Progress) (setup : SettingUp) (q : Progress) �
 set_up flags p (Desk realm algorithms anonymity) q is = (_, (is.0, refl), is.1)
 set_up flags p (User name password) q is = (_, record { desk = is.desk; there = is.there; after = refl }, is.after)
 set_up flags p (Rto initial max count last) q is = (_, (is.0, is.1, refl), is.2)
-set_up flags p (Client settings) q is =
-    (_, record { core = is.core; first = is.first; new = is.new; after = refl }, is.after)
+set_up flags p (Client by over settings) q is =
+    (_, record { client = is.client; first = is.first; new = is.new; after = refl }, is.after)
 
 happened : (flags : List Bool) (p : Progress) (event : Happening) (answer : Answer) (q : Progress)
     → IsHappenedKept flags (cut flags p) event answer q → (r : Progress) × IsHappened p event answer r × (q ≡ cut flags r)
@@ -69,7 +69,7 @@ done_kept flags p line printed q covered (keeping.SetUp setup read possible is n
     possible_of (Desk realm algorithms anonymity) e = e
     possible_of (User name password) e = e
     possible_of (Rto initial max count last) e = e
-    possible_of (Client settings) e = e
+    possible_of (Client by over settings) e = e
 done_kept flags p line printed q covered (keeping.Answered event read told) =
     let so = happened flags p event told.answer q told.happened in (
       so.0,
@@ -82,7 +82,7 @@ same_standing : (flags : List Bool) (p : Progress) (line : Line) → can_stand (
 same_standing flags p (Setup (Desk realm algorithms anonymity)) = refl
 same_standing flags p (Setup (User name password)) = refl
 same_standing flags p (Setup (Rto initial max count last)) = refl
-same_standing flags p (Setup (Client settings)) = refl
+same_standing flags p (Setup (Client by over settings)) = refl
 same_standing flags p (Event event) = refl
 
 -- a line that stopped a replay, of what is kept, stops it of all

@@ -1,7 +1,7 @@
 -- What a replay keeps from line to line, and what a line makes of it.
 use Rattle.std.specs.Prelude.{◌≡◌, ◌≤◌, ℕ, Bool, true, false, not, ◌&&◌, ◌||◌, List, [], ◌∷◌, ◌++◌, length, Option, Some, None, is_some}
 use Rattle.std.specs.Option.{option_map}
-use Rattle.stun_types.specs.declared.transport.TransportType.TheVariants.{Udp}
+use Rattle.stun_types.specs.declared.transport.TransportType.{TransportType}
 use Rattle.turn_desk_world.specs.Features.{Feature}
 use Rattle.turn_desk_world.specs.State.{State}
 use Rattle.turn_desk_world.specs.declared.answer.Answer.{Answer}
@@ -9,16 +9,16 @@ use Rattle.turn_desk_world.specs.declared.event.Event.{Event}
 use Rattle.turn_desk_world.specs.declared.event.Event.TheVariants.{Call, Draw, ToClient, ToDesk}
 use Rattle.turn_desk_trace.specs.Answer.{named_by}
 use Rattle.turn_desk_trace.specs.declared.setup.Algorithms.{Algorithms}
+use Rattle.turn_desk_trace.specs.Setup.{CanAsk}
 use Rattle.turn_desk_trace.specs.declared.setup.Client.{Client as ClientSetup}
 use Rattle.turn_desk_trace.specs.declared.setup.Setup.{Setup}
 use Rattle.turn_desk_trace.specs.declared.setup.Setup.TheVariants.{Desk, User, Rto, Client}
 use Rattle.turn_desk_trace.specs.declared.setup.TheConstants.{MAX_REALM, MAX_USERNAME}
-use Rattle.turn_desk_world.specs.Beginning.{IsNew}
 use Rattle.turn_desk_world.specs.Clients.{kept_of}
-use Rattle.turn_desk_world.specs.Kept.{Kept, Protocol, over_udp}
+use Rattle.turn_desk_world.specs.Kept.{Kept}
 use Rattle.turn_desk_world.specs.Model.{World}
 use Rattle.turn_desk_world.specs.Runs.{IsRun}
-use Rattle.turn_desk_replay.specs.Settings.{config_of, desk_of, with_user}
+use Rattle.turn_desk_replay.specs.Settings.{IsNewBy, config_of, desk_of, with_user}
 use Rattle.turn_desk_replay.specs.declared.progress.Progress.{Progress as Stored}
 use Rattle.turn_desk_replay.specs.declared.setting.Rto.{Rto as Waiting}
 
@@ -48,7 +48,7 @@ abbrev pub can_be_made : Progress → Setup → Bool
 can_be_made p (Desk realm algorithms anonymity) = not (is_some p.desk)
 can_be_made p (User name password) = is_some p.desk
 can_be_made p (Rto initial max count last) = not (is_some p.rto || is_some p.client)
-can_be_made p (Client settings) = not (is_some p.client)
+can_be_made p (Client by over settings) = not (is_some p.client)
 
 abbrev pub can_set_up : Progress → Setup → Bool
 can_set_up p setup = not (is_some p.world) && can_be_made p setup
@@ -69,11 +69,11 @@ abbrev pub IsRtoSet : Progress → Waiting → Progress → Type 0
 IsRtoSet p rto q = (p.rto ≡ None) × (p.client ≡ None) × (q ≡ record p { rto = Some rto })
 
 -- the client was made
-pub record IsClientAdded (p : Progress) (settings : ClientSetup) (q : Progress) : Type 0 where
-  pub core : Protocol
+pub record IsClientAdded (p : Progress) (by over : TransportType) (settings : ClientSetup) (q : Progress) : Type 0 where
+  pub client : Kept
   pub first : p.client ≡ None
-  pub new : IsNew Udp settings.local settings.remote (config_of settings p.rto) settings.seed core
-  pub after : q ≡ record p { client = Some (over_udp core) }
+  pub new : IsNewBy by settings.local settings.remote (config_of over settings p.rto) settings.seed client
+  pub after : q ≡ record p { client = Some client }
 
 -- a setup line was done
 abbrev pub IsSetUp : Progress → Setup → Progress → Type 0
@@ -81,14 +81,14 @@ IsSetUp p (Desk realm algorithms anonymity) q = IsDeskAdded p realm.now algorith
 IsSetUp p (User name password) q = IsUserAdded p name.now password.now q
 IsSetUp p (Rto initial max count last) q =
     IsRtoSet p (record { initial = initial; max = max; retransmits = count; last = last }) q
-IsSetUp p (Client settings) q = IsClientAdded p settings q
+IsSetUp p (Client by over settings) q = IsClientAdded p by over settings q
 
--- the texts of a setup line are short enough for what it makes
+-- the texts of a setup line are short enough for what it makes, and a client can ask for what it is to ask for
 abbrev pub IsBounded : Setup → Type 0
 IsBounded (Desk realm algorithms anonymity) = length realm.now ≤ MAX_REALM
 IsBounded (User name password) = Unit {0}
 IsBounded (Rto initial max count last) = Unit {0}
-IsBounded (Client settings) = length settings.name.now ≤ MAX_USERNAME
+IsBounded (Client by over settings) = (length settings.name.now ≤ MAX_USERNAME) × CanAsk by over
 
 -- ---- event lines
 

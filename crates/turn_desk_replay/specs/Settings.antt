@@ -1,8 +1,15 @@
 -- What the setup lines of a trace make.
-use Rattle.std.specs.Prelude.{ℕ, List, [], Option, Some, None}
+use Rattle.std.specs.Prelude.{◌≡◌, ℕ, List, [], Option, Some, None}
 use Rattle.std.specs.Duration.{as_nanos}
 use Rattle.std.specs.FinMap as map
+use Rattle.stun_types.specs.declared.transport.TransportType.{TransportType}
+use Rattle.stun_types.specs.declared.transport.TransportType.TheVariants.{Udp, Tcp}
+use Rattle.std.specs.declared.net.socket_addr.SocketAddr.{SocketAddr}
+use Rattle.turn_types.specs.Streams.{alive}
+use Rattle.turn_desk_world.specs.Beginning.{IsNew}
+use Rattle.turn_desk_world.specs.Control.{Open}
 use Rattle.turn_desk_world.specs.Features.{Feature}
+use Rattle.turn_desk_world.specs.Kept.{Kept, over_udp}
 use Rattle.turn_desk_world.specs.State.{State}
 use Rattle.turn_desk_world.specs.Config.{Config, default_config}
 use Rattle.turn_desk_trace.specs.Setup.{algorithms_in_order, families_in_order}
@@ -42,11 +49,18 @@ waiting (Some rto) config = record config {
   };
 }
 
--- the settings of a client that asks for an allocation over UDP
-abbrev pub config_of : Client → Option Rto → Config
-config_of client rto =
+-- the settings of a client that asks for an allocation over a transport
+abbrev pub config_of : TransportType → Client → Option Rto → Config
+config_of over client rto =
     waiting rto (record (default_config (record { username = client.name.now; password = client.password.now })) {
+      transport = over;
       families = families_in_order client.families;
       algorithms = algorithms_in_order client.algorithms;
       anonymous_username = client.anonymity;
     })
+
+-- a client over a transport that is new, with these settings: over TCP nothing has come in its stream
+abbrev pub IsNewBy : TransportType → (here server : SocketAddr) → Config → (seed : List ℕ) → Kept → Type 0
+IsNewBy Udp here server config seed client = IsNew Udp here server config seed client.core × (client ≡ over_udp client.core)
+IsNewBy Tcp here server config seed client =
+    IsNew Tcp here server config seed client.core × (client.control ≡ Open (alive []))

@@ -4,6 +4,7 @@ ghost use Rattle.std.specs.Prelude.{◌≡◌, ◌≤◌, ◌||◌, ◌++◌, �
 ghost use Rattle.std.specs.Option.{option_map};
 ghost use Rattle.std.specs.String.{string_bytes};
 ghost use Rattle.turn_desk_trace.specs.Answer.{named_by};
+ghost use Rattle.turn_desk_trace.specs.Setup.{CanAsk};
 ghost use Rattle.turn_desk_replay.specs.Progress.{IsBounded, IsClientAdded, IsDeskAdded, IsRtoSet, IsRunOfOne, IsSetUp, IsUserAdded, can_happen, can_happen_in, can_set_up, is_of_client, progress_of, world_of};
 ghost use Rattle.turn_desk_replay.specs.Replay.{IsBadLine, line_text, start};
 ghost use Rattle.turn_desk_replay.specs.Keeping.{IsHappenedKept, IsLineDoneKept, IsToldKept};
@@ -14,7 +15,7 @@ use program_lines::cut::is_skipped;
 use program_lines::refusal::LineError;
 use std::alloc::{AllocError, Global};
 use std::slice;
-use stun_types::NoMemory;
+use stun_types::{NoMemory, TransportType};
 use turn_desk_trace::line::{Line, read_line};
 use turn_desk_trace::named::Named;
 use turn_desk_trace::print::answer_line;
@@ -115,7 +116,7 @@ impl Progress {
                 retransmits,
                 last,
             }),
-            Setup::Client(settings) => self.add_client(&settings),
+            Setup::Client { by, over, settings } => self.add_client(by, over, &settings),
         }
     }
 
@@ -167,16 +168,22 @@ impl Progress {
     }
 
     /// Makes the client. `Bad` where there is one.
-    fn add_client(&mut self, settings: &Client<'_>) -> Result<(), LineError>
-        requires { length settings.now.name.now ≤ MAX_USERNAME }
-        ensures ok { OnOk result (IsClientAdded (progress_of self.old) settings.now
+    fn add_client(
+        &mut self,
+        by: TransportType,
+        over: TransportType,
+        settings: &Client<'_>,
+    ) -> Result<(), LineError>
+        requires name { length settings.now.name.now ≤ MAX_USERNAME }
+        requires over { CanAsk by over }
+        ensures ok { OnOk result (IsClientAdded (progress_of self.old) by over settings.now
             (progress_of self.new)) }
         ensures bad { result ≡ Err LineError.Bad → is_some self.old.client ≡ true }
     {
         if self.client.is_some() {
             return Err(LineError::Bad);
         }
-        let client = new_client(self.alloc, settings, self.rto)?;
+        let client = new_client(self.alloc, by, over, settings, self.rto)?;
         self.client = Some(client);
         Ok(())
     }

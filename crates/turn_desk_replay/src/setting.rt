@@ -1,20 +1,18 @@
 //! What the setup lines of a trace make: a desk and a client.
 
 ghost use Rattle.std.specs.Prelude.{◌≡◌, ◌≤◌, IfOk, OnErr, OnOk, length};
-ghost use Rattle.stun_types.specs.declared.transport.TransportType.TheVariants.{Udp};
 ghost use Rattle.turn_desk_world.specs.Clients.{kept_of};
-ghost use Rattle.turn_desk_world.specs.Kept.{over_udp};
-ghost use Rattle.turn_desk_world.specs.Beginning.{IsNew};
-ghost use Rattle.turn_desk_replay.specs.Settings.{config_of, desk_of, waiting, with_user};
-ghost use Rattle.turn_desk_trace.specs.Setup.{algorithms_in_order, families_in_order};
+ghost use Rattle.turn_desk_replay.specs.Settings.{config_of, desk_of, IsNewBy, waiting, with_user};
+ghost use Rattle.turn_desk_trace.specs.Setup.{algorithms_in_order, CanAsk, families_in_order};
 
 use std::alloc::Global;
 use std::time::Duration;
 use stun_types::message::{IntegrityAlgorithm, LongTermCredentials};
-use stun_types::{AddressFamily, NoMemory};
+use stun_types::{AddressFamily, NoMemory, TransportType};
 use turn_desk_trace::setup::{Algorithms, Client, Families, MAX_REALM, MAX_USERNAME};
 use turn_desk_world::client::api::TurnConfig;
 use turn_desk_world::client::client::TurnClient;
+use turn_desk_world::client::tcp::TurnClientTcp;
 use turn_desk_world::client::types::TurnCredentials;
 use turn_desk_world::client::udp::TurnClientUdp;
 use turn_desk_world::core_desk::Desk;
@@ -85,34 +83,46 @@ pub(crate) fn add_user(
     desk.auth_mut().add_user(user)
 }
 
-/// A client of these settings, whose requests wait so, or as those of a new client do.
+/// A client between these transports, of these settings, whose requests wait so, or as those of a new client
+/// do. Over UDP it asks for an allocation over UDP.
 pub(crate) fn new_client(
     alloc: Global,
+    by: TransportType,
+    over: TransportType,
     settings: &Client<'_>,
     rto: Option<Rto>,
 ) -> Result<TurnClient, NoMemory>
-    requires { length settings.now.name.now ≤ MAX_USERNAME }
-    ensures new { IfOk result (λ client. IsNew Udp settings.now.local settings.now.remote
-        (config_of settings.now rto) settings.now.seed (kept_of client).core) }
-    ensures udp { IfOk result (λ client. kept_of client ≡ over_udp (kept_of client).core) }
+    requires name { length settings.now.name.now ≤ MAX_USERNAME }
+    requires over { CanAsk by over }
+    ensures { IfOk result (λ client. IsNewBy by settings.now.local settings.now.remote
+        (config_of over settings.now rto) settings.now.seed (kept_of client)) }
 {
-    let config = config_of(alloc, settings, rto)?;
-    let client = TurnClientUdp::allocate(
-        alloc,
-        settings.local,
-        settings.remote,
-        config,
-        settings.seed,
-    )?;
-    Ok(TurnClient::Udp(client))
+    let config = config_of(alloc, settings, over, rto)?;
+    let (local, remote, seed) = (settings.local, settings.remote, settings.seed);
+    match by {
+        TransportType::Udp => match TurnClientUdp::allocate(alloc, local, remote, config, seed) {
+            Ok(client) => Ok(TurnClient::Udp(client)),
+            Err(error) => Err(error),
+        },
+        TransportType::Tcp => match TurnClientTcp::allocate(alloc, local, remote, config, seed) {
+            Ok(client) => Ok(TurnClient::Tcp(client)),
+            Err(error) => Err(error),
+        },
+    }
 }
 
 /// The settings of a client, whose requests wait so, or as those of a new client do.
-fn config_of(alloc: Global, settings: &Client<'_>, rto: Option<Rto>) -> Result<TurnConfig, NoMemory>
-    ensures { IfOk result (λ config. config ≡ config_of settings.now rto) }
+fn config_of(
+    alloc: Global,
+    settings: &Client<'_>,
+    over: TransportType,
+    rto: Option<Rto>,
+) -> Result<TurnConfig, NoMemory>
+    ensures { IfOk result (λ config. config ≡ config_of over settings.now rto) }
 {
     let credentials = TurnCredentials::new(alloc, settings.name, settings.password)?;
     let mut config = TurnConfig::new(credentials);
+    config.set_allocation_transport(over);
     ask_for(&mut config, settings.families);
     offer(&mut config, settings.algorithms);
     config.set_anonymous_username(settings.anonymity);

@@ -5,7 +5,7 @@ use Rattle.std.specs.declared.net.ip_addr.IpAddr.{IpAddr}
 use Rattle.std.specs.declared.net.socket_addr.SocketAddr.{SocketAddr}
 use Rattle.stun_types.specs.declared.transport.TransportType.{TransportType}
 use Rattle.turn_desk_event.specs.declared.event.ClientCall.{ClientCall}
-use Rattle.turn_desk_event.specs.declared.event.ClientCall.TheVariants.{Poll, PollEvent, Delete, CreatePermission, HavePermission, Permissions, BindChannel, Channels, SendTo, ProtocolError, RelayedAddresses}
+use Rattle.turn_desk_event.specs.declared.event.ClientCall.TheVariants.{Poll, PollEvent, Delete, CreatePermission, HavePermission, Permissions, BindChannel, Channels, SendTo, PollRecv, ProtocolError, RelayedAddresses}
 use Rattle.turn_desk_event.specs.declared.event.Event.{Event}
 use Rattle.turn_desk_event.specs.declared.event.Event.TheVariants.{Call, Draw, ToClient, ToDesk}
 use Rattle.turn_desk_trace.specs.Answer.{transport_word}
@@ -65,6 +65,7 @@ IsCall name rest (BindChannel transport peer) moment =
     (name ≡ codes "bind") × IsBind rest transport peer moment
 IsCall name rest Channels moment = (name ≡ codes "channels") × IsNoMoment rest moment
 IsCall name rest (SendTo transport to bytes) moment = ⊥
+IsCall name rest PollRecv moment = (name ≡ codes "recv") × IsMoment rest moment
 IsCall name rest ProtocolError moment = (name ≡ codes "error") × IsNoMoment rest moment
 IsCall name rest RelayedAddresses moment = (name ≡ codes "relayed") × IsNoMoment rest moment
 

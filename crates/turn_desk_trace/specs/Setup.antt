@@ -8,6 +8,9 @@ use Rattle.stun_proto.specs.Features.{Feature, Auto, Required, Disabled}
 use Rattle.stun_types.specs.IntegrityAlgorithms as integrity
 use Rattle.stun_types.specs.declared.family.AddressFamily.{AddressFamily}
 use Rattle.stun_types.specs.declared.family.AddressFamily.TheVariants.{IPV4, IPV6}
+use Rattle.stun_types.specs.declared.transport.TransportType.{TransportType}
+use Rattle.stun_types.specs.declared.transport.TransportType.TheVariants.{Udp, Tcp}
+use Rattle.turn_desk_trace.specs.Answer.{transport_word}
 use Rattle.turn_desk_trace.specs.Decision.{IsU32}
 use Rattle.turn_desk_trace.specs.TraceNumbers.{number, seed_of}
 use Rattle.turn_desk_trace.specs.declared.setup.Algorithms.{Algorithms}
@@ -53,10 +56,6 @@ anonymity_word Auto = codes "auto"
 anonymity_word Required = codes "required"
 anonymity_word Disabled = codes "disabled"
 
--- the word for UDP
-abbrev pub udp_word : List ℕ
-udp_word = codes "udp"
-
 -- a millisecond, in nanoseconds
 abbrev pub millisecond : ℕ
 millisecond = 1_000_000
@@ -81,7 +80,7 @@ abbrev pub IsRtoOf : List ℕ → List ℕ → List ℕ → List ℕ → Setup �
 IsRtoOf initial most count last (Desk r a b) = ⊥
 IsRtoOf initial most count last (User n p) = ⊥
 IsRtoOf initial most count last (Rto i m n l) = IsMillis initial i × IsMillis most m × IsU32 count n × IsMillis last l
-IsRtoOf initial most count last (Client client) = ⊥
+IsRtoOf initial most count last (Client by over settings) = ⊥
 
 -- the first two waits and the words behind them spell how long requests wait
 abbrev pub IsRtoWith : List ℕ → List ℕ → List (List ℕ) → Setup → Type 0
@@ -118,18 +117,33 @@ IsClientAt local remote (families ∷ algorithms ∷ anonymity ∷ words) client
     IsClientWith local remote families algorithms anonymity words client
 IsClientAt local remote words client = ⊥
 
--- the words behind `client` spell the client: over UDP, for an allocation over UDP
-abbrev pub IsClient : List (List ℕ) → ClientSetup → Type 0
-IsClient (transport ∷ local ∷ remote ∷ asked ∷ words) client =
-    (transport ≡ udp_word) × (asked ≡ udp_word) × IsClientAt local remote words client
-IsClient words client = ⊥
+-- over UDP no allocation over TCP can be asked for (RFC 6062, section 4.1)
+abbrev pub CanAsk : (by over : TransportType) → Type 0
+CanAsk Udp Tcp = ⊥
+CanAsk Udp Udp = Unit {0}
+CanAsk Tcp over = Unit {0}
+
+-- two words name the transport between a client and the server, and that between the server and the peers
+abbrev pub AreTransports : List ℕ → List ℕ → TransportType → TransportType → Type 0
+AreTransports first second by over = (first ≡ transport_word by) × (second ≡ transport_word over) × CanAsk by over
+
+-- the words behind `client` spell the client
+abbrev pub IsClientBy : List ℕ → List ℕ → List ℕ → List ℕ → List (List ℕ) → Setup → Type 0
+IsClientBy by local remote over words (Desk r a b) = ⊥
+IsClientBy by local remote over words (User n p) = ⊥
+IsClientBy by local remote over words (Rto i m n l) = ⊥
+IsClientBy by local remote over words (Client b o settings) = AreTransports by over b o × IsClientAt local remote words settings
+
+abbrev pub IsClient : List (List ℕ) → Setup → Type 0
+IsClient (by ∷ local ∷ remote ∷ over ∷ words) setup = IsClientBy by local remote over words setup
+IsClient words setup = ⊥
 
 -- a name and the words behind it spell the setup line
 abbrev pub IsSetupOf : List ℕ → List (List ℕ) → Setup → Type 0
 IsSetupOf name rest (Desk r a b) = (name ≡ codes "desk") × IsDesk rest (Desk r a b)
 IsSetupOf name rest (User n p) = (name ≡ codes "user") × IsUser rest (User n p)
 IsSetupOf name rest (Rto i m n l) = (name ≡ codes "rto") × IsRto rest (Rto i m n l)
-IsSetupOf name rest (Client client) = (name ≡ codes "client") × IsClient rest client
+IsSetupOf name rest (Client by over settings) = (name ≡ codes "client") × IsClient rest (Client by over settings)
 
 -- the words spell the setup line
 abbrev pub IsSetup : List (List ℕ) → Setup → Type 0

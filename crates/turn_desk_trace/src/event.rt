@@ -252,6 +252,7 @@ fn read_call(name: &str, words: &[&str]) -> Option<(ClientCall, Instant)>
             Some((ClientCall::BindChannel(transport, peer), now))
         }
         "channels" => Some((ClientCall::Channels, read_no_moment(words)?)),
+        "recv" => Some((ClientCall::PollRecv, read_moment(words)?)),
         "error" => Some((ClientCall::ProtocolError, read_no_moment(words)?)),
         "relayed" => Some((ClientCall::RelayedAddresses, read_no_moment(words)?)),
         _ => None,

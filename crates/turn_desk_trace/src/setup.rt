@@ -3,18 +3,19 @@
 ghost use Rattle.std.specs.Prelude.{◌≡◌, ◌≢◌, MatchOption, map};
 ghost use Rattle.std.specs.declared.time.Duration.{Duration};
 ghost use Rattle.stun_proto.specs.Features.{Feature};
+ghost use Rattle.stun_types.specs.declared.transport.TransportType.{TransportType};
 ghost use Rattle.turn_desk_trace.specs.declared.setup.Algorithms.{Algorithms};
 ghost use Rattle.turn_desk_trace.specs.declared.setup.Client.{Client};
 ghost use Rattle.turn_desk_trace.specs.declared.setup.Families.{Families};
 ghost use Rattle.turn_desk_trace.specs.declared.setup.Setup.{Setup};
-ghost use Rattle.turn_desk_trace.specs.Setup.{algorithms_word, anonymity_word, families_word, IsClient, IsClientAt, IsClientOf, IsClientWith, IsDesk, IsMillis, IsRto, IsRtoOf, IsRtoWith, IsSetup, IsUser};
+ghost use Rattle.turn_desk_trace.specs.Setup.{algorithms_word, anonymity_word, AreTransports, families_word, IsClient, IsClientAt, IsClientOf, IsClientWith, IsDesk, IsMillis, IsRto, IsRtoOf, IsRtoWith, IsSetup, IsUser};
 
-use crate::address::read_address;
+use crate::address::{read_address, read_transport};
 use crate::number::{SEED_LENGTH, read_seed, read_u32, read_u64};
 use std::net::SocketAddr;
 use std::time::Duration;
 use stun_proto::auth::Feature as Anonymity;
-use stun_types::registry;
+use stun_types::{TransportType, registry};
 
 /// The most bytes of a realm (RFC 8489, section 14.9).
 pub const MAX_REALM: usize = registry::MAX_TEXT_LENGTH;
@@ -48,7 +49,7 @@ pub enum Families {
     V6AndV4,
 }
 
-/// The settings of a client over UDP, which asks for an allocation over UDP.
+/// The settings of a client, but for its transports.
 #[derive(Clone, Copy, Debug)]
 pub struct Client<'a> {
     /// The own address.
@@ -99,8 +100,16 @@ pub enum Setup<'a> {
         /// The wait behind the last transmission, in whole milliseconds.
         last: Duration,
     },
-    /// `client udp LOCAL REMOTE udp FAMILIES ALGS ANON NAME PASSWORD SEED`: there is a client.
-    Client(Client<'a>),
+    /// `client BY LOCAL REMOTE OVER FAMILIES ALGS ANON NAME PASSWORD SEED`: there is a client.
+    Client {
+        /// The transport between the client and the server.
+        by: TransportType,
+        /// The transport between the server and the peers that the client asks for: UDP, where it speaks
+        /// with the server by UDP.
+        over: TransportType,
+        /// Its other settings.
+        settings: Client<'a>,
+    },
 }
 
 /// The setup line that some words spell. None where they spell none.
@@ -113,10 +122,7 @@ pub fn read_setup<'a>(words: &[&'a str]) -> Option<Setup<'a>>
         ["desk", rest @ ..] => read_desk(rest),
         ["user", rest @ ..] => read_user(rest),
         ["rto", rest @ ..] => read_rto(rest),
-        ["client", rest @ ..] => match read_client(rest) {
-            Some(client) => Some(Setup::Client(client)),
-            None => None,
-        },
+        ["client", rest @ ..] => read_client(rest),
         _ => None,
     }
 }
@@ -207,14 +213,29 @@ fn read_millis(word: &str) -> Option<Duration>
     }
 }
 
-/// The client of the setup line that begins with `client`, from the words behind it.
-fn read_client<'a>(words: &[&'a str]) -> Option<Client<'a>>
-    ensures { MatchOption result ((client : Client)
-        → ¬ (IsClient (map (λ x. x.now) words.entry.now) client))
+/// The setup line that begins with `client`, from the words behind it.
+fn read_client<'a>(words: &[&'a str]) -> Option<Setup<'a>>
+    ensures { MatchOption result ((setup : Setup)
+        → ¬ (IsClient (map (λ x. x.now) words.entry.now) setup))
         (IsClient (map (λ x. x.now) words.entry.now)) }
 {
-    match words {
-        ["udp", local, remote, "udp", rest @ ..] => read_client_at(local, remote, rest),
+    let [by, local, remote, over, rest @ ..] = words else {
+        return None;
+    };
+    let (by, over) = read_transports(by, over)?;
+    let settings = read_client_at(local, remote, rest)?;
+    Some(Setup::Client { by, over, settings })
+}
+
+/// The transports that two words name: that between a client and the server, and that between the server and
+/// the peers, which is UDP where the first is. None where they name none.
+fn read_transports(by: &str, over: &str) -> Option<(TransportType, TransportType)>
+    ensures { MatchOption result ((b o : TransportType) → ¬ (AreTransports by.now over.now b o))
+        (λ read. AreTransports by.now over.now read.0 read.1) }
+{
+    match (read_transport(by), read_transport(over)) {
+        (Some(TransportType::Udp), Some(TransportType::Tcp)) => None,
+        (Some(by), Some(over)) => Some((by, over)),
         _ => None,
     }
 }

@@ -10,7 +10,7 @@ use Rattle.turn_client_proto.specs.Headline.{IsSafe, ShowsTraced, Traced}
 use Rattle.turn_client_proto.specs.Indications.{Carries}
 use Rattle.turn_client_proto.specs.Members.{IsIn}
 use Rattle.turn_client_proto.specs.Messages.{Held, NamesHeld, Payload, FromPeer, FromChannel}
-use Rattle.turn_client_proto.specs.Runs.{Step, AtClient, AtDesk, AtEach, IsLawful}
+use Rattle.turn_client_proto.specs.Runs.{Step, AtClient, AtEach, IsLawful}
 use Rattle.turn_client_proto.specs.Steps.{Call as StepCall, IsDelivered}
 use Rattle.turn_client_proto_steps.specs.ClientWords.{client_words}
 use Rattle.turn_client_proto_steps.specs.RunClient.{Client}

@@ -20,10 +20,10 @@ use Rattle.turn_client_proto.specs.Api.declared.answer.TurnPollRet.TheVariants a
 use Rattle.turn_client_proto.specs.Api.declared.answer.TurnRecvRet.{TurnRecvRet}
 use Rattle.turn_client_proto.specs.Api.declared.answer.TurnRecvRet.TheVariants as recv
 use Rattle.turn_client_proto.specs.Drawing.{sent_of}
+use Rattle.turn_client_proto.specs.Control.{Datagrams}
 use Rattle.turn_client_proto.specs.Kept.{Kept, Protocol}
-use Rattle.turn_client_proto.specs.OfPeers.{told_of}
 use Rattle.turn_client_proto.specs.Payloads.{payload_of}
-use Rattle.turn_client_proto.specs.Receipts.{Foreign, Heard, IsDatagramTaken, IsGivenBack, IsHandedOver, IsHandledAs, IsMessageTaken, IsRead, IsReceived, Lost, Own}
+use Rattle.turn_client_proto.specs.Datagrams.{Foreign, Heard, IsDatagramTaken, IsGivenBack, IsHandedOver, IsHandledAs, IsMessageTaken, IsRead, Lost, Own}
 use Rattle.turn_client_proto.specs.Steps.{Call, ClientStep}
 use Rattle.turn_client_proto_steps.specs.Payload.{Payload}
 use Rattle.turn_client_proto_steps.specs.ClientWords.{IsHeld, client_words}
@@ -46,7 +46,7 @@ use Rattle.turn_desk_event.specs.declared.event.ClientCall.{ClientCall}
 use Rattle.turn_desk_event.specs.declared.event.ClientCall.TheVariants as call
 use Rattle.turn_desk_event.specs.declared.event.Event.{Event}
 use Rattle.turn_desk_event.specs.declared.event.Event.TheVariants as event
-use Rattle.turn_desk_world.specs.Calls.{AreChannelsTold, ArePermissionsTold, IsBindTold, IsCalled, IsDeleteTold, IsDrawnAs, IsEndTold, IsEventTold, IsFed, IsHaveTold, IsPermissionTold, IsPolledAs, IsRelayedTold, IsSendTold, IsTold}
+use Rattle.turn_desk_world.specs.Calls.{AreChannelsTold, ArePermissionsTold, IsBindTold, IsCallTold, IsCalled, IsDeleteTold, IsDrawnAs, IsEndTold, IsEventTold, IsFed, IsHaveTold, IsPermissionTold, IsPolledAs, IsRelayedTold, IsSendTold, IsTold, IsWaitingTold}
 use Rattle.turn_desk_world.specs.Told.{IsFairEvent, arriving, bytes_drawn, data_of, given_by, given_of, kept_by, notices_in, payloads_in}
 use Rattle.turn_desk_world.proofs.Handed.{handed_over}
 use Rattle.turn_desk_world.proofs.Shown.{AreHeld, channels_held, had_is_held, permissions_held, relayed_held}
@@ -152,8 +152,15 @@ module _ (c : Client) (sound : IsSound c) (now : ℕ) (new : Protocol) where
   called (call.BindChannel transport peer) ret fair is = bind_told (call.BindChannel transport peer) c sound now new transport peer fair ret is
   called call.Channels ret fair is = channels_told call.Channels c sound now new ret is
   called (call.SendTo transport to bytes) ret fair is = send_told (call.SendTo transport to bytes) c sound now new transport to bytes.items ret is
+  called call.PollRecv ret fair is = absurd is
   called call.ProtocolError ret fair is = end_told call.ProtocolError c sound now new ret is
   called call.RelayedAddresses ret fair is = relayed_told call.RelayedAddresses c sound now new ret is
+
+  -- nothing waits over UDP
+  waiting_told : (ret : Answer) (k : Kept) → k.core ≡ new → IsWaitingTold ret (kept_by c) now k → (k.control ≡ Datagrams) × IsAnswered (event.Call call.PollRecv now) c ret new
+  waiting_told (answer.Peer given) k core is = absurd (Prim.cc is.0)
+  waiting_told answer.Nothing k core is = (is.2, by_call call.PollRecv c sound now new answer.Nothing (still c [] new sound (sym core ∙ is.1)) (λ h i. absurd i))
+  waiting_told _ k core is = absurd is
 
   -- ---- what is sent
 
@@ -165,6 +172,23 @@ module _ (c : Client) (sound : IsSound c) (now : ℕ) (new : Protocol) where
   drawn (answer.Transmit transmit) is = by_draw (answer.Transmit transmit) (draw_step c now (Some (sent_of transmit)) new sound is) (λ h i. absurd i)
   drawn answer.Nothing is = by_draw answer.Nothing (draw_step c now None new sound is) (λ h i. absurd i)
   drawn _ is = absurd is
+
+-- a call, whatever it is
+pub call_told : (c : Client) (sound : IsSound c) (now : ℕ) (what : ClientCall) (ret : Answer) (k : Kept) → IsFairEvent (event.Call what now) → IsCallTold what ret (kept_by c) now k
+    → (k.control ≡ Datagrams) × IsAnswered (event.Call what now) c ret k.core
+unfolding IsCallTold
+call_told c sound now call.PollRecv ret k fair is = waiting_told c sound now k.core ret k refl is
+call_told c sound now call.Poll ret k fair is = (is.1, called c sound now k.core call.Poll ret fair is.0)
+call_told c sound now call.PollEvent ret k fair is = (is.1, called c sound now k.core call.PollEvent ret fair is.0)
+call_told c sound now call.Delete ret k fair is = (is.1, called c sound now k.core call.Delete ret fair is.0)
+call_told c sound now (call.CreatePermission transport ip) ret k fair is = (is.1, called c sound now k.core (call.CreatePermission transport ip) ret fair is.0)
+call_told c sound now (call.HavePermission transport ip) ret k fair is = (is.1, called c sound now k.core (call.HavePermission transport ip) ret fair is.0)
+call_told c sound now (call.Permissions transport relayed) ret k fair is = (is.1, called c sound now k.core (call.Permissions transport relayed) ret fair is.0)
+call_told c sound now (call.BindChannel transport peer) ret k fair is = (is.1, called c sound now k.core (call.BindChannel transport peer) ret fair is.0)
+call_told c sound now call.Channels ret k fair is = (is.1, called c sound now k.core call.Channels ret fair is.0)
+call_told c sound now (call.SendTo transport to bytes) ret k fair is = (is.1, called c sound now k.core (call.SendTo transport to bytes) ret fair is.0)
+call_told c sound now call.ProtocolError ret k fair is = (is.1, called c sound now k.core call.ProtocolError ret fair is.0)
+call_told c sound now call.RelayedAddresses ret k fair is = (is.1, called c sound now k.core call.RelayedAddresses ret fair is.0)
 
 -- ---- what came
 
@@ -239,7 +263,7 @@ told_of_it bytes (recv.PeerIcmp t p k c d) _ is = absurd is
 told_of_it bytes _ ret is = absurd is
 
 pub fed : (c : Client) (sound : IsSound c) (ret : Answer) (bytes : Vec ℕ Global) (from to : SocketAddr) (now : ℕ) (new : Kept) → IsFed ret (kept_by c) bytes.items from to now new
-    → (new.control ≡ None) × IsAnswered (event.ToClient bytes from to now) c ret new.core
+    → (new.control ≡ Datagrams) × IsAnswered (event.ToClient bytes from to now) c ret new.core
 fed c sound ret bytes from to now new is =
     let came_bytes : AreBytes is.came.bytes.now = subst AreBytes (sym is.bytes_are) is.are_bytes in
     let up = received (λ (b : Bor (List ℕ)). b.now) c sound is.came now is.took new.core came_bytes is.received.0 in

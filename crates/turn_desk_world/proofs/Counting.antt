@@ -9,7 +9,7 @@ use Rattle.turn_desk_event.specs.declared.answer.Answer.{Answer}
 use Rattle.turn_desk_event.specs.declared.event.Event.{Event}
 use Rattle.turn_desk_event.specs.declared.event.Event.TheVariants.{Call, Draw, ToClient, ToDesk}
 use Rattle.turn_desk_steps.specs.DeskRun.{DeskCall}
-use Rattle.turn_desk_world.specs.Calls.{IsCalled, IsDrawnAs, IsFed}
+use Rattle.turn_desk_world.specs.Calls.{IsCallTold, IsDrawnAs, IsFed}
 use Rattle.turn_desk_world.specs.Model.{World}
 use Rattle.turn_desk_world.specs.Runs.{IsAtClient, IsStep}
 use Rattle.turn_desk_world.specs.Safety.{words}
@@ -45,8 +45,8 @@ module _ (old old' next next' : World) (same : old.client ≡ old'.client) where
   alike : (event : Event) (ret : Answer) (steps others : List (Step Client DeskCall)) → IsStep event old ret next → IsStep event old' ret next' → AreStepsBy event ret old steps next → AreStepsBy event ret old' others next' → Alike steps others
   alike (Call what now) ret steps others a b x y =
       calls_alike (Call what now) ret steps others
-      (at_client_once now (λ r p q. Leaves (λ v w. IsCalled what r v now w) p q) (λ p v w q r. called_once what p now v w q r) old.client ret ret next.client next'.client a.0
-      (from_one now (Leaves (λ v w. IsCalled what ret v now w)) ret b.0)).1 x y
+      (at_client_once now (λ r p q. IsCallTold what r p now q) (λ p v w q r. called_once what p now v w q r) old.client ret ret next.client next'.client a.0
+      (from_one now (λ p q. IsCallTold what ret p now q) ret b.0)).1 x y
   alike (Draw now) ret steps others a b x y =
       calls_alike (Draw now) ret steps others
       (at_client_once now (λ r p q. Leaves (λ v w. IsDrawnAs r v now w) p q) (λ p v w q r. drawn_once p now v w q r) old.client ret ret next.client next'.client a.0

@@ -22,7 +22,11 @@ use Rattle.turn_client_proto.specs.Binding.{IsBindAnswered}
 use Rattle.turn_client_proto.specs.Deleting.{IsDeleteAnswered}
 use Rattle.turn_client_proto.specs.Drawing.{sent_of}
 use Rattle.turn_client_proto.specs.Api.Payloads.{PeerPayload}
+use Rattle.turn_client_proto.specs.Api.Payloads.{PeerPayload}
+use Rattle.turn_client_proto.specs.Control.{Control, Datagrams, Open, Closed}
 use Rattle.turn_client_proto.specs.Kept.{Kept, Leaves, Protocol}
+use Rattle.turn_client_proto.specs.Receipts.{IsGivenBy}
+use Rattle.turn_client_proto.proofs.Definite.{pulled_same}
 use Rattle.turn_client_proto.specs.Permitting.{IsPermissionAnswered}
 use Rattle.turn_client_proto.specs.Polling.{IsPolled}
 use Rattle.turn_desk_world.specs.Copies.{AreAlike, BothData, BothGivenBack, BothHandled, BothReports, IsCopy}
@@ -38,7 +42,7 @@ use Rattle.turn_desk_event.specs.declared.answer.Answer.TheVariants as answer
 use Rattle.turn_desk_event.specs.declared.answer.Refusal.TheVariants.{BindChannel as BindRefused, CreatePermission as PermissionRefused, Delete as DeleteRefused, Send as SendRefused}
 use Rattle.turn_desk_event.specs.declared.event.ClientCall.{ClientCall}
 use Rattle.turn_desk_event.specs.declared.event.ClientCall.TheVariants as call
-use Rattle.turn_desk_world.specs.Calls.{AreChannelsTold, ArePermissionsTold, IsBindTold, IsCalled, IsDeleteTold, IsDrawnAs, IsEndTold, IsEventTold, IsFed, IsHaveTold, IsPermissionTold, IsPolledAs, IsRelayedTold, IsSendTold, IsTold}
+use Rattle.turn_desk_world.specs.Calls.{AreChannelsTold, ArePermissionsTold, IsBindTold, IsCallTold, IsCalled, IsDeleteTold, IsDrawnAs, IsEndTold, IsEventTold, IsFed, IsHaveTold, IsPermissionTold, IsPolledAs, IsRelayedTold, IsSendTold, IsTold, IsWaitingTold}
 use Rattle.turn_desk_world.specs.Determined.{IsSame}
 use Rattle.turn_desk_world.specs.Runs.{IsAtClient, IsInRange, is_in_range}
 
@@ -235,6 +239,7 @@ called (call.BindChannel transport peer) old now ret again new other a b =
     by_definite answer_of_binding (Binds old now transport peer) (binds old now transport peer) ret again new other (by_binding old now transport peer ret new a) (by_binding old now transport peer again other b)
 called call.Channels old now ret again new other a b = channels_told old ret again new other a b
 called (call.SendTo transport to bytes) old now ret again new other a b = sent_same transport to bytes.items old now ret again new other a b
+called call.PollRecv old now ret again new other a b = absurd a
 called call.ProtocolError old now ret again new other a b = end_told old ret again new other a b
 called call.RelayedAddresses old now ret again new other a b = relayed_told old ret again new other a b
 
@@ -245,8 +250,48 @@ leaves Does once old ret again new other a b =
     let same = once old.core ret again new.core other.core a.0 b.0 in
     (same.0, kept_same new other same.1 (a.1 ∙ sym b.1))
 
-pub called_once : (what : ClientCall) (old : Kept) (now : ℕ) (ret again : Answer) (new other : Kept) → Leaves (λ p q. IsCalled what ret p now q) old new → Leaves (λ p q. IsCalled what again p now q) old other → AreOne ret again new other
-called_once what old now ret again new other a b = leaves (λ x p q. IsCalled what x p now q) (λ p x y q r. called what p now x y q r) old ret again new other a b
+-- what was given of what waits
+waiting_by : (control : Control) (now : ℕ) (core : Protocol) (given again : Option PeerPayload) (new other : Kept) → IsGivenBy now control core given new → IsGivenBy now control core again other → (given ≡ again) × (new ≡ other)
+waiting_by Datagrams now core given again new other a b = (a.0 ∙ sym b.0, kept_same new other (a.1 ∙ sym b.1) (a.2 ∙ sym b.2))
+waiting_by (Open stream) now core given again new other a b =
+    let same = pulled_same now stream core given again a.left b.left new.core other.core a.pulled b.pulled in
+    (same.0, kept_same new other same.2 (a.stands ∙ ap Open same.1 ∙ sym b.stands))
+waiting_by Closed now core given again new other a b = (a.0 ∙ sym b.0, kept_same new other (a.1 ∙ sym b.1) (a.2 ∙ sym b.2))
+
+waiting_told : (old : Kept) (now : ℕ) (ret again : Answer) (new other : Kept) → IsWaitingTold ret old now new → IsWaitingTold again old now other → AreOne ret again new other
+waiting_told old now (answer.Peer given) (answer.Peer more) new other a b =
+    let same = waiting_by old.control now old.core (Some given) (Some more) new other a b in
+    (ap answer.Peer (Prim.cc same.0), same.1)
+waiting_told old now (answer.Peer given) answer.Nothing new other a b =
+    let same = waiting_by old.control now old.core (Some given) None new other a b in
+    absurd (Prim.cc same.0)
+waiting_told old now answer.Nothing (answer.Peer more) new other a b =
+    let same = waiting_by old.control now old.core None (Some more) new other a b in
+    absurd (Prim.cc same.0)
+waiting_told old now answer.Nothing answer.Nothing new other a b =
+    let same = waiting_by old.control now old.core None None new other a b in
+    (refl, same.1)
+waiting_told old now (answer.Peer given) _ new other a b = absurd b
+waiting_told old now answer.Nothing _ new other a b = absurd b
+waiting_told old now _ again new other a b = absurd a
+
+left_once : (what : ClientCall) (old : Kept) (now : ℕ) (ret again : Answer) (new other : Kept) → Leaves (λ p q. IsCalled what ret p now q) old new → Leaves (λ p q. IsCalled what again p now q) old other → AreOne ret again new other
+left_once what old now ret again new other a b = leaves (λ x p q. IsCalled what x p now q) (λ p x y q r. called what p now x y q r) old ret again new other a b
+
+pub called_once : (what : ClientCall) (old : Kept) (now : ℕ) (ret again : Answer) (new other : Kept) → IsCallTold what ret old now new → IsCallTold what again old now other → AreOne ret again new other
+unfolding IsCallTold
+called_once call.PollRecv old now ret again new other a b = waiting_told old now ret again new other a b
+called_once call.Poll old now ret again new other a b = left_once call.Poll old now ret again new other a b
+called_once call.PollEvent old now ret again new other a b = left_once call.PollEvent old now ret again new other a b
+called_once call.Delete old now ret again new other a b = left_once call.Delete old now ret again new other a b
+called_once (call.CreatePermission transport ip) old now ret again new other a b = left_once (call.CreatePermission transport ip) old now ret again new other a b
+called_once (call.HavePermission transport ip) old now ret again new other a b = left_once (call.HavePermission transport ip) old now ret again new other a b
+called_once (call.Permissions transport relayed) old now ret again new other a b = left_once (call.Permissions transport relayed) old now ret again new other a b
+called_once (call.BindChannel transport peer) old now ret again new other a b = left_once (call.BindChannel transport peer) old now ret again new other a b
+called_once call.Channels old now ret again new other a b = left_once call.Channels old now ret again new other a b
+called_once (call.SendTo transport to bytes) old now ret again new other a b = left_once (call.SendTo transport to bytes) old now ret again new other a b
+called_once call.ProtocolError old now ret again new other a b = left_once call.ProtocolError old now ret again new other a b
+called_once call.RelayedAddresses old now ret again new other a b = left_once call.RelayedAddresses old now ret again new other a b
 
 -- ---- what is sent
 

@@ -8,16 +8,16 @@ use Rattle.stun_types.specs.Grammar.{refusal}
 use Rattle.stun_types.specs.ParseErrors.{StunParseError}
 use Rattle.stun_types.specs.declared.transmit.Transmit.{Transmit}
 use Rattle.stun_types.specs.declared.transport.TransportType.{TransportType}
-use Rattle.turn_types.specs.ChannelFrames.{Frame, frame_at}
+use Rattle.turn_types.specs.ChannelFrames.{Frame}
 use Rattle.turn_types.specs.PeerValues.{IcmpReport}
 use Rattle.turn_client_proto.specs.Api.declared.answer.TurnRecvRet.{TurnRecvRet}
 use Rattle.turn_client_proto.specs.Deleting.{is_authenticated}
 use Rattle.turn_client_proto.specs.Indications.{data_place, is_data, peer_told, report_told}
 use Rattle.turn_client_proto.specs.Kept.{Protocol}
-use Rattle.turn_client_proto.specs.Messages.{FromChannel, Payload as Told}
+use Rattle.turn_client_proto.specs.Messages.{FromChannel}
 use Rattle.turn_client_proto.specs.OfPeers.{told_of}
 use Rattle.turn_client_proto.specs.Payloads.{carried_for, carried_over, payload_framed, payload_of, payload_told, permitted}
-use Rattle.turn_client_proto.specs.Receipts.{IsHandedOver, in_place}
+use Rattle.turn_client_proto.specs.Datagrams.{IsHandedOver, in_place}
 use Rattle.turn_client_proto_steps.specs.Payload.{Payload}
 use Rattle.turn_client_proto_steps.specs.Payload.TheVariants.{Data, Framed, Report}
 use Rattle.turn_client_proto_steps.proofs.OfPeers.{payload_of_peer}

@@ -10,7 +10,7 @@ use Rattle.turn_desk_steps.specs.State.{State}
 use Rattle.turn_desk_event.specs.declared.event.ClientCall.{ClientCall}
 use Rattle.turn_desk_event.specs.declared.event.Event.{Event}
 use Rattle.turn_desk_event.specs.declared.event.Event.TheVariants.{Call, Draw, ToClient}
-use Rattle.turn_desk_world.specs.Calls.{IsCalled, IsDrawnAs, IsFed}
+use Rattle.turn_desk_world.specs.Calls.{IsCallTold, IsDrawnAs, IsFed}
 use Rattle.turn_desk_world.specs.Model.{World}
 use Rattle.turn_desk_world.specs.Runs.{IsAtClient, IsRun, IsStep}
 
@@ -69,7 +69,7 @@ module _ {E : Type 0} (desk : State) (client new : Option Kept) (failed : Bool) 
   abbrev after : World
   after = record { desk = desk; client = new; is_failed = failed }
 
-  pub called : (call : ClientCall) (now : ℕ) → IfOk result (λ a. IsAtClient now (Leaves (λ p q. IsCalled call a p now q)) client a new)
+  pub called : (call : ClientCall) (now : ℕ) → IfOk result (λ a. IsAtClient now (λ p q. IsCallTold call a p now q) client a new)
       → IfOk result (λ a. IsStep (Call call now) before a after)
   called call now is = on_answer _ _ result (λ a h. (h, refl)) is
 

@@ -13,4 +13,5 @@ pub mod Receiving
 pub mod Safe
 pub mod Shown
 pub mod Sides
+pub mod Streaming
 pub mod Telling

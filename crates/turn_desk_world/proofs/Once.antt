@@ -14,7 +14,7 @@ use Rattle.turn_desk_event.specs.declared.answer.Answer.TheVariants as answer
 use Rattle.turn_desk_event.specs.declared.decision.Decision.{Decision}
 use Rattle.turn_desk_event.specs.declared.event.Event.{Event}
 use Rattle.turn_desk_event.specs.declared.event.Event.TheVariants.{Call, Draw, ToClient, ToDesk}
-use Rattle.turn_desk_world.specs.Calls.{IsCalled, IsDrawnAs, IsFed}
+use Rattle.turn_desk_world.specs.Calls.{IsCallTold, IsDrawnAs, IsFed}
 use Rattle.turn_desk_world.specs.Desks.{IsReply, words_of}
 use Rattle.turn_desk_world.specs.Determined.{AreSame, HaveSameEvents, IsSame}
 use Rattle.turn_desk_world.specs.Model.{World}
@@ -52,7 +52,7 @@ IsSure w _ = Unit {0}
 
 step_once : (event : Event) (old : World) (ret again : Answer) (new other : World) → IsSure old event → IsStep event old ret new → IsStep event old again other → IsSame ret again × (new ≡ other)
 step_once (Call what now) old ret again new other sure a b =
-    let same = at_client_once now (λ x p q. Leaves (λ a b. IsCalled what x a now b) p q) (λ p x y q r. called_once what p now x y q r) old.client ret again new.client other.client a.0 b.0 in
+    let same = at_client_once now (λ x p q. IsCallTold what x p now q) (λ p x y q r. called_once what p now x y q r) old.client ret again new.client other.client a.0 b.0 in
     (same.0, of_client old new other a.1 b.1 same.1)
 step_once (Draw now) old ret again new other sure a b =
     let same = at_client_once now (λ x p q. Leaves (λ a b. IsDrawnAs x a now b) p q) (λ p x y q r. drawn_once p now x y q r) old.client ret again new.client other.client a.0 b.0 in

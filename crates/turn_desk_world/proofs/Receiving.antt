@@ -1,19 +1,21 @@
--- What a client makes of a datagram is one outcome, wherever the datagram's bytes lie, but for want of memory.
+-- What a client makes of bytes that came is one outcome, wherever the bytes lie, but for want of memory.
 use Rattle.std.proofs.Common.{◌≡◌, ◌≢◌, ℕ, Bool, true, false, List, Option, Some, None, refl, sym, ap, ◌∙◌, subst}
 use Rattle.std.specs.Prelude.{MatchOption}
 use Rattle.stun_types.specs.Grammar.{refusal}
 use Rattle.stun_types.specs.ParseErrors.{StunParseError}
 use Rattle.stun_types.specs.declared.transmit.Transmit.{Transmit}
-use Rattle.turn_types.specs.Streams.{Stream}
 use Rattle.turn_client_proto.specs.Api.declared.answer.TurnRecvRet.{TurnRecvRet}
 use Rattle.turn_client_proto.specs.Api.declared.answer.TurnRecvRet.TheVariants.{NoMemory, PeerData}
 use Rattle.turn_client_proto.specs.Kept.{Kept, Protocol}
 use Rattle.turn_client_proto.specs.Payloads.{payload_of}
-use Rattle.turn_client_proto.specs.Receipts.{Foreign, Heard, IsDatagramTaken, IsGivenBack, IsHandedOver, IsHandledAs, IsMessageTaken, IsOfServer, IsRead, IsReceived, Lost, Own, in_place}
+use Rattle.turn_client_proto.specs.Datagrams.{Foreign, Heard, IsDatagramTaken, IsGivenBack, IsHandedOver, IsHandledAs, IsMessageTaken, IsOfServer, IsRead, Lost, Own, in_place}
+use Rattle.turn_client_proto.specs.Control.{Control, Datagrams, Open, Closed}
+use Rattle.turn_client_proto.specs.Receipts.{IsReceived, IsReceivedBy}
 use Rattle.turn_client_proto_steps.specs.Payload.{Payload}
 use Rattle.turn_client_proto_steps.specs.Payload.TheVariants.{Data, Framed, Report}
 use Rattle.turn_desk_world.specs.Copies.{AreAlike, BothData, BothGivenBack, BothHandled, BothReports, IsCopy}
 use Rattle.turn_client_proto_steps.proofs.Once.Hearing.{heard_definite}
+use Rattle.turn_desk_world.proofs.Streaming.{streamed_same}
 
 module _ {T : Type 0} (items : T → List ℕ) (old : Protocol) (came copy : Transmit T) (now : ℕ) (answer again : TurnRecvRet T) (one other : Protocol) where
   abbrev pub Agree : Type 0
@@ -69,13 +71,23 @@ module _ {T : Type 0} (items : T → List ℕ) (old : Protocol) (came copy : Tra
 
 -- what keeps the same, and has the same stream, is the same
 pub kept_same : (one other : Kept) → one.core ≡ other.core → one.control ≡ other.control → one ≡ other
-kept_same one other cores controls = ap (λ (p : Protocol). record one { core = p }) cores ∙ ap (λ (o : Option Stream). record other { control = o }) controls
+kept_same one other cores controls = ap (λ (p : Protocol). record one { core = p }) cores ∙ ap (λ (o : Control). record other { control = o }) controls
+
+module _ {T : Type 0} (items : T → List ℕ) (old : Protocol) (came copy : Transmit T) (now : ℕ) (answer again : TurnRecvRet T) (one other : Kept) (enough : answer ≢ NoMemory came) (ample : again ≢ NoMemory copy) (is : IsCopy items came copy) where
+  received_by : (control : Control) → IsReceivedBy items now control old came answer one → IsReceivedBy items now control old copy again other → AreAlike came copy answer again × (one ≡ other)
+  received_by Datagrams a b =
+      let same = datagram_same items old came copy now answer again one.core other.core enough ample is a.0 b.0 in
+      (same.0, kept_same one other same.1 (a.1 ∙ sym b.1))
+  received_by (Open stream) a b =
+      let same = streamed_same items now stream old came copy answer again one other enough ample is a b in
+      (same.0, kept_same one other same.1 same.2)
+  received_by Closed a b =
+      let same = given_back items old came copy now answer again one.core other.core a.0 b.0 in
+      (same.0, kept_same one other same.1 (a.1 ∙ sym b.1))
 
 pub received_same : {T : Type 0} (items : T → List ℕ) (old : Kept) (came copy : Transmit T) (now : ℕ) (answer again : TurnRecvRet T) (one other : Kept) → answer ≢ NoMemory came → again ≢ NoMemory copy
     → IsCopy items came copy → IsReceived items old came now answer one → IsReceived items old copy now again other → AreAlike came copy answer again × (one ≡ other)
-received_same items old came copy now answer again one other enough ample is a b =
-    let same = datagram_same items old.core came copy now answer again one.core other.core enough ample is a.0 b.0 in
-    (same.0, kept_same one other same.1 (a.1 ∙ sym b.1))
+received_same items old came copy now answer again one other enough ample is a b = received_by items old.core came copy now answer again one other enough ample is old.control a b
 
 -- the same datagram, twice
 pub received_once : {T : Type 0} (items : T → List ℕ) (old : Kept) (came : Transmit T) (now : ℕ) (answer again : TurnRecvRet T) (one other : Kept) → answer ≢ NoMemory came → again ≢ NoMemory came

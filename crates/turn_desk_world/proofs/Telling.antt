@@ -4,6 +4,7 @@ use Rattle.std.specs.List.{AllByRecursion}
 use Rattle.turn_client_proto.specs.Members.{IsIn}
 use Rattle.turn_client_proto.specs.Messages.{Held}
 use Rattle.turn_client_proto.specs.Runs.{Step, AtClient, AtDesk, AtEach, IsLawful, Leads}
+use Rattle.turn_client_proto.specs.Control.{Control, Datagrams}
 use Rattle.turn_client_proto.specs.Kept.{Kept, Leaves, Protocol, over_udp}
 use Rattle.turn_client_proto.specs.Steps.{Call}
 use Rattle.turn_client_proto_steps.specs.ClientWords.{IsHeld, client_words}
@@ -18,13 +19,12 @@ use Rattle.turn_desk_event.specs.declared.event.Event.{Event}
 use Rattle.turn_desk_event.specs.declared.event.Event.TheVariants as event
 use Rattle.turn_desk_event.specs.declared.event.Event.TheVariants.{Draw, ToClient, ToDesk}
 use Rattle.turn_desk_steps.specs.DeskRun.{DeskCall}
-use Rattle.turn_types.specs.Streams.{Stream}
 use Rattle.turn_desk_world.specs.Model.{World}
-use Rattle.turn_desk_world.specs.Calls.{IsCalled, IsDrawnAs}
+use Rattle.turn_desk_world.specs.Calls.{IsDrawnAs}
 use Rattle.turn_desk_world.specs.Runs.{IsAtClient, IsInRange, IsRun, IsStep, is_in_range}
 use Rattle.turn_desk_world.specs.Safety.{words}
 use Rattle.turn_desk_world.specs.Told.{AreStepsBy, IsCallOf, IsFair, IsFairEvent, IsToldBy, desk_call, kept_by, shown_in}
-use Rattle.turn_desk_world.proofs.AtClient.{IsAnswered, called, drawn, fed, nothing_done, telling_call}
+use Rattle.turn_desk_world.proofs.AtClient.{IsAnswered, call_told, drawn, fed, nothing_done, telling_call}
 use Rattle.turn_desk_world.proofs.AtDesk.{desk_step}
 use Rattle.turn_desk_world.proofs.Chain.{each_behind, leads_behind}
 
@@ -41,13 +41,13 @@ record IsOne (event : Event) (ret : Answer) (c : Client) (old new : World) : Typ
   lawful : AtEach (λ s _. IsLawful words s) steps
 
 -- a client without a stream is one over UDP
-udp_again : (k : Kept) → k.control ≡ None → over_udp k.core ≡ k
-udp_again k none = ap (λ (o : Option Stream). record k { control = o }) (sym none)
+udp_again : (k : Kept) → k.control ≡ Datagrams → over_udp k.core ≡ k
+udp_again k none = ap (λ (o : Control). record k { control = o }) (sym none)
 
 module _ (event : Event) (c : Client) (sound : IsSound c) (ret : Answer) where
   -- the client is left so by an event that is answered so
   abbrev Left : Kept → Type 0
-  Left k = (k.control ≡ None) × IsAnswered event c ret k.core
+  Left k = (k.control ≡ Datagrams) × IsAnswered event c ret k.core
 
   -- by a call that leaves the stream as it is
   leaves : (Does : Protocol → Protocol → Type 0) → ((core : Protocol) → Does c.core core → IsAnswered event c ret core) → (k : Kept) → Leaves Does (kept_by c) k → Left k
@@ -105,7 +105,7 @@ by_event : (event : Event) (ret : Answer) (c : Client) (old new : World) → IsS
 by_event (event.Call what now) ret c old new sound held fair is =
     client_step (event.Call what now) c sound ret old new held (λ one h. (one, refl, h))
     (at_client (event.Call what now) c sound ret now _ old.client new.client held
-    (leaves (event.Call what now) c sound ret (λ p q. IsCalled what ret p now q) (λ core h. called c sound now core what ret fair h)) is.0)
+    (λ q h. call_told c sound now what ret q fair h) is.0)
 by_event (Draw now) ret c old new sound held fair is =
     client_step (Draw now) c sound ret old new held (λ one h. (one, refl, h))
     (at_client (Draw now) c sound ret now _ old.client new.client held

@@ -14,20 +14,20 @@ use Rattle.turn_client_proto.specs.Api.declared.error.CreatePermissionError.TheV
 use Rattle.turn_client_proto.specs.Api.declared.error.DeleteError.TheVariants as not_deleted
 use Rattle.turn_client_proto.specs.Api.declared.error.SendError.TheVariants as not_sent
 use Rattle.turn_client_proto.specs.Getters.{channels_of, has_permission, permissions_of, relayed_of}
-use Rattle.turn_client_proto.specs.Receipts.{IsReceived}
+use Rattle.turn_client_proto.specs.Receipts.{IsReceived, IsWaitingGiven}
 use Rattle.turn_client_proto.specs.Binding.{IsBindAnswered}
 use Rattle.turn_client_proto.specs.Deleting.{IsDeleteAnswered}
 use Rattle.turn_client_proto.specs.Drawing.{IsDrawn, sent_of}
 use Rattle.turn_client_proto.specs.Ending.{ended}
 use Rattle.turn_client_proto.specs.Permitting.{IsPermissionAnswered}
 use Rattle.turn_client_proto.specs.Polling.{IsPolled}
-use Rattle.turn_client_proto.specs.Kept.{Kept, Protocol}
+use Rattle.turn_client_proto.specs.Kept.{Kept, Leaves, Protocol}
 use Rattle.turn_client_proto.specs.Sending.{IsSendAnswered}
 use Rattle.turn_desk_event.specs.declared.answer.Answer.{Answer}
 use Rattle.turn_desk_event.specs.declared.answer.Answer.TheVariants as answer
 use Rattle.turn_desk_event.specs.declared.answer.Refusal.TheVariants.{BindChannel as BindRefused, CreatePermission as PermissionRefused, Delete as DeleteRefused, Send as SendRefused}
 use Rattle.turn_desk_event.specs.declared.event.ClientCall.{ClientCall}
-use Rattle.turn_desk_event.specs.declared.event.ClientCall.TheVariants.{Poll, PollEvent, Delete, CreatePermission, HavePermission, Permissions, BindChannel, Channels, SendTo, ProtocolError, RelayedAddresses}
+use Rattle.turn_desk_event.specs.declared.event.ClientCall.TheVariants.{Poll, PollEvent, Delete, CreatePermission, HavePermission, Permissions, BindChannel, Channels, SendTo, PollRecv, ProtocolError, RelayedAddresses}
 
 -- ---- calls
 
@@ -101,7 +101,7 @@ abbrev pub IsRelayedTold : Answer → Protocol → Protocol → Type 0
 IsRelayedTold (answer.Relayed list) old new = (list.items ≡ relayed_of old) × (new ≡ old)
 IsRelayedTold _ old new = ⊥
 
--- a call of a client, by its contract
+-- a call of a client that leaves its stream as it is, by its contract
 unfoldable pub IsCalled : ClientCall → Answer → Protocol → ℕ → Protocol → Type 0
 IsCalled Poll answer old now new = IsPolledAs answer old now new
 IsCalled PollEvent answer old now new = IsEventTold answer old new
@@ -112,8 +112,20 @@ IsCalled (Permissions transport relayed) answer old now new = ArePermissionsTold
 IsCalled (BindChannel transport peer) answer old now new = IsBindTold answer transport peer old now new
 IsCalled Channels answer old now new = AreChannelsTold answer old new
 IsCalled (SendTo transport to bytes) answer old now new = IsSendTold answer transport to bytes.items old now new
+IsCalled PollRecv answer old now new = ⊥
 IsCalled ProtocolError answer old now new = IsEndTold answer old new
 IsCalled RelayedAddresses answer old now new = IsRelayedTold answer old new
+
+-- `poll_recv`; want of memory is no answer
+abbrev pub IsWaitingTold : Answer → Kept → ℕ → Kept → Type 0
+IsWaitingTold (answer.Peer given) old now new = IsWaitingGiven old now (Some given) new
+IsWaitingTold answer.Nothing old now new = IsWaitingGiven old now None new
+IsWaitingTold _ old now new = ⊥
+
+-- a call of a client, by its contract
+unfoldable pub IsCallTold : ClientCall → Answer → Kept → ℕ → Kept → Type 0
+IsCallTold PollRecv answer old now new = IsWaitingTold answer old now new
+IsCallTold call answer old now new = Leaves (λ p q. IsCalled call answer p now q) old new
 
 -- ---- what is sent, and what comes
 

@@ -10,6 +10,7 @@ pub mod Told
 pub use Rattle.turn_client_proto.specs.Beginning
 pub use Rattle.turn_client_proto.specs.Clients
 pub use Rattle.turn_client_proto.specs.Config
+pub use Rattle.turn_client_proto.specs.Control
 pub use Rattle.turn_client_proto.specs.Kept
 -- What stands above this crate has these through it.
 pub use Rattle.turn_desk_steps.specs.AskedFor

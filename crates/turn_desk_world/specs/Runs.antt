@@ -3,7 +3,7 @@ use Rattle.std.specs.Prelude.{◌≡◌, ℕ, ◌^◌, nat_le, Bool, true, false
 use Rattle.std.specs.Bool.{MatchBool}
 use Rattle.stun_proto.specs.Users.{HashesDiffer}
 use Rattle.turn_client_proto.specs.Kept.{Kept, Leaves}
-use Rattle.turn_desk_world.specs.Calls.{IsCalled, IsDrawnAs, IsFed}
+use Rattle.turn_desk_world.specs.Calls.{IsCallTold, IsDrawnAs, IsFed}
 use Rattle.turn_desk_world.specs.Desks.{IsDeskAnswered}
 use Rattle.turn_desk_world.specs.Determined.{AreSame, HaveSameEvents}
 use Rattle.turn_desk_world.specs.Model.{World}
@@ -34,7 +34,7 @@ IsOfClient old new = new ≡ record old { client = new.client }
 -- an event was answered, by the contracts of the client's calls and of the desk's
 abbrev pub IsStep : Event → World → Answer → World → Type 0
 IsStep (Call call now) old answer new =
-    IsAtClient now (Leaves (λ p q. IsCalled call answer p now q)) old.client answer new.client × IsOfClient old new
+    IsAtClient now (λ p q. IsCallTold call answer p now q) old.client answer new.client × IsOfClient old new
 IsStep (Draw now) old answer new =
     IsAtClient now (Leaves (λ p q. IsDrawnAs answer p now q)) old.client answer new.client × IsOfClient old new
 IsStep (ToClient bytes from to now) old answer new =

@@ -2,9 +2,8 @@
 
 ghost use Rattle.std.specs.Prelude.{◌≡◌, IfOk};
 ghost use Rattle.turn_client_proto.specs.Clients.{kept_of};
-ghost use Rattle.turn_client_proto.specs.Getters.{channels_of, permissions_of, relayed_of};
 ghost use Rattle.turn_client_proto.specs.Kept.{Leaves};
-ghost use Rattle.turn_desk_world.specs.Calls.{IsBindTold, IsCalled, IsDeleteTold, IsDrawnAs, IsEventTold, IsFed, IsPermissionTold, IsPolledAs, IsSendTold};
+ghost use Rattle.turn_desk_world.specs.Calls.{AreChannelsTold, ArePermissionsTold, IsBindTold, IsCallTold, IsDeleteTold, IsDrawnAs, IsEventTold, IsFed, IsPermissionTold, IsPolledAs, IsRelayedTold, IsSendTold, IsWaitingTold};
 ghost use Rattle.turn_desk_world.specs.Runs.{IsAtClient, IsInRange, is_in_range};
 
 use crate::typed::are_bytes;
@@ -24,7 +23,7 @@ use turn_desk_event::answer::{Answer, Refusal};
 use turn_desk_event::event::ClientCall;
 
 /// The client's user calls it at a moment.
-#[tactic(auto, unfolding(crate::specs::Calls::IsCalled))]
+#[tactic(auto, unfolding(crate::specs::Calls::IsCallTold, crate::specs::Calls::IsCalled))]
 fn call(
     alloc: Global,
     client: &mut TurnClient,
@@ -32,8 +31,7 @@ fn call(
     now: Instant,
 ) -> Result<Answer, NoMemory>
     ensures { IfOk result (λ answer.
-        Leaves (λ p q. IsCalled call.now answer p now q)
-        (kept_of client.old) (kept_of client.new)) }
+        IsCallTold call.now answer (kept_of client.old) now (kept_of client.new)) }
 {
     match call {
         ClientCall::Poll => poll(client, now),
@@ -46,16 +44,10 @@ fn call(
             Ok(Answer::Have(client.have_permission(*transport, *ip)))
         }
         ClientCall::Permissions(transport, relayed) => {
-            match permissions(alloc, client, *transport, *relayed) {
-                Ok(list) => Ok(Answer::Permissions(list)),
-                Err(error) => Err(error),
-            }
+            permissions(alloc, client, *transport, *relayed)
         }
         ClientCall::BindChannel(transport, peer) => bind_channel(client, *transport, *peer, now),
-        ClientCall::Channels => match channels(alloc, client) {
-            Ok(list) => Ok(Answer::Channels(list)),
-            Err(error) => Err(error),
-        },
+        ClientCall::Channels => channels(alloc, client),
         ClientCall::SendTo(transport, peer, bytes) => {
             send_to(alloc, client, *transport, *peer, bytes.as_slice(), now)
         }
@@ -63,10 +55,8 @@ fn call(
             client.protocol_error()?;
             Ok(Answer::Done)
         }
-        ClientCall::RelayedAddresses => match relayed(alloc, client) {
-            Ok(relayed) => Ok(Answer::Relayed(relayed)),
-            Err(error) => Err(error),
-        },
+        ClientCall::PollRecv => poll_recv(client, now),
+        ClientCall::RelayedAddresses => relayed(alloc, client),
     }
 }
 
@@ -144,15 +134,15 @@ fn permissions(
     client: &TurnClient,
     transport: TransportType,
     relayed: SocketAddr,
-) -> Result<Vec<IpAddr>, NoMemory>
-    ensures { IfOk result (λ list.
-        list.items ≡ permissions_of transport relayed (kept_of client.now).core) }
+) -> Result<Answer, NoMemory>
+    ensures { IfOk result (λ answer. ArePermissionsTold answer transport relayed
+        (kept_of client.now).core (kept_of client.now).core) }
 {
     let mut list = Vec::new(alloc);
     for ip in client.permissions(transport, relayed) {
         list.push(ip)?;
     }
-    Ok(list)
+    Ok(Answer::Permissions(list))
 }
 
 /// The client is to ask for a channel.
@@ -174,14 +164,15 @@ fn bind_channel(
 }
 
 /// The channels that the client shows.
-fn channels(alloc: Global, client: &TurnClient) -> Result<Vec<(u16, SocketAddr)>, NoMemory>
-    ensures { IfOk result (λ list. list.items ≡ channels_of (kept_of client.now).core) }
+fn channels(alloc: Global, client: &TurnClient) -> Result<Answer, NoMemory>
+    ensures { IfOk result (λ answer.
+        AreChannelsTold answer (kept_of client.now).core (kept_of client.now).core) }
 {
     let mut list = Vec::new(alloc);
     for channel in client.channels() {
         list.push(channel)?;
     }
-    Ok(list)
+    Ok(Answer::Channels(list))
 }
 
 /// The client is to send bytes to a peer.
@@ -210,15 +201,28 @@ fn send_to(
     }
 }
 
+/// The client is asked for what waits in its stream.
+fn poll_recv(client: &mut TurnClient, now: Instant) -> Result<Answer, NoMemory>
+    ensures { IfOk result (λ answer.
+        IsWaitingTold answer (kept_of client.old) now (kept_of client.new)) }
+{
+    match client.poll_recv(now) {
+        Ok(Some(given)) => Ok(Answer::Peer(given)),
+        Ok(None) => Ok(Answer::Nothing),
+        Err(error) => Err(error),
+    }
+}
+
 /// The relayed addresses that the client shows.
-fn relayed(alloc: Global, client: &TurnClient) -> Result<Vec<(TransportType, SocketAddr)>, NoMemory>
-    ensures { IfOk result (λ list. list.items ≡ relayed_of (kept_of client.now).core) }
+fn relayed(alloc: Global, client: &TurnClient) -> Result<Answer, NoMemory>
+    ensures { IfOk result (λ answer.
+        IsRelayedTold answer (kept_of client.now).core (kept_of client.now).core) }
 {
     let mut list = Vec::new(alloc);
     for relayed in client.relayed_addresses() {
         list.push(relayed)?;
     }
-    Ok(list)
+    Ok(Answer::Relayed(list))
 }
 
 /// The client is asked for what it sends.
@@ -288,7 +292,7 @@ fn call_in_range(
     now: Instant,
 ) -> Result<Answer, NoMemory>
     ensures { IfOk result (λ answer.
-        IsInRange now (Leaves (λ p q. IsCalled what.now answer p now q))
+        IsInRange now (λ p q. IsCallTold what.now answer p now q)
         (kept_of client.old) answer (kept_of client.new)) }
 {
     if !is_in_range(now) {
@@ -356,7 +360,7 @@ impl Driven {
     #[tactic(auto, unfolding(crate::specs::Runs::IsAtClient))]
     pub(crate) fn call(&mut self, what: &ClientCall, now: Instant) -> Result<Answer, NoMemory>
         ensures { IfOk result (λ answer.
-            IsAtClient now (Leaves (λ p q. IsCalled what.now answer p now q))
+            IsAtClient now (λ p q. IsCallTold what.now answer p now q)
             self.old answer self.new) }
     {
         let Some(client) = &mut self.client else {

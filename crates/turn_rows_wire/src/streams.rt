@@ -9,8 +9,8 @@ use turn_types::tcp::{IncomingTcp, StoredTcp, TurnTcpBuffer};
 const MOST_FRAMES: usize = 8;
 
 /// `stream WORD..`: a new buffer, told of a stream. `take BYTES` gives it a piece of the stream, `poll` asks it
-/// for a frame, `polls` for frames until there is none, and `empty` whether no bytes are kept. Last come
-/// the bytes that are left.
+/// for a frame, `polls` for frames until there is none, and `empty` whether no bytes are kept; `front` asks
+/// for the frame at the front, which stays there, and `drop` lets it go. Last come the bytes that are left.
 pub(crate) fn stream(line: &mut Line<'_>) {
     let mut buffer = TurnTcpBuffer::new(line.alloc);
     for _ in 0..line.left() {
@@ -27,6 +27,11 @@ pub(crate) fn stream(line: &mut Line<'_>) {
 fn feed(line: &mut Line<'_>, buffer: &mut TurnTcpBuffer) {
     match line.word() {
         "empty" => line.say(&buffer.is_empty()),
+        "front" => match buffer.front() {
+            Some(frame) => line.hex(frame),
+            None => line.say(&"nothing"),
+        },
+        "drop" => buffer.drop_front(),
         "poll" => {
             poll(line, buffer);
         }

@@ -1,7 +1,7 @@
 //! The buffer of a stream of frames (RFC 8656, section 12.5).
 
-ghost use Rattle.std.specs.Prelude.{◌≡◌, ◌≢◌, ◌==◌, ◌++◌, [], false, true, length, take, drop, IfOk, OnOk, OnErr, MatchResult};
-ghost use Rattle.turn_types_frame.specs.StreamAnswers.{IsAnswer, IsNone, IsStored, after_incoming, after_look, looked};
+ghost use Rattle.std.specs.Prelude.{◌≡◌, ◌≢◌, ◌==◌, ◌++◌, [], false, true, length, take, drop, IfOk, OnOk, OnErr, MatchOption, MatchResult};
+ghost use Rattle.turn_types_frame.specs.StreamAnswers.{IsAnswer, IsGiven, IsNone, IsStored, after_incoming, after_look, looked};
 ghost use Rattle.turn_types_frame.specs.StreamFronts.{front, given_of, size_of};
 ghost use Rattle.turn_types_frame.specs.Streams.{alive, dead_stream, left_by};
 
@@ -131,6 +131,45 @@ impl TurnTcpBuffer {
             return Ok(None);
         }
         self.take_front()
+    }
+
+    /// The frame at the front of what is kept, where one is whole; it stays there. A channel frame is
+    /// shown without its padding. `None` where none is whole, or the stream is dead. It takes no memory.
+    #[tactic(auto, using(crate::proofs::Fronts::given_fits))]
+    pub fn front(&self) -> Option<&[u8]>
+        ensures { MatchOption result (IsNone (looked self.now)) (λ bytes.
+            (¬ IsNone (looked self.now)) × IsGiven self.now bytes.now) }
+    {
+        if self.dead {
+            return None;
+        }
+        let front = front_of(self.kept.as_slice());
+        match front {
+            Front::Message(_) | Front::Channel(_) => {
+                let (bytes, _) = self.kept.as_slice().split_at(size_given(front));
+                Some(bytes)
+            }
+            Front::Partial | Front::Broken => None,
+        }
+    }
+
+    /// Lets the frame at the front go, which `front` shows; with its padding, where it is a channel
+    /// frame. Where none is whole, nothing changes, unless no frame can begin there: then the stream is
+    /// dead. It takes no memory.
+    #[tactic(auto, using(crate::proofs::Fronts::taken_fits))]
+    pub fn drop_front(&mut self)
+        ensures { self.new ≡ after_look self.old }
+    {
+        if self.dead {
+            return;
+        }
+        let front = front_of(self.kept.as_slice());
+        if front == Front::Broken {
+            self.die();
+            return;
+        }
+        let size = size_taken(front);
+        self.kept.advance(size);
     }
 
     /// `incoming_tcp`, where nothing is kept and the stream is alive.

@@ -8,6 +8,7 @@ mod message;
 mod payloads;
 mod samples;
 mod served;
+mod streams;
 mod user;
 mod validating;
 
@@ -17,6 +18,7 @@ use crate::message::{Looked, lifetime, look, sign};
 use crate::payloads::{reach, send, take};
 use crate::samples::{PASSWORD, SAMPLE, UNSIGNED};
 use crate::served::{allocate, serve};
+use crate::streams::ask_in_pieces;
 use crate::user::{key_of_user, server};
 use crate::validating::validate;
 use rand_chacha::ChaCha20Rng;
@@ -34,8 +36,12 @@ use stun_types::message::{
     MessageWriteMutSlice, ShortTermCredentials, TransactionId,
 };
 use stun_types::prelude::{MessageWrite, MessageWriteExt};
+use turn_client_proto::api::TurnConfig;
+use turn_client_proto::prelude::TurnClientApi;
+use turn_client_proto::tcp::TurnClientTcp;
 use turn_client_proto::udp::TurnClientUdp;
 use turn_desk::Desk;
+use turn_types::TurnCredentials;
 use turn_types::prelude::DelayedTransmitBuild;
 use turn_types::transmit::DelayedMessage;
 
@@ -47,7 +53,8 @@ fn main(rt: HostRuntime) -> anyhow::Result<()> {
     serve_user(&rt, rt.alloc())?;
     challenge_client(&rt, rt.alloc())?;
     begin_client(&rt, rt.alloc())?;
-    talk_to_peer(&rt, rt.alloc())
+    talk_to_peer(&rt, rt.alloc())?;
+    allocate_by_stream(&rt, rt.alloc())
 }
 
 /// Looks into the sample, and into bytes that are no message.
@@ -334,4 +341,49 @@ fn print_hex(rt: &impl Print, name: &str, bytes: &[u8]) -> io::Result<()> {
         print!(rt; "{byte:02x}")?;
     }
     println!(rt)
+}
+
+/// Has a client over TCP ask a desk for an allocation.
+fn allocate_by_stream(rt: &impl Print, alloc: Global) -> anyhow::Result<()> {
+    match server(alloc) {
+        Ok(server) => {
+            let mut desk = Desk::new(alloc, server);
+            let done = ask_by_stream(rt, alloc, &mut desk);
+            drop(desk);
+            done
+        }
+        Err(error) => Err(error.into()),
+    }
+}
+
+/// Makes the client, whose server is a desk.
+fn ask_by_stream(rt: &impl Print, alloc: Global, desk: &mut Desk) -> anyhow::Result<()> {
+    let local = SocketAddr::new(IpAddr::V4(Ipv4Addr::new(192, 168, 0, 1)), 1000);
+    let server = SocketAddr::new(IpAddr::V4(Ipv4Addr::new(10, 0, 0, 2)), 2000);
+    let config = TurnConfig::new(TurnCredentials::new(alloc, "user", "pass")?);
+    match TurnClientTcp::allocate(alloc, local, server, config, [0; 32]) {
+        Ok(mut client) => {
+            let done = tell_stream(rt, alloc, &mut client, desk);
+            drop(client);
+            done
+        }
+        Err(error) => Err(error.into()),
+    }
+}
+
+/// Has a desk answer a client twice, each answer in two pieces of a stream, and prints the addresses that the
+/// client shows then.
+fn tell_stream(
+    rt: &impl Print,
+    alloc: Global,
+    client: &mut TurnClientTcp,
+    desk: &mut Desk,
+) -> anyhow::Result<()> {
+    for now in [0, 50_000_000] {
+        ask_in_pieces(alloc, client, desk, Instant::from_nanos(now))?;
+    }
+    for (_, relayed) in client.relayed_addresses() {
+        println!(rt; "stream: relayed at {relayed}")?;
+    }
+    Ok(())
 }

@@ -3,6 +3,7 @@ use Rattle.program_lines.specs.declared.refusal.LineError.TheVariants as error
 use Rattle.turn_desk_trace.specs.TraceLines.{IsLine}
 use Rattle.turn_desk_trace.specs.declared.line.Line.{Line}
 use Rattle.turn_desk_replay.specs.Keeping.{Answered, SetUp}
+use Rattle.turn_desk_replay.proofs.OneLine.{spelled_in_vain}
 use Rattle.turn_desk_replay.proofs.Standing.{unspelled}
 use Rattle.turn_desk_replay.proofs.progress.Progress.take_line.Goals as goal
 
@@ -24,3 +25,11 @@ returns-in-Err-clause-bad c = λ e.
     unspelled _ c.args.line.now (sym c.is_skipped.ensures ∙ c.if-is_skipped.false) (λ line spelled.
     c.in-Err.ensures.bad (ap Err bad) line
     (subst (λ (answers : List (List ℕ)). IsLine answers c.args.line.now line) (sym c.as_slice.ensures.value) spelled))
+
+pub returns-in-Err-tell-clause-bad : goal.returns-in-Err-tell-clause-bad
+returns-in-Err-tell-clause-bad c = λ e.
+    let bad : c.in-Err-tell.error ≡ error.Bad = cc in
+    let read = subst (λ (answers : List (List ℕ)). IsLine answers c.args.line.now c.in-Ok-Event.field-0) c.as_slice.ensures.value c.in-Ok-Event.ensures.ok in
+    let spelled = subst (λ (line : Line). IsLine c.args.self.now.named.items c.args.line.now line) c.in-Ok-Event.field-0-is read in
+    spelled_in_vain _ c.args.line.now c.in-Ok-Event.event (sym c.is_skipped.ensures ∙ c.if-is_skipped.false) spelled
+    (c.in-Err-tell.ensures.bad (ap Err bad))

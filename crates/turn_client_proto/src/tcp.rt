@@ -1,0 +1,202 @@
+//! A TURN client over TCP.
+
+ghost use Rattle.std.specs.Prelude.{◌≡◌, ◌≤◌, IsOkAnd, [], length};
+ghost use Rattle.stun_types.specs.Registry.{longest_username};
+ghost use Rattle.stun_types.specs.declared.transport.TransportType.TheVariants.{Tcp};
+ghost use Rattle.turn_types.specs.Streams.{alive};
+ghost use Rattle.turn_client_proto_poll.specs.Core.Beginning.{IsNew};
+ghost use Rattle.turn_client_proto_receipt.specs.Control.{Open};
+
+use crate::api::{
+    BindChannelError, ChannelsIter, CreatePermissionError, DelayedMessageOrChannelSend,
+    DeleteError, PermissionAddressesIter, RelayedAddressesIter, SendError, Socket5Tuple,
+    TcpAllocateError, TcpConnectError, TurnClientApi, TurnConfig, TurnEvent, TurnPeerData,
+    TurnPollRet, TurnRecvRet,
+};
+use std::alloc::Global;
+use std::convert::AsSlice;
+use std::fmt::Debug;
+use std::marker::Model;
+use std::net::{IpAddr, SocketAddr};
+use stun_proto::Instant;
+use stun_types::data::Data;
+use stun_types::{NoMemory, Transmit, TransportType};
+use turn_client_proto_poll::permission::asking::permits_any;
+use turn_client_proto_poll::permission::shown::permissions_at;
+use turn_client_proto_poll::protocol::Protocol;
+use turn_client_proto_poll::{drawing, polling, sending};
+use turn_client_proto_receipt::stream::{ask, receive};
+use turn_types::tcp::TurnTcpBuffer;
+use turn_types::transmit::TransmitBuild;
+
+/// A TURN client over TCP: a connection to the server, in which messages and channel frames come one behind
+/// another (RFC 8656, section 12.5), and an allocation over UDP or TCP. Of an allocation over TCP there are
+/// no connections to peers yet (RFC 6062). Contracts see the record `Kept`: the protocol core, and what is
+/// kept of the stream while it stands.
+#[derive(Debug, Drop)]
+pub struct TurnClientTcp {
+    protocol: Protocol,
+    control: Option<TurnTcpBuffer>,
+}
+
+impl Model for TurnClientTcp {
+    ghost use Rattle.turn_client_proto_receipt.specs.Kept.{Kept};
+    ghost use Rattle.turn_client_proto_receipt.specs.Receipts.{over_tcp};
+    ghost use Rattle.turn_client_proto.specs.Codes.{kept_code};
+
+    ghost Value = { Kept };
+
+    ghost coded = { kept_code };
+
+    ghost view = { λ c. over_tcp c.protocol c.control };
+}
+
+impl TurnClientTcp {
+    /// A client that asks the server at `remote`, over a connection from `local`, for an allocation as the
+    /// settings say, over UDP or TCP. Nothing is sent yet: `poll_transmit` answers the first ALLOCATE. The
+    /// numbers of its messages are drawn from the ChaCha20 generator of the seed, three words each, the
+    /// first of them highest. The name of the user has 513 bytes at most. It takes no memory now, and never
+    /// answers `NoMemory`.
+    pub fn allocate(
+        alloc: Global,
+        local: SocketAddr,
+        remote: SocketAddr,
+        config: TurnConfig,
+        seed: [u8; 32],
+    ) -> Result<TurnClientTcp, NoMemory>
+        requires { length config.credentials.username ≤ longest_username }
+        ensures { IsOkAnd result (λ client. IsNew Tcp local remote config seed client.core
+            × (client.control ≡ Open (alive []))) }
+    {
+        let protocol = Protocol::new(alloc, TransportType::Tcp, local, remote, config, seed);
+        Ok(TurnClientTcp {
+            protocol,
+            control: Some(TurnTcpBuffer::new(alloc)),
+        })
+    }
+}
+
+impl TurnClientApi for TurnClientTcp {
+    ghost kept = { λ client. client };
+
+    fn transport(&self) -> TransportType {
+        self.protocol.agent.transport()
+    }
+
+    fn local_addr(&self) -> SocketAddr {
+        self.protocol.agent.local_addr()
+    }
+
+    fn remote_addr(&self) -> SocketAddr {
+        self.protocol.server
+    }
+
+    fn relayed_addresses(&self) -> RelayedAddressesIter<'_> {
+        RelayedAddressesIter::new(self.protocol.allocations.as_slice())
+    }
+
+    fn delete(&mut self, now: Instant) -> Result<(), DeleteError> {
+        self.protocol.delete(now)
+    }
+
+    fn create_permission(
+        &mut self,
+        transport: TransportType,
+        peer_addr: IpAddr,
+        now: Instant,
+    ) -> Result<(), CreatePermissionError> {
+        self.protocol.create_permission(transport, peer_addr, now)
+    }
+
+    fn have_permission(&self, transport: TransportType, to: IpAddr) -> bool {
+        permits_any(self.protocol.allocations.as_slice(), transport, to)
+    }
+
+    fn permissions(
+        &self,
+        transport: TransportType,
+        relayed: SocketAddr,
+    ) -> PermissionAddressesIter<'_> {
+        let allocations = self.protocol.allocations.as_slice();
+        PermissionAddressesIter::new(permissions_at(allocations, transport, relayed))
+    }
+
+    fn bind_channel(
+        &mut self,
+        transport: TransportType,
+        peer_addr: SocketAddr,
+        now: Instant,
+    ) -> Result<(), BindChannelError> {
+        self.protocol.bind_channel(transport, peer_addr, now)
+    }
+
+    fn channels(&self) -> ChannelsIter<'_> {
+        ChannelsIter::new(self.protocol.allocations.as_slice())
+    }
+
+    fn tcp_connect(
+        &mut self,
+        _peer_addr: SocketAddr,
+        _now: Instant,
+    ) -> Result<(), TcpConnectError> {
+        Err(TcpConnectError::NoAllocation)
+    }
+
+    fn allocated_tcp_socket(
+        &mut self,
+        _id: u32,
+        _five_tuple: Socket5Tuple,
+        _peer_addr: SocketAddr,
+        _local_addr: Option<SocketAddr>,
+        _now: Instant,
+    ) -> Result<(), TcpAllocateError> {
+        Err(TcpAllocateError::NoAllocation)
+    }
+
+    fn tcp_closed(
+        &mut self,
+        _local_addr: SocketAddr,
+        _remote_addr: SocketAddr,
+        _now: Instant,
+    ) -> Result<(), NoMemory> {
+        Ok(())
+    }
+
+    fn send_to<T: AsSlice<u8> + Debug + Drop>(
+        &mut self,
+        transport: TransportType,
+        to: SocketAddr,
+        data: T,
+        now: Instant,
+    ) -> Result<Option<TransmitBuild<DelayedMessageOrChannelSend<T>>>, SendError> {
+        sending::send_to(&mut self.protocol, transport, to, data, now)
+    }
+
+    fn poll_recv(&mut self, now: Instant) -> Result<Option<TurnPeerData<Vec<u8>>>, NoMemory> {
+        ask(&mut self.protocol, &mut self.control, now)
+    }
+
+    fn recv<T: AsSlice<u8> + Debug + Drop>(
+        &mut self,
+        transmit: Transmit<T>,
+        now: Instant,
+    ) -> TurnRecvRet<T> {
+        receive(&mut self.protocol, &mut self.control, transmit, now)
+    }
+
+    fn poll(&mut self, now: Instant) -> TurnPollRet {
+        polling::poll(&mut self.protocol, now)
+    }
+
+    fn poll_transmit(&mut self, now: Instant) -> Result<Option<Transmit<Data<'static>>>, NoMemory> {
+        drawing::poll_transmit(&mut self.protocol, now)
+    }
+
+    fn poll_event(&mut self) -> Option<TurnEvent> {
+        self.protocol.poll_event()
+    }
+
+    fn protocol_error(&mut self) -> Result<(), NoMemory> {
+        self.protocol.end()
+    }
+}

@@ -1,0 +1,12 @@
+pub mod Behind
+pub mod Cuts
+pub mod Definite
+pub mod Draining
+pub mod Failed
+pub mod Failing
+pub mod Loops
+pub mod Cutting
+pub mod Received
+pub mod Steps
+pub mod Streamed
+pub mod Taking

@@ -1,0 +1,39 @@
+//! What the contracts mean for a layer above. The functions do nothing; each contract is a law.
+
+ghost use Rattle.std.specs.Prelude.{◌≡◌, ℕ, List, None, Option};
+ghost use Rattle.std.specs.List.{concat};
+ghost use Rattle.stun_types.specs.declared.transmit.Transmit.{Transmit};
+ghost use Rattle.turn_client_proto_poll.specs.Api.Payloads.{PeerPayload};
+ghost use Rattle.turn_client_proto_receipt.specs.Cuts.{AreDrained, IsDrainedOut, pieces_of};
+ghost use Rattle.turn_client_proto_receipt.specs.Kept.{Kept, Protocol};
+ghost use Rattle.turn_client_proto_receipt.specs.Pieces.{IsFrameHandled};
+ghost use Rattle.turn_client_proto_receipt.specs.Pulls.{IsPulled};
+ghost use Rattle.turn_client_proto_poll.specs.Core.Ending.{HasFailed};
+ghost use Rattle.turn_types.specs.Streams.{Stream};
+
+use std::convert::AsSlice;
+
+/// It does not matter where the stream is cut (RFC 8656, section 12.5). Where no whole frame waits, and
+/// pieces come at one moment, each of which is drained (`recv`, and then `poll_recv` until it answers
+/// `None`): of two ways to cut the same bytes both give the same data of peers, and leave the client the
+/// same, with the bytes that it keeps. Reports in ICMP are not of these: `recv` answers one where the first
+/// frame is one, and `poll_recv` passes them over.
+pub fn cuts_do_not_matter<T: AsSlice<u8>>()
+    ensures { (now : ℕ) (old one other : Kept) (pieces cuts : List (Transmit T))
+        (given again : List PeerPayload)
+        → IsDrainedOut old
+        → concat (pieces_of T.items pieces) ≡ concat (pieces_of T.items cuts)
+        → AreDrained T.items now old pieces given one
+        → AreDrained T.items now old cuts again other
+        → (given ≡ again) × (one ≡ other) }
+{}
+
+/// A client that has failed gives nothing of what is kept of its stream, and stays as it is: nothing is held
+/// that a frame could name.
+pub fn failed_clients_give_nothing()
+    ensures { (now : ℕ) (before old : Protocol) (stream left : Stream) (given : Option PeerPayload)
+        (new : Protocol)
+        → HasFailed before old
+        → IsPulled (IsFrameHandled now) stream old given left new
+        → (given ≡ None) × (new ≡ old) }
+{}

@@ -1,0 +1,13 @@
+//! What a TURN client makes of what comes from its server (RFC 8489, section 6.3; RFC 8656, sections 11.4,
+//! 11.6 and 12.6): [`handing`] of a message or a channel frame, [`piece`] of a piece of the stream in which
+//! these come over TCP, and [`pulling`] of the frames that wait in it.
+//!
+//! [`laws`] has that it does not matter where the stream is cut.
+#![tactic(auto)]
+
+pub mod datagram;
+pub mod handing;
+pub mod laws;
+pub mod piece;
+pub mod pulling;
+pub mod stream;
