@@ -11,6 +11,7 @@ pub use Rattle.turn_client_proto_receipt.specs.Kept
 pub use Rattle.turn_client_proto_receipt.specs.Pieces
 pub use Rattle.turn_client_proto_receipt.specs.Pulls
 pub use Rattle.turn_client_proto_receipt.specs.Receipts
+pub use Rattle.turn_client_proto_receipt.specs.Waiting
 pub use Rattle.turn_client_proto_receipt.specs.declared.handing.Taken
 pub use Rattle.turn_client_proto_poll.specs.Core.Beginning
 pub use Rattle.turn_client_proto_poll.specs.Core.Binding

@@ -2,9 +2,9 @@
 //! gives messages to send, events and payloads.
 //!
 //! [`api`] has the settings, the trait of a client's calls, and what they answer; [`udp`] the client
-//! over UDP, [`tcp`] the one over TCP; [`client`] the client over whichever transport, as one type; [`prelude`] the traits that a
-//! caller wants in scope; [`laws`] what the contracts mean for a layer above. [`types`] and [`stun`] are
-//! the crates below.
+//! over UDP, [`tcp`] the one over TCP; [`client`] the client over whichever transport, as one type;
+//! [`prelude`] the traits that a caller wants in scope; [`laws`] what the contracts mean for a layer
+//! above. [`types`] and [`stun`] are the crates below.
 #![tactic(auto)]
 
 pub mod api;

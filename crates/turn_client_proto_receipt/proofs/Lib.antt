@@ -10,3 +10,4 @@ pub mod Received
 pub mod Steps
 pub mod Streamed
 pub mod Taking
+pub mod Waiting

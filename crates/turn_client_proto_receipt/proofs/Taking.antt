@@ -25,7 +25,7 @@ use Rattle.turn_client_proto_poll.specs.declared.payload.Payload.TheVariants.{Da
 use Rattle.turn_client_proto_poll.proofs.OfPeers.{payload_of_peer}
 use Rattle.turn_client_proto_receipt.specs.Datagrams.{IsHandedOver}
 use Rattle.turn_client_proto_receipt.specs.HandingIn.{IsFrameTaken, IsHandedIn, taken_as, unread_as}
-use Rattle.turn_client_proto_receipt.specs.Pieces.{AtFrame, Behind, Broken, First, FirstLost, FirstTaken, Grew, HasBegun, IsBehind, IsFirstAnswered, IsHandedAs, IsHandedApart, IsPayloadAnswered, IsPieceTaken, Lost, LostBehind, LostLater, OfItsOwn, Pulled, Refused, Takes, ToldApart}
+use Rattle.turn_client_proto_receipt.specs.Pieces.{AtFrame, Behind, Broken, First, FirstLost, FirstTaken, Grew, HasBegun, IsBehind, IsFirstAnswered, IsHandedAs, IsPayloadAnswered, IsPieceTaken, Lost, LostBehind, LostLater, OfItsOwn, Pulled, Refused, Takes, ToldApart}
 use Rattle.turn_client_proto_receipt.specs.Pulls.{frame_of}
 use Rattle.turn_client_proto_receipt.specs.declared.handing.Taken.{Taken}
 use Rattle.turn_client_proto_receipt.specs.declared.handing.Taken.TheVariants.{Given, Garbled}
@@ -56,11 +56,6 @@ handed_as items came answer n (Data transport peer start end) within is =
 handed_as items came answer n (Report transport peer report) within is = is
 handed_as items came answer n (Framed number transport peer start end) within is =
     is ∙ ap (λ (l : List ℕ). recv.PeerData (record { payload = l; is_owned = false; transport = transport; peer = peer })) (sym (part_of_front n (items came.bytes) start end within))
-
-handed_apart : {T : Type 0} (frame : List ℕ) (came : Transmit T) (answer : TurnRecvRet T) (payload : Payload) → IsHandedApart frame payload came answer → IsHandedAs true frame payload answer
-handed_apart frame came answer (Data transport peer start end) is = is
-handed_apart frame came answer (Report transport peer report) is = is
-handed_apart frame came answer (Framed number transport peer start end) is = is
 
 -- ---- what was given
 
@@ -106,7 +101,7 @@ module _ {T : Type 0} (now : ℕ) (owned : Bool) (frame : List ℕ) (stream : St
   -- of its own
   pub gave_apart : (taken : Taken) (payload : Payload) → owned ≡ true → taken ≡ Given payload → IsFrameTaken old frame now taken mid → IsPayloadAnswered frame payload came mid answer new → left ≡ stream → Answered
   gave_apart taken payload owns is takes (ToldApart told after) rest =
-      gave taken payload is takes (subst (λ (b : Bool). IsHandedAs b frame payload answer) (sym owns) (handed_apart frame came answer payload told)) rest after
+      gave taken payload is takes (subst (λ (b : Bool). IsHandedAs b frame payload answer) (sym owns) told) rest after
   gave_apart taken payload owns is takes (Refused holds told failed) rest =
       let only = given_only old frame now payload mid (subst (λ (t : Taken). IsFrameTaken old frame now t mid) is takes) in
       FirstLost told (OfItsOwn owns payload only.0 holds (subst (λ (p : Protocol). HasFailed p new) only.1 failed))

@@ -7,3 +7,4 @@ pub mod Kept
 pub mod Pieces
 pub mod Pulls
 pub mod Receipts
+pub mod Waiting

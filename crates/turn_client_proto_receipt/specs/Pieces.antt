@@ -82,20 +82,24 @@ IsTakenOff now stream old (Some given) left new =
 
 -- ---- what is answered to a piece
 
-module _ {T : Type 0} where
-  -- what a frame gives that doesn't stand in the piece: data in a vector of its own
-  abbrev pub IsHandedApart : List ℕ → Payload → Transmit T → TurnRecvRet T → Type 0
-  IsHandedApart frame (Data transport peer start end) came answer =
-      answer ≡ recv.PeerData (apart frame transport peer start end)
-  IsHandedApart frame (Report transport peer report) came answer =
-      answer ≡ recv.PeerIcmp transport peer report.icmp_type report.code report.details
-  IsHandedApart frame (Framed number transport peer start end) came answer =
-      answer ≡ recv.PeerData (apart frame transport peer start end)
+-- what a frame gives is given by where it stands in the piece, or in a vector of its own
+abbrev pub owned_if : Bool → PeerPayload → PeerPayload
+owned_if owned given = record given { is_owned = owned }
 
-  -- or memory was refused for it, and the client has failed
+abbrev pub IsHandedAs : {T : Type 0} → Bool → List ℕ → Payload → TurnRecvRet T → Type 0
+IsHandedAs owned frame (Data transport peer start end) answer =
+    answer ≡ recv.PeerData (owned_if owned (apart frame transport peer start end))
+IsHandedAs owned frame (Report transport peer report) answer =
+    answer ≡ recv.PeerIcmp transport peer report.icmp_type report.code report.details
+IsHandedAs owned frame (Framed number transport peer start end) answer =
+    answer ≡ recv.PeerData (owned_if owned (apart frame transport peer start end))
+
+module _ {T : Type 0} where
+  -- what a frame gives is given in a vector of its own, where it doesn't stand in the piece; or memory was refused for
+  -- it, and the client has failed
   pub data IsPayloadAnswered (frame : List ℕ) (payload : Payload) (came : Transmit T) (old : Protocol)
       (answer : TurnRecvRet T) (new : Protocol) : Type 0 where
-    ToldApart : IsHandedApart frame payload came answer → new ≡ old
+    ToldApart : IsHandedAs true frame payload answer → new ≡ old
         → IsPayloadAnswered frame payload came old answer new
     Refused : GivesData payload → answer ≡ recv.NoMemory came → HasFailed old new
         → IsPayloadAnswered frame payload came old answer new
@@ -119,18 +123,6 @@ module _ {T : Type 0} where
 abbrev pub HasBegun : Stream → Bool → Type 0
 HasBegun stream true = stream.kept ≢ []
 HasBegun stream false = stream.kept ≡ []
-
--- what a frame gives is given by where it stands in the piece, or in a vector of its own
-abbrev pub owned_if : Bool → PeerPayload → PeerPayload
-owned_if owned given = record given { is_owned = owned }
-
-abbrev pub IsHandedAs : {T : Type 0} → Bool → List ℕ → Payload → TurnRecvRet T → Type 0
-IsHandedAs owned frame (Data transport peer start end) answer =
-    answer ≡ recv.PeerData (owned_if owned (apart frame transport peer start end))
-IsHandedAs owned frame (Report transport peer report) answer =
-    answer ≡ recv.PeerIcmp transport peer report.icmp_type report.code report.details
-IsHandedAs owned frame (Framed number transport peer start end) answer =
-    answer ≡ recv.PeerData (owned_if owned (apart frame transport peer start end))
 
 -- the first frame that is whole was taken up, and what it gives is answered; or else what another one gives
 pub data IsFirstTaken {T : Type 0} (now : ℕ) (owned : Bool) (frame : List ℕ) (stream : Stream) (old : Protocol)

@@ -68,11 +68,17 @@ IsGivenBy now Closed old given new = (given ≡ None) × (new.core ≡ old) × (
 abbrev pub IsWaitingGiven : Kept → ℕ → Option PeerPayload → Kept → Type 0
 IsWaitingGiven old now given new = IsGivenBy now old.control old.core given new
 
--- memory was refused on the way: only where a stream stands, and a frame in it needs some
-abbrev pub IsLostBy : ℕ → Control → Protocol → Protocol → Type 0
+-- memory was refused on the way, and the stream stands
+pub record IsLostIn (now : ℕ) (stream : Stream) (old : Protocol) (new : Kept) : Type 0 where
+  pub left : Stream
+  pub stands : new.control ≡ Open left
+  pub lost : IsLostOn now stream old new.core
+
+-- only where a stream stands, and a frame in it needs some
+abbrev pub IsLostBy : ℕ → Control → Protocol → Kept → Type 0
 IsLostBy now Datagrams old new = ⊥
-IsLostBy now (Open stream) old new = IsLostOn now stream old new
+IsLostBy now (Open stream) old new = IsLostIn now stream old new
 IsLostBy now Closed old new = ⊥
 
 abbrev pub IsWaitingLost : Kept → ℕ → Kept → Type 0
-IsWaitingLost old now new = IsLostBy now old.control old.core new.core
+IsWaitingLost old now new = IsLostBy now old.control old.core new

@@ -58,7 +58,8 @@ pub fn ask(
 ) -> Result<Option<TurnPeerData<Vec<u8>>>, NoMemory>
     ensures ok { IfOk result (λ given. IsGivenBy now (control_of control.old) protocol.old given
         (over_tcp protocol.new control.new)) }
-    ensures err { OnErr result (IsLostBy now (control_of control.old) protocol.old protocol.new) }
+    ensures err { OnErr result (IsLostBy now (control_of control.old) protocol.old
+        (over_tcp protocol.new control.new)) }
 {
     match control {
         Some(stream) => pull(protocol, stream, now),

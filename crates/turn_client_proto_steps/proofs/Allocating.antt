@@ -185,6 +185,7 @@ module _ (c : Client) (signer : signers.Client) (bytes : List ℕ) (lifetime now
   allocated_step = record {
     after = moved c c.drawn core;
     core_is = refl;
+    waits = refl;
     step = step;
     sound = record {
       orderly = record {

@@ -8,7 +8,6 @@ use Rattle.rand_core.specs.Stream.{Stream}
 use Rattle.stun_types.specs.Generated.{number_words}
 use Rattle.stun_types.specs.GeneratorWords.{stream_after}
 use Rattle.stun_types.specs.Registry.{longest_username}
-use Rattle.stun_types.specs.SocketAddrs.{socket_addr_cmp}
 use Rattle.stun_types.specs.declared.family.AddressFamily.{AddressFamily}
 use Rattle.stun_types.specs.declared.transport.TransportType.{TransportType}
 use Rattle.stun_proto.specs.Agents.{Transaction}
@@ -95,6 +94,6 @@ module _ (transport : TransportType) (here server : SocketAddr) (config : Config
     none_kept = λ h k. none_listed k.allocation k.listed;
     none_waits = λ number peer h. none_listed h.allocation h.listed;
     none_attempted = none_attempted;
-    none_buffered = λ bytes h. absurd (Prim.cc (sym (map.get-empty socket_addr_cmp h.local) ∙ h.there));
+    none_buffered = λ bytes h. absurd h;
     none_created = ap notices is.events;
   }

@@ -102,6 +102,7 @@ giving_step c bytes payload sound is =
     record {
       after = quiet.after;
       core_is = quiet.core_is;
+      waits = quiet.waits;
       step = gives_step client_words call (told ∷ [])
           (alone (IsDelivered client_words call) told (delivered c quiet.after bytes payload given.carried))
           (alone (λ p. (h : run.Held) × run.NamesHeld p h × IsKept quiet.after.core.allocations h) told kept) quiet.step;

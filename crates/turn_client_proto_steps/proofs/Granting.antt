@@ -173,6 +173,7 @@ module _ (c : Client) (signer : signers.Client) (bytes : List ℕ) (message : re
     gained_step whole distinct = record {
       after = moved c c.drawn core;
       core_is = refl;
+      waits = refl;
       step = step;
       sound = record {
         orderly = permitting_orderly (is_gained gained) none_asks (parts_of (accepted bytes (judged signer c.core))) left are

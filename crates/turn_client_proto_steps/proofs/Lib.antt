@@ -11,6 +11,7 @@ pub mod Channels
 pub mod Drawing
 pub mod Ending
 pub mod Fitting
+pub mod Frames
 pub mod Gaining
 pub mod Giving
 pub mod Granting

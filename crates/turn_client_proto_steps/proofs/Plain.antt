@@ -117,6 +117,7 @@ pub run_step : (begun : List run.Message) (came : List (List ℕ)) (drawn : Opti
 run_step begun came drawn answered c count core plain orderly can_ask = record {
   after = moved c count core;
   core_is = refl;
+  waits = refl;
   step = plain_step begun came drawn answered c count core plain;
   sound = record { orderly = orderly; can_ask = can_ask };
 }

@@ -71,7 +71,7 @@ module _ {V : Wire} {C : Type 0} (K : ClientWords V C) (call : Call C) (held : L
   }
 
 -- what was delivered in a call was so in any in which the same was taken up
-delivered : {V : Wire} {C : Type 0} (K : ClientWords V C) (call other : Call C) → call.handled ≡ other.handled → (p : Payload) → IsDelivered K call p → IsDelivered K other p
+pub delivered : {V : Wire} {C : Type 0} (K : ClientWords V C) (call other : Call C) → call.handled ≡ other.handled → (p : Payload) → IsDelivered K call p → IsDelivered K other p
 delivered K call other same (FromPeer transport peer bytes) is = (is.0, subst (IsIn is.0) same is.1, is.2)
 delivered K call other same (Reported transport peer report) is = (is.0, subst (IsIn is.0) same is.1, is.2)
 delivered K call other same (FromChannel number peer bytes) is = (is.0, subst (IsIn is.0) same is.1, is.2)

@@ -1,15 +1,12 @@
 -- A client in the words of a run. Each word speaks of a part of the client, so that a step which leaves that
 -- part keeps it.
-use Rattle.std.specs.Prelude.{◌≡◌, ℕ, true, false, List, ◌++◌, Option, Some, None}
+use Rattle.std.specs.Prelude.{◌≡◌, ℕ, true, false, List, Option, Some, None}
 use Rattle.std.specs.FinMap as map
 use Rattle.std.specs.List.{filter_map}
 use Rattle.std.specs.declared.net.socket_addr.SocketAddr.{SocketAddr}
 use Rattle.stun_types.specs.Grammar.{number_at}
 use Rattle.stun_proto.specs.Agents.{Transaction}
 use Rattle.stun_proto.specs.State.{Agent}
-use Rattle.stun_types.specs.SocketAddrs.{socket_addr_cmp}
-use Rattle.turn_types.specs.Frames.{IsFrame}
-use Rattle.turn_types.specs.Streams as streams
 use Rattle.turn_client_proto_poll.specs.Members.{IsIn}
 use Rattle.turn_client_proto_poll.specs.Messages as run
 use Rattle.turn_client_proto_poll.specs.Words.{ClientWords, DeskWords, Words}
@@ -19,7 +16,7 @@ use Rattle.turn_client_proto_poll.specs.Api.declared.event.TurnEvent.{TurnEvent}
 use Rattle.turn_client_proto_poll.specs.Api.declared.event.TurnEvent.TheVariants.{AllocationCreated, AllocationCreateFailed, PermissionCreated, PermissionCreateFailed, ChannelCreated, ChannelCreateFailed, TcpConnected, TcpConnectFailed}
 use Rattle.turn_client_proto_poll.specs.Core.Authenticating.{numbers_sent}
 use Rattle.turn_client_proto_poll.specs.Core.Waiting.{Queued}
-use Rattle.turn_client_proto_steps.specs.RunClient.{Client, Incoming, Control, Unbound, Bound, Parts, numbers_between, parts_of}
+use Rattle.turn_client_proto_steps.specs.RunClient.{Client, Parts, numbers_between, parts_of}
 
 -- ---- requests
 
@@ -99,26 +96,6 @@ pub data IsAttempted (allocations : List Allocation) (queue : List Queued) (numb
   IsAnswered : (q : Queued) → IsIn q queue → q.is_request ≡ false → number_at q.bytes ≡ number
       → IsAttempted allocations queue number
 
--- ---- what waits
-
--- a whole frame stands in a stream, behind other whole ones
-pub record HasFrame (stream : streams.Stream) (frame : List ℕ) : Type 0 where
-  pub before : List ℕ
-  pub behind : List ℕ
-  pub parts : stream.kept ≡ before ++ (frame ++ behind)
-  pub whole : IsFrame frame
-
-abbrev pub HoldsFrame : Incoming → List ℕ → Type 0
-HoldsFrame (Control stream) frame = HasFrame stream frame
-HoldsFrame (Unbound stream) frame = HasFrame stream frame
-HoldsFrame (Bound waiting peer) frame = ⊥
-
-pub record IsBuffered (incoming : map.FinMap socket_addr_cmp Incoming) (frame : List ℕ) : Type 0 where
-  pub local : SocketAddr
-  pub kept : Incoming
-  pub there : map.get incoming local ≡ Some kept
-  pub holds : HoldsFrame kept frame
-
 -- ---- what is told
 
 abbrev pub notice_of : TurnEvent → Option run.Notice
@@ -144,7 +121,7 @@ client_words = record {
   IsHeld = λ c. IsHeld c.core.allocations;
   Waits = λ c. Waits c.core.allocations;
   IsAttempted = λ c. IsAttempted c.core.allocations c.core.queue;
-  IsBuffered = λ c. IsBuffered c.incoming;
+  IsBuffered = λ c frame. IsIn frame c.waiting;
   created = λ c. filter_map notice_of c.core.events;
 }
 

@@ -26,6 +26,7 @@ pub record IsRunStep (before : Client) (came : List (List ℕ)) (drawn : Option 
     (core : Protocol) : Type 0 where
   pub after : Client
   pub core_is : after.core ≡ core
+  pub waits : after.waiting ≡ before.waiting
   pub step : ClientStep client_words (call_of before came drawn answered after)
   pub sound : IsSound after
 
@@ -33,6 +34,7 @@ pub record IsRunStep (before : Client) (came : List (List ℕ)) (drawn : Option 
 pub record IsGiving (before : Client) (bytes : List ℕ) (payloads : List Payload) (core : Protocol) : Type 0 where
   pub after : Client
   pub core_is : after.core ≡ core
+  pub waits : after.waiting ≡ before.waiting
   pub step : ClientStep client_words (record (call_of before (bytes ∷ []) None [] after) { payloads = payloads })
   pub sound : IsSound after
 
@@ -43,3 +45,21 @@ IsReceiving before bytes core = IsRunStep before (bytes ∷ []) None [] core
 -- nothing came, and nothing was drawn or answered
 abbrev pub IsSilent : Client → Protocol → Type 0
 IsSilent before core = IsRunStep before [] None [] core
+
+-- ---- over TCP
+
+-- frames came whole, and none was taken up: afterwards these wait
+pub record IsComing (before : Client) (came waiting : List (List ℕ)) : Type 0 where
+  pub after : Client
+  pub core_is : after.core ≡ before.core
+  pub waits : after.waiting ≡ waiting
+  pub step : ClientStep client_words (record (call_of before came None [] after) { handled = [] })
+  pub sound : IsSound after
+
+-- the oldest frame that waited was taken up, and by it these payloads were handed over
+pub record IsTakingUp (before : Client) (frame : List ℕ) (payloads : List Payload) (core : Protocol) : Type 0 where
+  pub after : Client
+  pub core_is : after.core ≡ core
+  pub waits : before.waiting ≡ frame ∷ after.waiting
+  pub step : ClientStep client_words (record (call_of before [] None [] after) { handled = frame ∷ []; payloads = payloads })
+  pub sound : IsSound after

@@ -4,11 +4,12 @@
 //! numbers are taken, what is held. `specs/Sound.antt` has what is always true of a client. The
 //! functions here do nothing; each contract is a law: a call that meets its contract is a step of a
 //! run, and leaves a sound client sound. A getter is no step, for nothing changes; nor are bytes that
-//! did not come from the server, or that are no message and give nothing of a peer. [`definite`] has
-//! that what a client does is determined.
+//! did not come from the server, or that are no message and give nothing of a peer. [`framed`] has the
+//! steps of what comes over TCP, and [`definite`] that what a client does is determined.
 #![tactic(auto)]
 
 pub mod definite;
+pub mod framed;
 
 ghost use Rattle.std.specs.Prelude.{◌≤◌, ℕ, List, length, ◌≡◌, ◌++◌, Bool, true, [], ◌∷◌, Option, None, Some, Result, option_to_list};
 ghost use Rattle.std.specs.declared.net.ip_addr.IpAddr.{IpAddr};

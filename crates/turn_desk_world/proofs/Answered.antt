@@ -1,29 +1,39 @@
 -- What the last answer of a run shows or gives was granted in the run, and what it gives is what came.
-use Rattle.std.proofs.Common.{Vec, Global, ◌≡◌, ◌≢◌, ℕ, Bool, false, List, [], ◌∷◌, ◌++◌, map, Option, Some, None, is_none, refl, sym, ap, ◌∙◌, subst, inl, inr}
+use Rattle.std.proofs.Common.{Vec, Global, ◌≡◌, ℕ, Bool, true, false, List, [], ◌∷◌, ◌++◌, map, Option, Some, None, is_none, refl, sym, ap, ◌∙◌, subst, inl, inr}
 use Rattle.std.proofs.lemmas.List.{append_assoc}
+use Rattle.std.specs.Borrow.{Bor}
+use Rattle.std.specs.Net.Socket.{socket_ip}
 use Rattle.std.specs.declared.net.socket_addr.SocketAddr.{SocketAddr}
 use Rattle.stun_types.specs.Grammar.{refusal}
-use Rattle.stun_types.specs.ParseErrors.{StunParseError}
-use Rattle.turn_types.specs.ChannelFrames.{frame_at}
+use Rattle.stun_types.specs.declared.transport.TransportType.{TransportType}
+use Rattle.turn_types.specs.Streams.{Stream}
+use Rattle.turn_runs.specs.Chains.{steps_of}
 use Rattle.turn_client_proto.specs.Api.Payloads.{PeerPayload}
+use Rattle.turn_client_proto.specs.Control.{Control, Datagrams, Open, Closed}
 use Rattle.turn_client_proto.specs.Headline.{IsSafe, ShowsTraced, Traced}
 use Rattle.turn_client_proto.specs.Indications.{Carries}
+use Rattle.turn_client_proto.specs.Kept.{Kept}
 use Rattle.turn_client_proto.specs.Members.{IsIn}
-use Rattle.turn_client_proto.specs.Messages.{Held, NamesHeld, Payload, FromPeer, FromChannel}
+use Rattle.turn_client_proto.specs.Messages.{Held, NamesHeld, Payload, Permission, Reported}
+use Rattle.turn_client_proto.specs.Receipts.{End, IsReceivedBy, IsStreamed, Piece, Strange}
 use Rattle.turn_client_proto.specs.Runs.{Step, AtClient, AtEach, IsLawful}
 use Rattle.turn_client_proto.specs.Steps.{Call as StepCall, IsDelivered}
 use Rattle.turn_client_proto_steps.specs.ClientWords.{client_words}
 use Rattle.turn_client_proto_steps.specs.RunClient.{Client}
-use Rattle.turn_client_proto_steps.proofs.Lists.{nothing_behind}
+use Rattle.turn_client_proto_steps.proofs.Lists.{inside, nothing_behind}
+use Rattle.turn_client_proto_steps.proofs.Polling.{by_test}
 use Rattle.turn_desk_event.specs.declared.answer.Answer.{Answer}
 use Rattle.turn_desk_event.specs.declared.answer.Answer.TheVariants as answer
 use Rattle.turn_desk_event.specs.declared.event.ClientCall.{ClientCall}
+use Rattle.turn_desk_event.specs.declared.event.ClientCall.TheVariants as call
 use Rattle.turn_desk_event.specs.declared.event.Event.{Event}
 use Rattle.turn_desk_event.specs.declared.event.Event.TheVariants.{Call, ToClient}
 use Rattle.turn_desk_steps.specs.DeskRun.{DeskCall}
+use Rattle.turn_desk_world.specs.Calls.{IsFed}
 use Rattle.turn_desk_world.specs.Model.{World}
-use Rattle.turn_desk_world.specs.Safety.{IsLastAnswered, WasGranted, words}
-use Rattle.turn_desk_world.specs.Told.{AreStepsBy, IsCallOf, IsToldBy, data_of, given_of, shown_in}
+use Rattle.turn_desk_world.specs.Runs.{IsAtClient, IsInRange, IsStep, is_in_range}
+use Rattle.turn_desk_world.specs.Safety.{IsCarried, IsDataCarried, IsLastAnswered, WasGranted, held_by, last_taken, words}
+use Rattle.turn_desk_world.specs.Told.{AreCallsBy, AreCallsOfBytes, AreStepsBy, AreStepsOfClient, AreTakenUp, HandsNothing, IsCallOf, IsOneCall, IsToldBy, data_of, given_of, shown_in}
 
 -- the newest steps of a run are its last event's
 record IsNewest (pair : Event × Answer) (run : List (Step Client DeskCall)) (new : World) : Type 0 where
@@ -31,6 +41,7 @@ record IsNewest (pair : Event × Answer) (run : List (Step Client DeskCall)) (ne
   steps : List (Step Client DeskCall)
   earlier : List (Step Client DeskCall)
   run_is : run ≡ steps ++ earlier
+  step : IsStep pair.0 before pair.1 new
   told : AreStepsBy pair.0 pair.1 before steps new
 
 newest : (pairs : List (Event × Answer)) (pair : Event × Answer) (old new : World) (run : List (Step Client DeskCall)) → IsToldBy old (pairs ++ pair ∷ []) run new → IsNewest pair run new
@@ -40,6 +51,7 @@ newest [] pair old new run is = record {
   steps = is.1;
   earlier = [];
   run_is = is.3 ∙ ap (λ (l : List (Step Client DeskCall)). l ++ is.1) is.6.0 ∙ nothing_behind is.1;
+  step = subst (λ (w : World). IsStep pair.0 old pair.1 w) (sym is.6.1) is.4;
   told = subst (λ (w : World). AreStepsBy pair.0 pair.1 old is.1 w) (sym is.6.1) is.5;
 }
 newest (first ∷ pairs) pair old new run is =
@@ -49,30 +61,26 @@ newest (first ∷ pairs) pair old new run is =
       steps = rest.steps;
       earlier = rest.earlier ++ is.1;
       run_is = is.3 ∙ ap (λ (l : List (Step Client DeskCall)). l ++ is.1) rest.run_is ∙ append_assoc rest.steps rest.earlier is.1;
+      step = rest.step;
       told = rest.told;
     }
 
+-- ---- what it shows
+
 -- the newest step is a call of the client by that event
 record IsNewestCall (happening : Event) (ret : Answer) (run : List (Step Client DeskCall)) : Type 0 where
-  before : World
-  after : World
   call : StepCall Client
   earlier : List (Step Client DeskCall)
   run_is : run ≡ AtClient call ∷ earlier
-  told : IsCallOf happening before after ret call
+  told : IsCallOf happening ret call
 
-newest_call : (happening : Event) (ret : Answer) (run : List (Step Client DeskCall)) (new : World) (n : IsNewest (happening, ret) run new)
-    → (call : StepCall Client) × (n.steps ≡ AtClient call ∷ []) × IsCallOf happening n.before new ret call → IsNewestCall happening ret run
-newest_call happening ret run new n is = record {
-  before = n.before;
-  after = new;
-  call = is.0;
-  earlier = n.earlier;
-  run_is = n.run_is ∙ ap (λ (l : List (Step Client DeskCall)). l ++ n.earlier) is.1;
-  told = is.2;
+newest_call : (happening : Event) (ret : Answer) (first last : Client) (calls : List (StepCall Client)) (run earlier : List (Step Client DeskCall)) → run ≡ steps_of calls ++ earlier → IsOneCall happening ret first calls last → IsNewestCall happening ret run
+newest_call happening ret first last calls run earlier run_is (call, calls_are, begins, ends, is) = record {
+  call = call;
+  earlier = earlier;
+  run_is = run_is ∙ ap (λ (l : List (StepCall Client)). steps_of l ++ earlier) calls_are;
+  told = is;
 }
-
--- ---- what it shows
 
 -- what that step shows is traced
 shows : (happening : Event) (ret : Answer) (run : List (Step Client DeskCall)) → IsNewestCall happening ret run → AtEach (ShowsTraced words) run → (h : Held) → IsIn h (shown_in happening ret) → Traced words run h
@@ -80,48 +88,164 @@ shows happening ret run n each h listed =
     let here : AtEach (ShowsTraced words) (AtClient n.call ∷ n.earlier) = subst (λ (l : List (Step Client DeskCall)). AtEach (ShowsTraced words) l) n.run_is each in
     subst (λ (l : List (Step Client DeskCall)). Traced words l h) (sym n.run_is) (here.0 h (subst (λ (l : List Held). IsIn h l) (sym n.told.shown_is) listed))
 
-pub shown_granted : (what : ClientCall) (now : ℕ) (ret : Answer) (first last : Client) (run : List (Step Client DeskCall)) → IsLastAnswered (Call what now) ret first run last → (h : Held) → IsIn h (shown_in (Call what now) ret)
-    → WasGranted first run last h
-shown_granted what now ret first last run is h listed forged distinct =
+pub shown_granted : (what : ClientCall) (now : ℕ) (ret : Answer) (first last : Client) (run : List (Step Client DeskCall))
+    → ((kept : Kept) (one other : Client) (calls : List (StepCall Client)) → AreCallsBy (Call what now) kept ret one calls other → IsOneCall (Call what now) ret one calls other)
+    → IsLastAnswered (Call what now) ret first run last → (h : Held) → IsIn h (shown_in (Call what now) ret) → WasGranted first run last h
+shown_granted what now ret first last run one is h listed forged distinct =
     let n = newest is.before (Call what now, ret) is.old is.new run is.account.told in
-    shows (Call what now) ret run (newest_call (Call what now) ret run is.new n n.told) (is.promised.shown forged distinct) h listed
+    let by : AreStepsOfClient (Call what now) ret n.before.client is.new.client n.steps = n.told in
+    let run_is = n.run_is ∙ ap (λ (l : List (Step Client DeskCall)). l ++ n.earlier) by.steps_are in
+    shows (Call what now) ret run (newest_call (Call what now) ret by.first by.last by.calls run n.earlier run_is (one by.kept by.first by.last by.calls by.are)) (is.promised.shown forged distinct) h listed
 
 -- ---- what it gives
 
--- data that a message gives, and data that a channel frame gives
-pub message_gives : (bytes : List ℕ) (given : PeerPayload) → refusal bytes ≡ None → IsIn (FromPeer given.transport given.peer given.payload) (given_of bytes (answer.Peer given))
-message_gives bytes given message = inl (ap (λ (o : Option StunParseError). data_of (is_none o) bytes given) message)
+-- the newest step is one in which a frame was taken up, and handed over what is answered
+pub record IsLastFrame (ret : Answer) (run : List (Step Client DeskCall)) : Type 0 where
+  call : StepCall Client
+  earlier : List (Step Client DeskCall)
+  run_is : run ≡ AtClient call ∷ earlier
+  frame : List ℕ
+  handled_is : call.handled ≡ frame ∷ []
+  payloads_are : call.payloads ≡ given_of frame ret
 
-pub frame_gives : (bytes : List ℕ) (given : PeerPayload) → refusal bytes ≢ None → IsIn (FromChannel (frame_at bytes).id given.peer given.payload) (given_of bytes (answer.Peer given))
-frame_gives bytes given framed = inl (ap (λ (b : Bool). data_of b bytes given) (refused (refusal bytes) framed))
-  where
-    refused : (o : Option StunParseError) → o ≢ None → is_none o ≡ false
-    refused None framed = absurd (framed refl)
-    refused (Some error) framed = refl
+module _ (ret : Answer) (gives : ¬ HandsNothing ret) (run : List (Step Client DeskCall)) where
+  of_frames : (now : ℕ) (first last : Client) (calls : List (StepCall Client)) (earlier : List (Step Client DeskCall)) → run ≡ steps_of calls ++ earlier → AreTakenUp now ret first calls last → IsLastFrame ret run
+  of_frames now first last [] earlier run_is are = absurd (gives are.1)
+  of_frames now first last (call ∷ calls) earlier run_is (ends, up, others) = record {
+    call = call;
+    earlier = steps_of calls ++ earlier;
+    run_is = run_is;
+    frame = up.frame;
+    handled_is = up.handled_is;
+    payloads_are = up.payloads_are;
+  }
 
-module _ (bytes : Vec ℕ Global) (from to : SocketAddr) (now : ℕ) (ret : Answer) (first last : Client) (run : List (Step Client DeskCall))
-    (is : IsLastAnswered (ToClient bytes from to now) ret first run last) (p : Payload) (h : Held) (listed : IsIn p (given_of bytes.items ret)) where
-  -- what was delivered in a call to which they came is what they carry
-  carried : (call : StepCall Client) → call.handled ≡ bytes.items ∷ [] → (frame : List ℕ) × IsIn frame call.handled × Carries frame p → Carries bytes.items p
-  carried call handled_is there = elim (subst (λ (l : List (List ℕ)). IsIn there.0 l) handled_is there.1) [
-    | inl same ↦ subst (λ (l : List ℕ). Carries l p) (sym same) there.2
+  -- behind the call by which they came
+  of_taken : (now : ℕ) (first last : Client) (calls : List (StepCall Client)) (coming : StepCall Client) (earlier : List (Step Client DeskCall)) → run ≡ steps_of (calls ++ coming ∷ []) ++ earlier → AreTakenUp now ret first calls last
+      → IsLastFrame ret run
+  of_taken now first last [] coming earlier run_is are = absurd (gives are.1)
+  of_taken now first last (call ∷ calls) coming earlier run_is (ends, up, others) = record {
+    call = call;
+    earlier = steps_of (calls ++ coming ∷ []) ++ earlier;
+    run_is = run_is;
+    frame = up.frame;
+    handled_is = up.handled_is;
+    payloads_are = up.payloads_are;
+  }
+
+  module _ (bytes : Vec ℕ Global) (from to : SocketAddr) (now : ℕ) (kept : Kept) (first last : Client) (calls : List (StepCall Client)) (earlier : List (Step Client DeskCall)) (run_is : run ≡ steps_of calls ++ earlier) where
+    of_datagram : IsOneCall (ToClient bytes from to now) ret first calls last → IsLastFrame ret run
+    of_datagram are =
+        let n = newest_call (ToClient bytes from to now) ret first last calls run earlier run_is are in
+        record { call = n.call; earlier = n.earlier; run_is = n.run_is; frame = bytes.items; handled_is = n.told.handled_is; payloads_are = n.told.payloads_are }
+
+    of_bytes : (control : Control) → AreCallsOfBytes control kept bytes from to now ret first calls last → IsLastFrame ret run
+    of_bytes Datagrams are = of_datagram are
+    of_bytes (Open stream) are = of_taken now are.coming.after last are.taking are.coming earlier (run_is ∙ ap (λ (l : List (StepCall Client)). steps_of l ++ earlier) are.calls_are) are.taken
+    of_bytes Closed are = of_taken now are.coming.after last are.taking are.coming earlier (run_is ∙ ap (λ (l : List (StepCall Client)). steps_of l ++ earlier) are.calls_are) are.taken
+
+-- a payload of that frame is what it carries, and names what was granted
+module _ (event : Event) (ret : Answer) (first last : Client) (run : List (Step Client DeskCall)) (is : IsLastAnswered event ret first run last) (n : IsLastFrame ret run) where
+  -- what was delivered in that call is what the frame carries
+  of_frame : (p : Payload) → (f : List ℕ) × IsIn f n.call.handled × Carries f p → Carries n.frame p
+  of_frame p (f, listed, carries) = elim (subst (λ (l : List (List ℕ)). IsIn f l) n.handled_is listed) [
+    | inl same ↦ subst (λ (l : List ℕ). Carries l p) (sym same) carries
     | inr none ↦ absurd none
   ]
 
-  -- the bytes that came carry it, and what it names was granted
-  pub given_granted : ((call : StepCall Client) → IsDelivered client_words call p → (frame : List ℕ) × IsIn frame call.handled × Carries frame p) → ((g : Held) → NamesHeld p g → g ≡ h)
-      → Carries bytes.items p × WasGranted first run last h
-  given_granted as_came one =
-      let newest_steps = newest is.before (ToClient bytes from to now, ret) is.old is.new run is.account.told in
-      let n = newest_call (ToClient bytes from to now) ret run is.new newest_steps newest_steps.told in
-      let handed : IsIn p n.call.payloads = subst (λ (l : List Payload). IsIn p l) (sym n.told.payloads_are) listed in
-      let lawful : AtEach (λ s _. IsLawful words s) (AtClient n.call ∷ n.earlier) = subst (λ (l : List (Step Client DeskCall)). AtEach (λ s _. IsLawful words s) l) n.run_is is.account.lawful in (
-        carried n.call n.told.handled_is (as_came n.call (lawful.0.delivers p handed)),
-        λ forged distinct.
+  carried : (payload : List ℕ → Payload) (held : List ℕ → Held) → IsIn (payload n.frame) (given_of n.frame ret)
+      → (IsDelivered client_words n.call (payload n.frame) → (f : List ℕ) × IsIn f n.call.handled × Carries f (payload n.frame)) → ((g : Held) → NamesHeld (payload n.frame) g → g ≡ held n.frame) → IsCarried first run last payload held
+  carried payload held listed as_came one =
+      let p = payload n.frame in
+      let handed : IsIn p n.call.payloads = subst (λ (l : List Payload). IsIn p l) (sym n.payloads_are) listed in
+      let lawful : AtEach (λ s _. IsLawful words s) (AtClient n.call ∷ n.earlier) = subst (λ (l : List (Step Client DeskCall)). AtEach (λ s _. IsLawful words s) l) n.run_is is.account.lawful in
+      record {
+        frame = n.frame;
+        taken = subst (λ (l : List (Step Client DeskCall)). IsIn n.frame (last_taken l)) (sym n.run_is) (subst (λ (l : List (List ℕ)). IsIn n.frame l) (sym n.handled_is) (inl refl));
+        carries = of_frame p (as_came (lawful.0.delivers p handed));
+        granted = λ forged distinct.
             let safe : AtEach (IsSafe words first last) (AtClient n.call ∷ n.earlier) = subst (λ (l : List (Step Client DeskCall)). AtEach (IsSafe words first last) l) n.run_is (is.promised.safe forged distinct) in
             let named = (safe.0.names p handed).1 in
-            subst (λ (l : List (Step Client DeskCall)). Traced words l h) (sym n.run_is) (subst (λ (g : Held). Traced words (AtClient n.call ∷ n.earlier) g) (one named.0 named.1) named.3),
-      )
+            subst (λ (l : List (Step Client DeskCall)). Traced words l (held n.frame)) (sym n.run_is) (subst (λ (g : Held). Traced words (AtClient n.call ∷ n.earlier) g) (one named.0 named.1) named.3);
+      }
+
+  data_delivered : (b : Bool) (frame : List ℕ) (given : PeerPayload) → IsDelivered client_words n.call (data_of b frame given) → (f : List ℕ) × IsIn f n.call.handled × Carries f (data_of b frame given)
+  data_delivered true frame given came = came
+  data_delivered false frame given came = came
+
+  data_named : (b : Bool) (frame : List ℕ) (given : PeerPayload) (g : Held) → NamesHeld (data_of b frame given) g → g ≡ held_by b frame given
+  data_named true frame given g named = named
+  data_named false frame given g named = named
+
+  pub data_carried : (given : PeerPayload) → ret ≡ answer.Peer given → IsDataCarried first run last given
+  data_carried given answered =
+      carried (λ frame. data_of (is_none (refusal frame)) frame given) (λ frame. held_by (is_none (refusal frame)) frame given)
+      (subst (λ (r : Answer). IsIn (data_of (is_none (refusal n.frame)) n.frame given) (given_of n.frame r)) (sym answered) (inl refl))
+      (data_delivered (is_none (refusal n.frame)) n.frame given) (data_named (is_none (refusal n.frame)) n.frame given)
+
+  pub report_carried : (transport : TransportType) (peer : SocketAddr) (kind code details : ℕ) → ret ≡ answer.Icmp transport peer kind code details
+      → IsCarried first run last (λ frame. Reported transport peer (record { icmp_type = kind; code = code; details = details })) (λ frame. Permission transport (socket_ip peer))
+  report_carried transport peer kind code details answered =
+      carried (λ frame. Reported transport peer (record { icmp_type = kind; code = code; details = details })) (λ frame. Permission transport (socket_ip peer))
+      (subst (λ (r : Answer). IsIn (Reported transport peer (record { icmp_type = kind; code = code; details = details })) (given_of n.frame r)) (sym answered) (inl refl)) (λ came. came) (λ g named. named)
+
+module _ (ret : Answer) (gives : ¬ HandsNothing ret) (first last : Client) (run : List (Step Client DeskCall)) (now : ℕ) where
+  pub came_last : (bytes : Vec ℕ Global) (from to : SocketAddr) → IsLastAnswered (ToClient bytes from to now) ret first run last → IsLastFrame ret run
+  came_last bytes from to is =
+      let n = newest is.before (ToClient bytes from to now, ret) is.old is.new run is.account.told in
+      let by : AreStepsOfClient (ToClient bytes from to now) ret n.before.client is.new.client n.steps = n.told in
+      of_bytes ret gives run bytes from to now by.kept by.first by.last by.calls n.earlier (n.run_is ∙ ap (λ (l : List (Step Client DeskCall)). l ++ n.earlier) by.steps_are) by.kept.control by.are
+
+  pub waited_last : IsLastAnswered (Call call.PollRecv now) ret first run last → IsLastFrame ret run
+  waited_last is =
+      let n = newest is.before (Call call.PollRecv now, ret) is.old is.new run is.account.told in
+      let by : AreStepsOfClient (Call call.PollRecv now) ret n.before.client is.new.client n.steps = n.told in
+      of_frames ret gives run now by.first by.last by.calls n.earlier (n.run_is ∙ ap (λ (l : List (Step Client DeskCall)). l ++ n.earlier) by.steps_are) by.are
+
+-- the answers that hand something over
+pub data_hands : (given : PeerPayload) → ¬ HandsNothing (answer.Peer given)
+data_hands given none = Prim.cc (none [])
+
+pub report_hands : (transport : TransportType) (peer : SocketAddr) (kind code details : ℕ) → ¬ HandsNothing (answer.Icmp transport peer kind code details)
+report_hands transport peer kind code details none = Prim.cc (none [])
+
+-- ---- a datagram
+
+-- a client that is one over UDP was so before
+module _ (bytes : Vec ℕ Global) (from to : SocketAddr) (now : ℕ) (ret : Answer) where
+  streamed_not : (items : Bor (List ℕ) → List ℕ) (p q : Kept) (stream : Stream) (came : _) (took : _) → IsStreamed items now stream p.core came took q → q.control ≡ Datagrams → ⊥
+  streamed_not items p q stream came took (Piece of some left stands taken) is = let never : Open left ≡ Datagrams = sym stands ∙ is in Prim.cc never
+  streamed_not items p q stream came took (End of none answered core closed) is = let never : Closed ≡ Datagrams = sym closed ∙ is in Prim.cc never
+  streamed_not items p q stream came took (Strange others back stands) is = let never : Open stream ≡ Datagrams = sym stands ∙ is in Prim.cc never
+
+  fed_so : (p q : Kept) → IsFed ret p bytes.items from to now q → q.control ≡ Datagrams → p.control ≡ Datagrams
+  fed_so p q is udp = by p.control refl is.received
+    where
+      by : (control : Control) → p.control ≡ control → IsReceivedBy (λ (b : Bor (List ℕ)). b.now) now control p.core is.came is.took q → p.control ≡ Datagrams
+      by Datagrams at received = at
+      by (Open stream) at received = absurd (streamed_not (λ (b : Bor (List ℕ)). b.now) p q stream is.came is.took received udp)
+      by Closed at received = absurd (let never : Closed ≡ Datagrams = sym received.1 ∙ udp in let no : ⊥ = Prim.cc never in no)
+
+  udp_before : (before left : Option Kept) (p q : Kept) → before ≡ Some p → left ≡ Some q → q.control ≡ Datagrams → IsAtClient now (λ p q. IsFed ret p bytes.items from to now q) before ret left → p.control ≡ Datagrams
+  unfolding IsAtClient IsInRange
+  udp_before None left p q is after udp h = absurd (Prim.cc is)
+  udp_before (Some x) None p q is after udp h = absurd h
+  udp_before (Some x) (Some y) p q is after udp h =
+      let so : y.control ≡ Datagrams = ap (λ (k : Kept). k.control) (inside after) ∙ udp in
+      ap (λ (k : Kept). k.control) (sym (inside is))
+      ∙ by_test (is_in_range now)
+      (λ (_ : is_in_range now ≡ true) fed. fed_so x y fed so)
+      (λ (_ : is_in_range now ≡ false) out. sym (ap (λ (k : Kept). k.control) out.1) ∙ so) h
+
+  -- what was taken up last is the datagram
+  pub datagram_last : (first last : Client) (run : List (Step Client DeskCall)) (is : IsLastAnswered (ToClient bytes from to now) ret first run last) (k : Kept) → is.new.client ≡ Some k → k.control ≡ Datagrams → last_taken run ≡ bytes.items ∷ []
+  datagram_last first last run is k left udp =
+      let n = newest is.before (ToClient bytes from to now, ret) is.old is.new run is.account.told in
+      let by : AreStepsOfClient (ToClient bytes from to now) ret n.before.client is.new.client n.steps = n.told in
+      let was : by.kept.control ≡ Datagrams = udp_before n.before.client is.new.client by.kept k by.kept_is left udp n.step.0 in
+      let one : IsOneCall (ToClient bytes from to now) ret by.first by.calls by.last = subst (λ (o : Control). AreCallsOfBytes o by.kept bytes from to now ret by.first by.calls by.last) was by.are in
+      let newest_is = newest_call (ToClient bytes from to now) ret by.first by.last by.calls run n.earlier (n.run_is ∙ ap (λ (l : List (Step Client DeskCall)). l ++ n.earlier) by.steps_are) one in
+      ap last_taken newest_is.run_is ∙ newest_is.told.handled_is
 
 pub in_image : {X Y : Type 0} (f : X → Y) (x : X) (xs : List X) → IsIn x xs → IsIn (f x) (map f xs)
 in_image f x [] i = absurd i

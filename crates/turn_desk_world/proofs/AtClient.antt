@@ -21,7 +21,7 @@ use Rattle.turn_client_proto.specs.Api.declared.answer.TurnRecvRet.{TurnRecvRet}
 use Rattle.turn_client_proto.specs.Api.declared.answer.TurnRecvRet.TheVariants as recv
 use Rattle.turn_client_proto.specs.Drawing.{sent_of}
 use Rattle.turn_client_proto.specs.Control.{Datagrams}
-use Rattle.turn_client_proto.specs.Kept.{Kept, Protocol}
+use Rattle.turn_client_proto.specs.Kept.{Kept, Protocol, over_udp}
 use Rattle.turn_client_proto.specs.Payloads.{payload_of}
 use Rattle.turn_client_proto.specs.Datagrams.{Foreign, Heard, IsDatagramTaken, IsGivenBack, IsHandedOver, IsHandledAs, IsMessageTaken, IsRead, Lost, Own}
 use Rattle.turn_client_proto.specs.Steps.{Call, ClientStep}
@@ -46,8 +46,8 @@ use Rattle.turn_desk_event.specs.declared.event.ClientCall.{ClientCall}
 use Rattle.turn_desk_event.specs.declared.event.ClientCall.TheVariants as call
 use Rattle.turn_desk_event.specs.declared.event.Event.{Event}
 use Rattle.turn_desk_event.specs.declared.event.Event.TheVariants as event
-use Rattle.turn_desk_world.specs.Calls.{AreChannelsTold, ArePermissionsTold, IsBindTold, IsCallTold, IsCalled, IsDeleteTold, IsDrawnAs, IsEndTold, IsEventTold, IsFed, IsHaveTold, IsPermissionTold, IsPolledAs, IsRelayedTold, IsSendTold, IsTold, IsWaitingTold}
-use Rattle.turn_desk_world.specs.Told.{IsFairEvent, arriving, bytes_drawn, data_of, given_by, given_of, kept_by, notices_in, payloads_in}
+use Rattle.turn_desk_world.specs.Calls.{AreChannelsTold, ArePermissionsTold, IsBindTold, IsCalled, IsDeleteTold, IsDrawnAs, IsEndTold, IsEventTold, IsFed, IsHaveTold, IsPermissionTold, IsPolledAs, IsRelayedTold, IsSendTold, IsTold}
+use Rattle.turn_desk_world.specs.Told.{IsFairEvent, arriving, bytes_drawn, data_of, given_by, given_of, notices_in, payloads_in}
 use Rattle.turn_desk_world.proofs.Handed.{handed_over}
 use Rattle.turn_desk_world.proofs.Shown.{AreHeld, channels_held, had_is_held, permissions_held, relayed_held}
 
@@ -60,6 +60,7 @@ telling_call happening c ret after =
 pub record IsAnswered (happening : Event) (c : Client) (ret : Answer) (core : Protocol) : Type 0 where
   pub after : Client
   pub core_is : after.core ≡ core
+  pub waits : after.waiting ≡ c.waiting
   pub step : ClientStep client_words (telling_call happening c ret after)
   pub sound : IsSound after
   pub shows : AreHeld happening ret core
@@ -72,7 +73,7 @@ module _ (what : ClientCall) (c : Client) (sound : IsSound c) (now : ℕ) (new :
 
   -- nothing comes, and nothing is drawn or handed over
   by_call : (ret : Answer) → IsRunStep c [] None (notices_in ret) new → AreHeld happening ret new → IsAnswered happening c ret new
-  by_call ret is shows = record { after = is.after; core_is = is.core_is; step = is.step; sound = is.sound; shows = shows }
+  by_call ret is shows = record { after = is.after; core_is = is.core_is; waits = is.waits; step = is.step; sound = is.sound; shows = shows }
 
   polled : (ret : Answer) → IsPolledAs ret c.core now new → IsAnswered happening c ret new
   polled (answer.Wait moment) is = by_call (answer.Wait moment) (poll_step c now (poll.WaitUntil moment) new sound is) (λ h i. absurd i)
@@ -156,16 +157,10 @@ module _ (c : Client) (sound : IsSound c) (now : ℕ) (new : Protocol) where
   called call.ProtocolError ret fair is = end_told call.ProtocolError c sound now new ret is
   called call.RelayedAddresses ret fair is = relayed_told call.RelayedAddresses c sound now new ret is
 
-  -- nothing waits over UDP
-  waiting_told : (ret : Answer) (k : Kept) → k.core ≡ new → IsWaitingTold ret (kept_by c) now k → (k.control ≡ Datagrams) × IsAnswered (event.Call call.PollRecv now) c ret new
-  waiting_told (answer.Peer given) k core is = absurd (Prim.cc is.0)
-  waiting_told answer.Nothing k core is = (is.2, by_call call.PollRecv c sound now new answer.Nothing (still c [] new sound (sym core ∙ is.1)) (λ h i. absurd i))
-  waiting_told _ k core is = absurd is
-
   -- ---- what is sent
 
   by_draw : (ret : Answer) → IsRunStep c [] (bytes_drawn (event.Draw now) ret) (notices_in ret) new → AreHeld (event.Draw now) ret new → IsAnswered (event.Draw now) c ret new
-  by_draw ret is shows = record { after = is.after; core_is = is.core_is; step = is.step; sound = is.sound; shows = shows }
+  by_draw ret is shows = record { after = is.after; core_is = is.core_is; waits = is.waits; step = is.step; sound = is.sound; shows = shows }
 
   pub drawn : (ret : Answer) → IsDrawnAs ret c.core now new → IsAnswered (event.Draw now) c ret new
   unfolding IsDrawnAs
@@ -173,28 +168,11 @@ module _ (c : Client) (sound : IsSound c) (now : ℕ) (new : Protocol) where
   drawn answer.Nothing is = by_draw answer.Nothing (draw_step c now None new sound is) (λ h i. absurd i)
   drawn _ is = absurd is
 
--- a call, whatever it is
-pub call_told : (c : Client) (sound : IsSound c) (now : ℕ) (what : ClientCall) (ret : Answer) (k : Kept) → IsFairEvent (event.Call what now) → IsCallTold what ret (kept_by c) now k
-    → (k.control ≡ Datagrams) × IsAnswered (event.Call what now) c ret k.core
-unfolding IsCallTold
-call_told c sound now call.PollRecv ret k fair is = waiting_told c sound now k.core ret k refl is
-call_told c sound now call.Poll ret k fair is = (is.1, called c sound now k.core call.Poll ret fair is.0)
-call_told c sound now call.PollEvent ret k fair is = (is.1, called c sound now k.core call.PollEvent ret fair is.0)
-call_told c sound now call.Delete ret k fair is = (is.1, called c sound now k.core call.Delete ret fair is.0)
-call_told c sound now (call.CreatePermission transport ip) ret k fair is = (is.1, called c sound now k.core (call.CreatePermission transport ip) ret fair is.0)
-call_told c sound now (call.HavePermission transport ip) ret k fair is = (is.1, called c sound now k.core (call.HavePermission transport ip) ret fair is.0)
-call_told c sound now (call.Permissions transport relayed) ret k fair is = (is.1, called c sound now k.core (call.Permissions transport relayed) ret fair is.0)
-call_told c sound now (call.BindChannel transport peer) ret k fair is = (is.1, called c sound now k.core (call.BindChannel transport peer) ret fair is.0)
-call_told c sound now call.Channels ret k fair is = (is.1, called c sound now k.core call.Channels ret fair is.0)
-call_told c sound now (call.SendTo transport to bytes) ret k fair is = (is.1, called c sound now k.core (call.SendTo transport to bytes) ret fair is.0)
-call_told c sound now call.ProtocolError ret k fair is = (is.1, called c sound now k.core call.ProtocolError ret fair is.0)
-call_told c sound now call.RelayedAddresses ret k fair is = (is.1, called c sound now k.core call.RelayedAddresses ret fair is.0)
-
 -- ---- what came
 
 -- bytes came that gave nothing
 none_given : (c : Client) (bytes : List ℕ) (new : Protocol) → IsRunStep c (bytes ∷ []) None [] new → IsGiving c bytes [] new
-none_given c bytes new is = record { after = is.after; core_is = is.core_is; step = is.step; sound = is.sound }
+none_given c bytes new is = record { after = is.after; core_is = is.core_is; waits = is.waits; step = is.step; sound = is.sound }
 
 handled_as : {T : Type 0} (bytes : List ℕ) (came : Transmit T) (handled : Bool) (took : TurnRecvRet T) → IsHandledAs came handled took → given_by bytes took ≡ []
 handled_as bytes came true took is = ap (given_by bytes) is
@@ -238,12 +216,12 @@ same_data true bytes held owned is = ap (λ (g : PeerPayload). FromPeer g.transp
 same_data false bytes held owned is = ap (λ (g : PeerPayload). FromChannel (frame_at bytes).id g.peer g.payload) (sym is)
 
 -- the answer to them tells what was given, and nothing else
-record IsToldOf (bytes : List ℕ) (took : TurnRecvRet (Bor (List ℕ))) (ret : Answer) : Type 0 where
-  hands : given_by bytes took ≡ given_of bytes ret
-  tells : notices_in ret ≡ []
-  shows : (happening : Event) (core : Protocol) → AreHeld happening ret core
+pub record IsToldOf (bytes : List ℕ) (took : TurnRecvRet (Bor (List ℕ))) (ret : Answer) : Type 0 where
+  pub hands : given_by bytes took ≡ given_of bytes ret
+  pub tells : notices_in ret ≡ []
+  pub shows : (happening : Event) (core : Protocol) → AreHeld happening ret core
 
-told_of_it : (bytes : List ℕ) (took : TurnRecvRet (Bor (List ℕ))) (ret : Answer) → IsTold took ret → IsToldOf bytes took ret
+pub told_of_it : (bytes : List ℕ) (took : TurnRecvRet (Bor (List ℕ))) (ret : Answer) → IsTold took ret → IsToldOf bytes took ret
 told_of_it bytes recv.Handled answer.Handled is = record { hands = refl; tells = refl; shows = λ happening core h i. absurd i }
 told_of_it bytes (recv.Ignored came) answer.Ignored is = record { hands = refl; tells = refl; shows = λ happening core h i. absurd i }
 told_of_it bytes (recv.PeerData held) (answer.Peer owned) is = record {
@@ -262,7 +240,7 @@ told_of_it bytes (recv.PeerData held) _ is = absurd is
 told_of_it bytes (recv.PeerIcmp t p k c d) _ is = absurd is
 told_of_it bytes _ ret is = absurd is
 
-pub fed : (c : Client) (sound : IsSound c) (ret : Answer) (bytes : Vec ℕ Global) (from to : SocketAddr) (now : ℕ) (new : Kept) → IsFed ret (kept_by c) bytes.items from to now new
+pub fed : (c : Client) (sound : IsSound c) (ret : Answer) (bytes : Vec ℕ Global) (from to : SocketAddr) (now : ℕ) (new : Kept) → IsFed ret (over_udp c.core) bytes.items from to now new
     → (new.control ≡ Datagrams) × IsAnswered (event.ToClient bytes from to now) c ret new.core
 fed c sound ret bytes from to now new is =
     let came_bytes : AreBytes is.came.bytes.now = subst AreBytes (sym is.bytes_are) is.are_bytes in
@@ -274,6 +252,7 @@ fed c sound ret bytes from to now new is =
       record {
         after = step.after;
         core_is = step.core_is;
+        waits = step.waits;
         step = subst (λ (l : List Notice). ClientStep client_words (record (call_of c (bytes.items ∷ []) None l step.after) { payloads = given_of bytes.items ret })) (sym told.tells) step.step;
         sound = step.sound;
         shows = told.shows (event.ToClient bytes from to now) new.core;
@@ -302,6 +281,7 @@ nothing_done happening c new sound is = by (still c (arriving happening) new sou
     by step = record {
       after = step.after;
       core_is = step.core_is;
+      waits = step.waits;
       step = subst (λ (l : List Told). ClientStep client_words (record (call_of c (arriving happening) (bytes_drawn happening answer.OutOfRange) [] step.after) { payloads = l })) (handed_none happening)
           (subst (λ (o : Option (List ℕ)). ClientStep client_words (call_of c (arriving happening) o [] step.after)) (drawn_none happening) step.step);
       sound = step.sound;

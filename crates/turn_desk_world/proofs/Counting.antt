@@ -1,11 +1,23 @@
 -- All accounts of a run count as many numbers as drawn.
-use Rattle.std.proofs.Common.{◌≡◌, ℕ, ◌+◌, List, [], ◌∷◌, ◌++◌, Option, Some, refl, sym, ap, ◌∙◌, subst, arith}
+use Rattle.std.proofs.Common.{Vec, Global, ◌≡◌, ℕ, ◌+◌, List, [], ◌∷◌, ◌++◌, length, Option, Some, None, refl, sym, ap, ◌∙◌, subst, arith}
+use Rattle.std.proofs.lemmas.List.{append_assoc, length-append}
+use Rattle.std.specs.declared.net.socket_addr.SocketAddr.{SocketAddr}
+use Rattle.turn_types.specs.StreamAnswers.{joined}
+use Rattle.turn_types.specs.Streams.{Stream}
+use Rattle.turn_runs.specs.Chains.{steps_of}
 use Rattle.turn_client_proto.specs.Runs.{Step, AtClient, AtDesk, given_in}
+use Rattle.turn_client_proto.specs.Control.{Control, Datagrams, Open, Closed}
+use Rattle.turn_client_proto.specs.HandingIn.{IsFrameTaken}
 use Rattle.turn_client_proto.specs.Kept.{Kept, Leaves, Protocol}
 use Rattle.turn_client_proto.specs.Steps.{Call as StepCall}
+use Rattle.turn_client_proto.specs.Waiting.{whole_frames}
+use Rattle.turn_client_proto.proofs.Definite.{taken_same}
 use Rattle.turn_client_proto_steps.specs.RunClient.{Client, numbers_between}
 use Rattle.turn_client_proto_steps.proofs.Lists.{inside}
 use Rattle.turn_desk_event.specs.declared.answer.Answer.{Answer}
+use Rattle.turn_desk_event.specs.declared.answer.Answer.TheVariants as answer
+use Rattle.turn_desk_event.specs.declared.event.ClientCall.{ClientCall}
+use Rattle.turn_desk_event.specs.declared.event.ClientCall.TheVariants as call
 use Rattle.turn_desk_event.specs.declared.event.Event.{Event}
 use Rattle.turn_desk_event.specs.declared.event.Event.TheVariants.{Call, Draw, ToClient, ToDesk}
 use Rattle.turn_desk_steps.specs.DeskRun.{DeskCall}
@@ -13,7 +25,7 @@ use Rattle.turn_desk_world.specs.Calls.{IsCallTold, IsDrawnAs, IsFed}
 use Rattle.turn_desk_world.specs.Model.{World}
 use Rattle.turn_desk_world.specs.Runs.{IsAtClient, IsStep}
 use Rattle.turn_desk_world.specs.Safety.{words}
-use Rattle.turn_desk_world.specs.Told.{AreStepsBy, IsCallOf, IsToldBy, kept_by}
+use Rattle.turn_desk_world.specs.Told.{AreBrought, AreCallsBy, AreCallsOfBytes, AreCallsOfPiece, AreStepsBy, AreStepsOfClient, AreTakenUp, ByEnd, ByNone, ByOthers, ByPiece, IsAt, IsKeptAs, IsOneCall, IsToldBy}
 use Rattle.turn_desk_world.proofs.Determined.{at_client_once, called_once, drawn_once, fed_once}
 
 behind : (steps later : List (Step Client DeskCall)) → given_in words (later ++ steps) ≡ given_in words steps + given_in words later
@@ -21,40 +33,198 @@ behind steps [] = omega arith
 behind steps (AtClient call ∷ later) = let rest = behind steps later in omega (arith, rest)
 behind steps (AtDesk d ∷ later) = behind steps later
 
+-- how many numbers calls give
+abbrev given_by_calls : List (StepCall Client) → ℕ
+given_by_calls calls = given_in words (steps_of calls)
+
+calls_behind : (later : List (StepCall Client)) (one : StepCall Client) → given_by_calls (later ++ one ∷ []) ≡ given_by_calls (one ∷ []) + given_by_calls later
+calls_behind [] one = omega arith
+calls_behind (call ∷ later) one = let rest = calls_behind later one in omega (arith, rest)
+
+-- a call that begins and ends with the same cores gives as many
+one_given : (c d : StepCall Client) → c.before.core ≡ d.before.core → c.after.core ≡ d.after.core → numbers_between c.before.core.rng c.after.core.rng ≡ numbers_between d.before.core.rng d.after.core.rng
+one_given c d before after = ap (λ (p : Protocol). numbers_between p.rng c.after.core.rng) before ∙ ap (λ (p : Protocol). numbers_between d.before.core.rng p.rng) after
+
+-- ---- frames that are taken up
+
+-- two halves of one list
+same_halves : {X : Type 0} (xs ys us vs : List X) → length xs ≡ length ys → xs ++ us ≡ ys ++ vs → us ≡ vs
+same_halves [] [] us vs long is = is
+same_halves [] (y ∷ ys) us vs long is = absurd (Prim.cc long)
+same_halves (x ∷ xs) [] us vs long is = absurd (Prim.cc long)
+same_halves (x ∷ xs) (y ∷ ys) us vs long is = same_halves xs ys us vs (Prim.cc long) (Prim.cc is)
+
+-- those that were taken up stood before those that wait then
+record StoodBefore (first last : Client) (count : ℕ) : Type 0 where
+  taken : List (List ℕ)
+  parts : first.waiting ≡ taken ++ last.waiting
+  many : length taken ≡ count
+
+stood_before : (now : ℕ) (ret : Answer) (first last : Client) (calls : List (StepCall Client)) → AreTakenUp now ret first calls last → StoodBefore first last (length calls)
+stood_before now ret first last [] is = record { taken = []; parts = ap (λ (c : Client). c.waiting) (sym is.0); many = refl }
+stood_before now ret first last (one ∷ earlier) (ends, up, others) =
+    let rest = stood_before now answer.Nothing first one.before earlier others in
+    record {
+      taken = rest.taken ++ up.frame ∷ [];
+      parts = rest.parts ∙ ap (λ (l : List (List ℕ)). rest.taken ++ l) (up.waited ∙ ap (λ (c : Client). up.frame ∷ c.waiting) (sym ends)) ∙ sym (append_assoc rest.taken (up.frame ∷ []) last.waiting);
+      many = omega (arith, length-append rest.taken (up.frame ∷ []), rest.many);
+    }
+
+abbrev AreAlike : (calls others : List (StepCall Client)) (last last' : Client) → Type 0
+AreAlike calls others last last' = (last.core ≡ last'.core) × (given_by_calls calls ≡ given_by_calls others)
+
+-- as many, from the same on, are the same
+taken_alike : (now : ℕ) (ret again : Answer) (first first' last last' : Client) (calls others : List (StepCall Client)) → first.core ≡ first'.core → first.waiting ≡ first'.waiting → length calls ≡ length others
+    → AreTakenUp now ret first calls last → AreTakenUp now again first' others last' → AreAlike calls others last last'
+taken_alike now ret again first first' last last' [] [] cores waits long a b = (ap (λ (c : Client). c.core) a.0 ∙ cores ∙ sym (ap (λ (c : Client). c.core) b.0), refl)
+taken_alike now ret again first first' last last' [] (d ∷ others) cores waits long a b = absurd (Prim.cc long)
+taken_alike now ret again first first' last last' (c ∷ calls) [] cores waits long a b = absurd (Prim.cc long)
+taken_alike now ret again first first' last last' (c ∷ calls) (d ∷ others) cores waits long (ends, up, earlier) (ends', up', earlier') =
+    let as_long : length calls ≡ length others = Prim.cc long in
+    let rest = taken_alike now answer.Nothing answer.Nothing first first' c.before d.before calls others cores waits as_long earlier earlier' in
+    let one = stood_before now answer.Nothing first c.before calls earlier in
+    let other = stood_before now answer.Nothing first' d.before others earlier' in
+    let waited : c.before.waiting ≡ d.before.waiting = same_halves one.taken other.taken c.before.waiting d.before.waiting (one.many ∙ as_long ∙ sym other.many) (sym one.parts ∙ waits ∙ other.parts) in
+    let frame : up.frame ≡ up'.frame = Prim.cc (sym up.waited ∙ waited ∙ up'.waited) in
+    let takes : IsFrameTaken d.before.core up'.frame now up.taken c.after.core =
+    subst (λ (f : List ℕ). IsFrameTaken d.before.core f now up.taken c.after.core) frame (subst (λ (p : Protocol). IsFrameTaken p up.frame now up.taken c.after.core) rest.0 up.is_taken) in
+    let after : c.after.core ≡ d.after.core = (taken_same d.before.core up'.frame now up.taken up'.taken c.after.core d.after.core takes up'.is_taken).1 in
+    let given = one_given c d rest.0 after in (
+      ap (λ (x : Client). x.core) ends ∙ after ∙ sym (ap (λ (x : Client). x.core) ends'),
+      omega (arith, rest.1, given),
+    )
+
+-- those that wait at either end tell how many
+as_many : (now : ℕ) (ret again : Answer) (first first' last last' : Client) (calls others : List (StepCall Client)) → first.waiting ≡ first'.waiting → last.waiting ≡ last'.waiting
+    → AreTakenUp now ret first calls last → AreTakenUp now again first' others last' → length calls ≡ length others
+as_many now ret again first first' last last' calls others waits left a b =
+    let one = stood_before now ret first last calls a in
+    let other = stood_before now again first' last' others b in
+    let whole : length (one.taken ++ last.waiting) ≡ length (other.taken ++ last'.waiting) = ap length (sym one.parts ∙ waits ∙ other.parts) in
+    omega (arith, whole, length-append one.taken last.waiting, length-append other.taken last'.waiting, ap length left, one.many, other.many)
+
+-- ---- what a piece brings
+
+open_same : (k : Kept) (s t : Stream) → k.control ≡ Open s → k.control ≡ Open t → s ≡ t
+open_same k s t one other = let same : Open s ≡ Open t = sym one ∙ other in Prim.cc same
+
+not_closed : {A : Type 0} (k : Kept) (s : Stream) → k.control ≡ Open s → k.control ≡ Closed → A
+not_closed k s one other = absurd (let never : Open s ≡ Closed = sym one ∙ other in let no : ⊥ = Prim.cc never in no)
+
+brought_alike : (k : Kept) (bytes : List ℕ) (from to : SocketAddr) (now : ℕ) (came came' waiting waiting' : List (List ℕ)) → AreBrought k bytes from to now came waiting → AreBrought k bytes from to now came' waiting' → waiting ≡ waiting'
+brought_alike k bytes from to now came came' waiting waiting' (ByPiece s at of some comes waits) (ByPiece t at' of' some' comes' waits') =
+    waits ∙ ap (λ (u : Stream). whole_frames (joined u bytes)) (open_same k s t at at') ∙ sym waits'
+brought_alike k bytes from to now came came' waiting waiting' (ByPiece s at of some comes waits) (ByEnd t at' of' none comes' waits') = absurd (some none)
+brought_alike k bytes from to now came came' waiting waiting' (ByPiece s at of some comes waits) (ByOthers t at' others comes' waits') = absurd (others of)
+brought_alike k bytes from to now came came' waiting waiting' (ByPiece s at of some comes waits) (ByNone at' comes' waits') = not_closed k s at at'
+brought_alike k bytes from to now came came' waiting waiting' (ByEnd s at of none comes waits) (ByPiece t at' of' some comes' waits') = absurd (some none)
+brought_alike k bytes from to now came came' waiting waiting' (ByEnd s at of none comes waits) (ByEnd t at' of' none' comes' waits') = waits ∙ sym waits'
+brought_alike k bytes from to now came came' waiting waiting' (ByEnd s at of none comes waits) (ByOthers t at' others comes' waits') = absurd (others of)
+brought_alike k bytes from to now came came' waiting waiting' (ByEnd s at of none comes waits) (ByNone at' comes' waits') = waits ∙ sym waits'
+brought_alike k bytes from to now came came' waiting waiting' (ByOthers s at others comes waits) (ByPiece t at' of some comes' waits') = absurd (others of)
+brought_alike k bytes from to now came came' waiting waiting' (ByOthers s at others comes waits) (ByEnd t at' of none comes' waits') = absurd (others of)
+brought_alike k bytes from to now came came' waiting waiting' (ByOthers s at others comes waits) (ByOthers t at' others' comes' waits') = waits ∙ ap whole_frames (open_same k s t at at') ∙ sym waits'
+brought_alike k bytes from to now came came' waiting waiting' (ByOthers s at others comes waits) (ByNone at' comes' waits') = not_closed k s at at'
+brought_alike k bytes from to now came came' waiting waiting' (ByNone at comes waits) (ByPiece t at' of some comes' waits') = not_closed k t at' at
+brought_alike k bytes from to now came came' waiting waiting' (ByNone at comes waits) (ByEnd t at' of none comes' waits') = waits ∙ sym waits'
+brought_alike k bytes from to now came came' waiting waiting' (ByNone at comes waits) (ByOthers t at' others comes' waits') = not_closed k t at' at
+brought_alike k bytes from to now came came' waiting waiting' (ByNone at comes waits) (ByNone at' comes' waits') = waits ∙ sym waits'
+
+-- ---- the calls by one event
+
+-- from clients with the same core and frames to such ones
+module _ (kept : Kept) (ret : Answer) (first first' last last' : Client) (calls others : List (StepCall Client)) (cores : first.core ≡ first'.core) (waits : first.waiting ≡ first'.waiting) (left : last.core ≡ last'.core) (stay : last.waiting ≡ last'.waiting) where
+  abbrev Alike : Type 0
+  Alike = given_by_calls calls ≡ given_by_calls others
+
+  one_alike : (event : Event) → IsOneCall event ret first calls last → IsOneCall event ret first' others last' → Alike
+  one_alike event (c, calls_are, begins, ends, is) (d, others_are, begins', ends', is') =
+      let before : c.before.core ≡ d.before.core = ap (λ (x : Client). x.core) begins ∙ cores ∙ sym (ap (λ (x : Client). x.core) begins') in
+      let after : c.after.core ≡ d.after.core = sym (ap (λ (x : Client). x.core) ends) ∙ left ∙ ap (λ (x : Client). x.core) ends' in
+      ap given_by_calls calls_are ∙ ap (λ n. 0 + n) (one_given c d before after) ∙ sym (ap given_by_calls others_are)
+
+  frames_alike : (now : ℕ) → AreTakenUp now ret first calls last → AreTakenUp now ret first' others last' → Alike
+  frames_alike now a b = (taken_alike now ret ret first first' last last' calls others cores waits (as_many now ret ret first first' last last' calls others waits stay a b) a b).1
+
+  piece_alike : (bytes : List ℕ) (from to : SocketAddr) (now : ℕ) → AreCallsOfPiece kept bytes from to now ret first calls last → AreCallsOfPiece kept bytes from to now ret first' others last' → Alike
+  piece_alike bytes from to now a b =
+      let waiting : a.waiting ≡ b.waiting = brought_alike kept bytes from to now a.came b.came a.waiting b.waiting a.brought b.brought in
+      let before : a.coming.before.core ≡ b.coming.before.core = ap (λ (x : Client). x.core) a.begins ∙ cores ∙ sym (ap (λ (x : Client). x.core) b.begins) in
+      let after : a.coming.after.core ≡ b.coming.after.core = a.comes.core_is ∙ before ∙ sym b.comes.core_is in
+      let then_wait : a.coming.after.waiting ≡ b.coming.after.waiting = a.comes.waits ∙ waiting ∙ sym b.comes.waits in
+      let many = as_many now ret ret a.coming.after b.coming.after last last' a.taking b.taking then_wait stay a.taken b.taken in
+      let rest = taken_alike now ret ret a.coming.after b.coming.after last last' a.taking b.taking after then_wait many a.taken b.taken in
+      let given = one_given a.coming b.coming before after in
+      let one : given_by_calls calls ≡ given_by_calls (a.coming ∷ []) + given_by_calls a.taking = ap given_by_calls a.calls_are ∙ calls_behind a.taking a.coming in
+      let other : given_by_calls others ≡ given_by_calls (b.coming ∷ []) + given_by_calls b.taking = ap given_by_calls b.calls_are ∙ calls_behind b.taking b.coming in
+      omega (arith, one, other, rest.1, given)
+
+  bytes_alike : (control : Control) (bytes : Vec ℕ Global) (from to : SocketAddr) (now : ℕ) → AreCallsOfBytes control kept bytes from to now ret first calls last → AreCallsOfBytes control kept bytes from to now ret first' others last' → Alike
+  bytes_alike Datagrams bytes from to now a b = one_alike (ToClient bytes from to now) a b
+  bytes_alike (Open stream) bytes from to now a b = piece_alike bytes.items from to now a b
+  bytes_alike Closed bytes from to now a b = piece_alike bytes.items from to now a b
+
+  call_alike : (what : ClientCall) (now : ℕ) → AreCallsBy (Call what now) kept ret first calls last → AreCallsBy (Call what now) kept ret first' others last' → Alike
+  call_alike call.PollRecv now a b = frames_alike now a b
+  call_alike call.Poll now a b = one_alike (Call call.Poll now) a b
+  call_alike call.PollEvent now a b = one_alike (Call call.PollEvent now) a b
+  call_alike call.Delete now a b = one_alike (Call call.Delete now) a b
+  call_alike (call.CreatePermission transport ip) now a b = one_alike (Call (call.CreatePermission transport ip) now) a b
+  call_alike (call.HavePermission transport ip) now a b = one_alike (Call (call.HavePermission transport ip) now) a b
+  call_alike (call.Permissions transport relayed) now a b = one_alike (Call (call.Permissions transport relayed) now) a b
+  call_alike (call.BindChannel transport peer) now a b = one_alike (Call (call.BindChannel transport peer) now) a b
+  call_alike call.Channels now a b = one_alike (Call call.Channels now) a b
+  call_alike (call.SendTo transport to bytes) now a b = one_alike (Call (call.SendTo transport to bytes) now) a b
+  call_alike call.ProtocolError now a b = one_alike (Call call.ProtocolError now) a b
+  call_alike call.RelayedAddresses now a b = one_alike (Call call.RelayedAddresses now) a b
+
+-- ---- one event
+
+kept_alike : (k l : Kept) (c d : Client) → k ≡ l → IsKeptAs c k → IsKeptAs d l → (c.core ≡ d.core) × (c.waiting ≡ d.waiting)
+kept_alike k l c d same one other =
+    let here = subst (λ (x : Kept). IsKeptAs c x) same one in
+    (sym here.core ∙ other.core, sym here.waits ∙ other.waits)
+
+at_alike : (o p : Option Kept) (c d : Client) → o ≡ p → IsAt o c → IsAt p d → (c.core ≡ d.core) × (c.waiting ≡ d.waiting)
+at_alike None p c d same one other = absurd one
+at_alike (Some k) None c d same one other = absurd other
+at_alike (Some k) (Some l) c d same one other = kept_alike k l c d (inside same) one other
+
 -- the steps by one event with one answer, from worlds with one client, give as many numbers
 module _ (old old' next next' : World) (same : old.client ≡ old'.client) where
-  abbrev Alike : (steps others : List (Step Client DeskCall)) → Type 0
-  Alike steps others = (next.client ≡ next'.client) × (given_in words steps ≡ given_in words others)
+  abbrev Both : (steps others : List (Step Client DeskCall)) → Type 0
+  Both steps others = (next.client ≡ next'.client) × (given_in words steps ≡ given_in words others)
 
-  cores : (p q : Kept) (a b : Option Kept) → a ≡ b → a ≡ Some p → b ≡ Some q → p.core ≡ q.core
-  cores p q a b is at here = ap (λ (k : Kept). k.core) (inside (sym at ∙ is ∙ here))
-
-  calls_alike : (event : Event) (ret : Answer) (steps others : List (Step Client DeskCall)) → next.client ≡ next'.client
-      → (c : StepCall Client) × (steps ≡ AtClient c ∷ []) × IsCallOf event old next ret c → (d : StepCall Client) × (others ≡ AtClient d ∷ []) × IsCallOf event old' next' ret d → Alike steps others
-  calls_alike event ret steps others left x y =
-      let c = x.0 in
-      let d = y.0 in
-      let before : c.before.core ≡ d.before.core = cores (kept_by c.before) (kept_by d.before) old.client old'.client same x.2.before y.2.before in
-      let after : c.after.core ≡ d.after.core = cores (kept_by c.after) (kept_by d.after) next.client next'.client left x.2.after y.2.after in
-      let given : given_in words (AtClient c ∷ []) ≡ given_in words (AtClient d ∷ []) = ap (λ (p : Protocol). 0 + numbers_between p.rng c.after.core.rng) before ∙ ap (λ (p : Protocol). 0 + numbers_between d.before.core.rng p.rng) after in
-      (left, ap (given_in words) x.1 ∙ given ∙ sym (ap (given_in words) y.1))
+  by_calls : (event : Event) (ret : Answer) (steps others : List (Step Client DeskCall)) → next.client ≡ next'.client
+      → ((kept : Kept) (first first' last last' : Client) (calls again : List (StepCall Client)) → first.core ≡ first'.core → first.waiting ≡ first'.waiting → last.core ≡ last'.core → last.waiting ≡ last'.waiting
+      → AreCallsBy event kept ret first calls last → AreCallsBy event kept ret first' again last' → given_by_calls calls ≡ given_by_calls again)
+      → AreStepsOfClient event ret old.client next.client steps → AreStepsOfClient event ret old'.client next'.client others → Both steps others
+  by_calls event ret steps others left alike_by a b =
+      let kept : a.kept ≡ b.kept = inside (sym a.kept_is ∙ same ∙ b.kept_is) in
+      let here = kept_alike a.kept b.kept a.first b.first kept a.before b.before in
+      let then_at = at_alike next.client next'.client a.last b.last left a.after b.after in
+      let are : AreCallsBy event b.kept ret a.first a.calls a.last = subst (λ (k : Kept). AreCallsBy event k ret a.first a.calls a.last) kept a.are in
+      (left, ap (given_in words) a.steps_are ∙ alike_by b.kept a.first b.first a.last b.last a.calls b.calls here.0 here.1 then_at.0 then_at.1 are b.are ∙ sym (ap (given_in words) b.steps_are))
 
   from_one : (now : ℕ) (Does : Kept → Kept → Type 0) (ret : Answer) → IsAtClient now Does old'.client ret next'.client → IsAtClient now Does old.client ret next'.client
   from_one now Does ret is = subst (λ (o : Option Kept). IsAtClient now Does o ret next'.client) (sym same) is
 
-  alike : (event : Event) (ret : Answer) (steps others : List (Step Client DeskCall)) → IsStep event old ret next → IsStep event old' ret next' → AreStepsBy event ret old steps next → AreStepsBy event ret old' others next' → Alike steps others
+  alike : (event : Event) (ret : Answer) (steps others : List (Step Client DeskCall)) → IsStep event old ret next → IsStep event old' ret next' → AreStepsBy event ret old steps next → AreStepsBy event ret old' others next' → Both steps others
   alike (Call what now) ret steps others a b x y =
-      calls_alike (Call what now) ret steps others
+      by_calls (Call what now) ret steps others
       (at_client_once now (λ r p q. IsCallTold what r p now q) (λ p v w q r. called_once what p now v w q r) old.client ret ret next.client next'.client a.0
-      (from_one now (λ p q. IsCallTold what ret p now q) ret b.0)).1 x y
+      (from_one now (λ p q. IsCallTold what ret p now q) ret b.0)).1
+      (λ kept first first' last last' calls again cores waits left stay one other. call_alike kept ret first first' last last' calls again cores waits left stay what now one other) x y
   alike (Draw now) ret steps others a b x y =
-      calls_alike (Draw now) ret steps others
+      by_calls (Draw now) ret steps others
       (at_client_once now (λ r p q. Leaves (λ v w. IsDrawnAs r v now w) p q) (λ p v w q r. drawn_once p now v w q r) old.client ret ret next.client next'.client a.0
-      (from_one now (Leaves (λ v w. IsDrawnAs ret v now w)) ret b.0)).1 x y
+      (from_one now (Leaves (λ v w. IsDrawnAs ret v now w)) ret b.0)).1
+      (λ kept first first' last last' calls again cores waits left stay one other. one_alike kept ret first first' last last' calls again cores waits left stay (Draw now) one other) x y
   alike (ToClient bytes from to now) ret steps others a b x y =
-      calls_alike (ToClient bytes from to now) ret steps others
+      by_calls (ToClient bytes from to now) ret steps others
       (at_client_once now (λ r p q. IsFed r p bytes.items from to now q) (λ p v w q r. fed_once p bytes.items from to now v w q r) old.client ret ret next.client next'.client a.0
-      (from_one now (λ p q. IsFed ret p bytes.items from to now q) ret b.0)).1 x y
+      (from_one now (λ p q. IsFed ret p bytes.items from to now q) ret b.0)).1
+      (λ kept first first' last last' calls again cores waits left stay one other. bytes_alike kept ret first first' last last' calls again cores waits left stay kept.control bytes from to now one other) x y
   alike (ToDesk bytes from now decision seed) ret steps others a b x y = (
     ap (λ (w : World). w.client) a.1 ∙ same ∙ sym (ap (λ (w : World). w.client) b.1),
     ap (given_in words) x ∙ sym (ap (given_in words) y),

@@ -1,5 +1,5 @@
 -- What `recv` gives of a peer is what the bytes carry, in the words of a run.
-use Rattle.std.proofs.Common.{◌≡◌, ℕ, Bool, true, false, ◌&&◌, List, [], ◌∷◌, Option, Some, None, is_none, option_map, refl, ap, ◌∙◌, subst}
+use Rattle.std.proofs.Common.{◌≡◌, ℕ, Bool, true, false, ◌&&◌, List, [], ◌∷◌, Option, Some, None, is_none, option_map, refl, sym, ap, ◌∙◌, subst}
 use Rattle.std.specs.Net.Socket.{socket_ip}
 use Rattle.std.specs.Option.{option_or}
 use Rattle.std.specs.Prelude.{if◌then◌else◌}
@@ -14,10 +14,12 @@ use Rattle.turn_client_proto.specs.Api.declared.answer.TurnRecvRet.{TurnRecvRet}
 use Rattle.turn_client_proto.specs.Deleting.{is_authenticated}
 use Rattle.turn_client_proto.specs.Indications.{data_place, is_data, peer_told, report_told}
 use Rattle.turn_client_proto.specs.Kept.{Protocol}
-use Rattle.turn_client_proto.specs.Messages.{FromChannel}
+use Rattle.turn_client_proto.specs.Api.Payloads.{PeerPayload, part_of}
+use Rattle.turn_client_proto.specs.Messages.{FromChannel, Payload as Told}
 use Rattle.turn_client_proto.specs.OfPeers.{told_of}
 use Rattle.turn_client_proto.specs.Payloads.{carried_for, carried_over, payload_framed, payload_of, payload_told, permitted}
-use Rattle.turn_client_proto.specs.Datagrams.{IsHandedOver, in_place}
+use Rattle.turn_client_proto.specs.Datagrams.{IsHandedOver}
+use Rattle.turn_client_proto.specs.Pieces.{IsHandedAs, apart, data_given, owned_if}
 use Rattle.turn_client_proto_steps.specs.Payload.{Payload}
 use Rattle.turn_client_proto_steps.specs.Payload.TheVariants.{Data, Framed, Report}
 use Rattle.turn_client_proto_steps.proofs.OfPeers.{payload_of_peer}
@@ -65,18 +67,33 @@ no_message p bytes number transport peer start end is = by (refusal bytes) is
 
 -- ---- what is handed over
 
-module _ {T : Type 0} (items : T → List ℕ) (p : Protocol) (came : Transmit T) where
-  abbrev bytes : List ℕ
-  bytes = items came.bytes
+-- data of a peer is what the bytes carry, wherever it stands
+module _ (p : Protocol) (frame : List ℕ) where
+  pub data_told : (owned : Bool) (payload : Payload) (given : PeerPayload) → payload_of p frame ≡ Some payload → data_given frame payload ≡ Some given
+      → data_of (is_none (refusal frame)) frame (owned_if owned given) ≡ told_of frame payload
+  data_told owned (Data transport peer start end) given gives is =
+      let message : refusal frame ≡ None = (payload_of_peer p frame (Data transport peer start end) gives).carried.0.message in
+      ap (λ (g : PeerPayload). data_of (is_none (refusal frame)) frame (owned_if owned g)) (sym (inside is))
+      ∙ ap (λ (o : Option StunParseError). data_of (is_none o) frame (owned_if owned (apart frame transport peer start end))) message
+  data_told owned (Report transport peer report) given gives is = absurd (Prim.cc is)
+  data_told owned (Framed number transport peer start end) given gives is =
+      let framed = no_message p frame number transport peer start end gives in
+      let told = (payload_of_peer p frame (Framed number transport peer start end) gives).carried.1 in
+      ap (λ (g : PeerPayload). data_of (is_none (refusal frame)) frame (owned_if owned g)) (sym (inside is))
+      ∙ ap (λ (b : Bool). data_of b frame (owned_if owned (apart frame transport peer start end))) framed
+      ∙ ap (λ (f : Frame). FromChannel f.id peer (part_of frame start end)) told
 
-  pub handed_over : (payload : Payload) (took : TurnRecvRet T) → payload_of p bytes ≡ Some payload → IsHandedOver items came payload took → given_by bytes took ≡ told_of bytes payload ∷ []
-  handed_over (Data transport peer start end) took gives is =
-      let message : refusal bytes ≡ None = (payload_of_peer p bytes (Data transport peer start end) gives).carried.0.message in
-      ap (given_by bytes) is ∙ ap (λ (o : Option StunParseError). data_of (is_none o) bytes (in_place bytes transport peer start end) ∷ []) message
-  handed_over (Report transport peer report) took gives is = ap (given_by bytes) is
-  handed_over (Framed number transport peer start end) took gives is =
-      let framed = no_message p bytes number transport peer start end gives in
-      let frame = (payload_of_peer p bytes (Framed number transport peer start end) gives).carried.1 in
-      ap (given_by bytes) is
-      ∙ ap (λ (b : Bool). data_of b bytes (in_place bytes transport peer start end) ∷ []) framed
-      ∙ ap (λ (f : Frame). FromChannel f.id peer (in_place bytes transport peer start end).payload ∷ []) frame
+-- what `recv` answers, where it gives what a frame carries
+module _ {T : Type 0} (p : Protocol) (frame : List ℕ) where
+  pub handed_as : (owned : Bool) (payload : Payload) (took : TurnRecvRet T) → payload_of p frame ≡ Some payload → IsHandedAs owned frame payload took → given_by frame took ≡ told_of frame payload ∷ []
+  handed_as owned (Data transport peer start end) took gives is =
+      ap (given_by frame) is ∙ ap (λ (x : Told). x ∷ []) (data_told p frame owned (Data transport peer start end) (apart frame transport peer start end) gives refl)
+  handed_as owned (Report transport peer report) took gives is = ap (given_by frame) is
+  handed_as owned (Framed number transport peer start end) took gives is =
+      ap (given_by frame) is ∙ ap (λ (x : Told). x ∷ []) (data_told p frame owned (Framed number transport peer start end) (apart frame transport peer start end) gives refl)
+
+module _ {T : Type 0} (items : T → List ℕ) (p : Protocol) (came : Transmit T) where
+  pub handed_over : (payload : Payload) (took : TurnRecvRet T) → payload_of p (items came.bytes) ≡ Some payload → IsHandedOver items came payload took → given_by (items came.bytes) took ≡ told_of (items came.bytes) payload ∷ []
+  handed_over (Data transport peer start end) took gives is = handed_as p (items came.bytes) false (Data transport peer start end) took gives is
+  handed_over (Report transport peer report) took gives is = ap (given_by (items came.bytes)) is
+  handed_over (Framed number transport peer start end) took gives is = handed_as p (items came.bytes) false (Framed number transport peer start end) took gives is

@@ -2,6 +2,7 @@ pub mod Addresses
 pub mod Answered
 pub mod AtClient
 pub mod AtDesk
+pub mod AtStream
 pub mod Bytes
 pub mod Chain
 pub mod Counting

@@ -1,16 +1,22 @@
 -- What holds of a run of a client and a desk over a network that loses, repeats, reorders and invents.
-use Rattle.std.specs.Prelude.{◌≡◌, ◌≤◌, ℕ, List, [], ◌∷◌, ◌++◌, length, Some}
+use Rattle.std.specs.Prelude.{◌≤◌, ℕ, Bool, true, false, List, [], ◌∷◌, ◌++◌, length, is_none}
+use Rattle.std.specs.Net.Socket.{socket_ip}
 use Rattle.std.specs.List.{AllByRecursion}
 use Rattle.std.specs.declared.net.socket_addr.SocketAddr.{SocketAddr}
+use Rattle.stun_types.specs.Grammar.{refusal}
 use Rattle.stun_types.specs.Registry.{longest_username}
 use Rattle.stun_types.specs.declared.transport.TransportType.{TransportType}
 use Rattle.turn_client_proto.specs.Headline.{AnswersOnce, IsPromised, IsSafe, ShowsTraced, Traced, Unless}
-use Rattle.turn_client_proto.specs.Messages.{Held}
-use Rattle.turn_client_proto.specs.Runs.{Step, AtEach, IsCounted, IsLawful, Leads}
+use Rattle.turn_types.specs.ChannelFrames.{frame_at}
+use Rattle.turn_client_proto.specs.Api.Payloads.{PeerPayload}
+use Rattle.turn_client_proto.specs.Indications.{Carries}
+use Rattle.turn_client_proto.specs.Members.{IsIn}
+use Rattle.turn_client_proto.specs.Messages.{Held, Permission, Channel, Payload}
+use Rattle.turn_client_proto.specs.Runs.{Step, AtClient, AtDesk, AtEach, IsCounted, IsLawful, Leads}
 use Rattle.turn_client_proto.specs.Words.{Words}
 use Rattle.turn_client_proto.specs.Beginning.{IsNew}
 use Rattle.turn_client_proto.specs.Config.{Config}
-use Rattle.turn_client_proto.specs.Kept.{Protocol, over_udp}
+use Rattle.turn_client_proto.specs.Kept.{Protocol}
 use Rattle.turn_client_proto_steps.specs.Beginning.{first_client}
 use Rattle.turn_client_proto_steps.specs.ClientWords.{run_words}
 use Rattle.turn_client_proto_steps.specs.RunClient.{Client}
@@ -19,16 +25,17 @@ use Rattle.turn_desk_event.specs.declared.answer.Answer.{Answer}
 use Rattle.turn_desk_event.specs.declared.event.Event.{Event}
 use Rattle.turn_desk_steps.specs.DeskRun.{DeskCall, desk_words}
 use Rattle.turn_desk_world.specs.Model.{World}
-use Rattle.turn_desk_world.specs.Told.{IsFair, IsToldBy, kept_by}
+use Rattle.turn_desk_world.specs.Told.{IsAt, IsFair, IsToldBy, data_of}
 
 -- the client and the desk in the words of a run
 abbrev pub words : Words Client DeskCall
 words = run_words desk_words
 
--- a world whose client is new, with these settings and numbers of this seed, beside any desk
+-- a world whose client is new, with these settings and numbers of this seed, beside any desk. It is one over UDP, or one
+-- over TCP in whose stream no whole frame waits
 pub record BeginsNew (transport : TransportType) (here server : SocketAddr) (config : Config) (seed : List ℕ)
     (core : Protocol) (w : World) : Type 0 where
-  pub client : w.client ≡ Some (over_udp core)
+  pub client : IsAt w.client (first_client config.credentials seed core)
   pub new : IsNew transport here server config seed core
   pub short : length config.credentials.username ≤ longest_username
   pub few : length config.families ≤ 2
@@ -42,7 +49,7 @@ pub record AreSafe (first : Client) (old : World) (pairs : List (Event × Answer
   pub run : List (Step Client DeskCall)
   pub told : IsToldBy old pairs run new
   pub last : Client
-  pub left : new.client ≡ Some (kept_by last)
+  pub left : IsAt new.client last
   pub leads : Leads first run last
   pub lawful : AtEach (λ s _. IsLawful words s) run
   -- as many numbers count as drawn as the client's generator gave, step by step, by the places that it had
@@ -57,7 +64,7 @@ pub record AreSafe (first : Client) (old : World) (pairs : List (Event × Answer
 pub record IsAccount (first : Client) (old : World) (pairs : List (Event × Answer)) (new : World)
     (run : List (Step Client DeskCall)) (last : Client) : Type 0 where
   pub told : IsToldBy old pairs run new
-  pub left : new.client ≡ Some (kept_by last)
+  pub left : IsAt new.client last
   pub leads : Leads first run last
   pub lawful : AtEach (λ s _. IsLawful words s) run
 
@@ -90,7 +97,31 @@ pub record IsLastAnswered (event : Event) (answer : Answer) (first : Client) (ru
   pub account : IsAccount first old (before ++ (event, answer) ∷ []) new run last
   pub promised : IsPromised words first run last
 
+-- the frames that were taken up in the newest step of a run
+abbrev pub last_taken : List (Step Client DeskCall) → List (List ℕ)
+last_taken [] = []
+last_taken (AtClient call ∷ earlier) = call.handled
+last_taken (AtDesk d ∷ earlier) = []
+
+-- what data of a peer names: the peer's permission, where a message gave it, and else the frame's channel to the peer
+abbrev pub held_by : Bool → List ℕ → PeerPayload → Held
+held_by true frame given = Permission given.transport (socket_ip given.peer)
+held_by false frame given = Channel (frame_at frame).id given.peer
+
 -- the desk granted this in the run, in answer to a request of the client's, unless something was forged or a number
 -- came twice
 abbrev pub WasGranted : (first : Client) → List (Step Client DeskCall) → (last : Client) → Held → Type 0
 WasGranted first run last held = Unless words first run last (Traced words run held)
+
+-- a frame that was taken up in the newest step of a run carries this, which names what the desk granted in that run
+pub record IsCarried (first : Client) (run : List (Step Client DeskCall)) (last : Client)
+    (payload : List ℕ → Payload) (held : List ℕ → Held) : Type 0 where
+  pub frame : List ℕ
+  pub taken : IsIn frame (last_taken run)
+  pub carries : Carries frame (payload frame)
+  pub granted : WasGranted first run last (held frame)
+
+-- just this data of a peer, as a message's or a channel frame's
+abbrev pub IsDataCarried : (first : Client) → List (Step Client DeskCall) → (last : Client) → PeerPayload → Type 0
+IsDataCarried first run last given = IsCarried first run last
+    (λ frame. data_of (is_none (refusal frame)) frame given) (λ frame. held_by (is_none (refusal frame)) frame given)

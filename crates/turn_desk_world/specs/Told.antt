@@ -1,20 +1,30 @@
 -- What the events of a world and their answers are in a run of a client and a desk.
-use Rattle.std.specs.Prelude.{◌≡◌, ℕ, Bool, true, false, ◌++◌, List, [], ◌∷◌, map, Option, Some, None, is_none}
+use Rattle.std.specs.Prelude.{◌≡◌, ◌≢◌, ℕ, Bool, true, false, ◌++◌, List, [], ◌∷◌, map, Option, Some, None, is_none, Vec}
 use Rattle.std.specs.List.{filter_map}
+use Rattle.std.specs.declared.alloc.Global.{Global}
 use Rattle.std.specs.declared.net.ip_addr.IpAddr.{IpAddr}
 use Rattle.std.specs.declared.net.socket_addr.SocketAddr.{SocketAddr}
 use Rattle.stun_types.specs.Addresses.{address_value}
 use Rattle.stun_types.specs.Attributes.{Attr}
 use Rattle.stun_types.specs.Grammar.{number_at, refusal}
+use Rattle.stun_types.specs.Headers.{AreBytes}
 use Rattle.stun_types.specs.Xor.{xored}
 use Rattle.stun_types.specs.declared.transport.TransportType.{TransportType}
 use Rattle.turn_types.specs.ChannelFrames.{frame_at}
+use Rattle.turn_types.specs.StreamAnswers.{joined}
+use Rattle.turn_types.specs.Streams.{Stream}
 use Rattle.turn_client_proto.specs.Api.Payloads.{PeerPayload}
 use Rattle.turn_client_proto.specs.Api.declared.answer.TurnRecvRet.{TurnRecvRet}
 use Rattle.turn_client_proto.specs.Api.declared.answer.TurnRecvRet.TheVariants as recv
-use Rattle.turn_client_proto.specs.Kept.{Kept, over_udp}
+use Rattle.turn_client_proto.specs.Control.{Control, Datagrams, Open, Closed}
+use Rattle.turn_client_proto.specs.HandingIn.{IsFrameTaken}
+use Rattle.turn_client_proto.specs.Kept.{Kept, Protocol}
+use Rattle.turn_client_proto.specs.Receipts.{has_failed}
+use Rattle.turn_client_proto.specs.Taken.{Taken}
+use Rattle.turn_client_proto.specs.Waiting.{bytes_waiting, completed, frames_waiting, whole_frames}
 use Rattle.turn_client_proto.specs.Messages.{Held, Allocation, Permission, Channel, Notice, Payload, FromPeer, Reported, FromChannel}
-use Rattle.turn_client_proto.specs.Runs.{Step, AtClient, AtDesk}
+use Rattle.turn_client_proto.specs.Runs.{Step, AtDesk}
+use Rattle.turn_runs.specs.Chains.{steps_of}
 use Rattle.turn_client_proto.specs.Steps.{Call}
 use Rattle.turn_client_proto.specs.Drawing.{sent_of}
 use Rattle.turn_client_proto_steps.specs.ClientWords.{notice_of}
@@ -25,6 +35,7 @@ use Rattle.turn_desk_event.specs.declared.decision.Decision.{Decision}
 use Rattle.turn_desk_event.specs.declared.decision.Decision.TheVariants as by
 use Rattle.turn_desk_event.specs.declared.answer.Answer.{Answer}
 use Rattle.turn_desk_event.specs.declared.answer.Answer.TheVariants as answer
+use Rattle.turn_desk_event.specs.declared.answer.Answer.TheVariants.{Nothing}
 use Rattle.turn_desk_event.specs.declared.event.ClientCall.TheVariants as call
 use Rattle.turn_desk_event.specs.declared.event.Event.{Event}
 use Rattle.turn_desk_event.specs.declared.event.Event.TheVariants as event
@@ -32,7 +43,7 @@ use Rattle.turn_desk_steps.specs.AskedFor.{peer_in}
 use Rattle.turn_desk_steps.specs.DeskRun.{AreTold, DeskCall}
 use Rattle.turn_desk_world.specs.Desks.{words_of}
 use Rattle.turn_desk_world.specs.Model.{World}
-use Rattle.turn_desk_world.specs.Runs.{IsStep}
+use Rattle.turn_desk_world.specs.Runs.{IsStep, is_in_range}
 
 -- ---- what an answer tells
 
@@ -71,7 +82,7 @@ given_by bytes (recv.PeerIcmp transport peer kind code details) =
     Reported transport peer (record { icmp_type = kind; code = code; details = details }) ∷ []
 given_by bytes _ = []
 
--- the payloads that the client hands over
+-- a datagram that comes over UDP hands over what is answered
 abbrev pub payloads_in : Event → Answer → List Payload
 payloads_in (event.ToClient bytes from to now) answer = given_of bytes.items answer
 payloads_in _ answer = []
@@ -94,27 +105,146 @@ shown_in happening (answer.Have is) = permission_had happening is
 shown_in happening (answer.Channels list) = map (λ (p : ℕ × SocketAddr). Channel p.0 p.1) list.items
 shown_in happening _ = []
 
--- ---- a step
+-- ---- a client
 
--- what a client of a run keeps
-abbrev pub kept_by : Client → Kept
-kept_by c = over_udp c.core
+-- a client that keeps this is so in a run: with its core, and with the whole frames that wait in its stream, of which all
+-- that is kept are bytes
+pub record IsKeptAs (c : Client) (k : Kept) : Type 0 where
+  pub core : k.core ≡ c.core
+  pub waits : frames_waiting k.control ≡ c.waiting
+  pub are_bytes : AreBytes (bytes_waiting k.control)
 
--- the bytes that come to the client
+-- the client of a world is so
+abbrev pub IsAt : Option Kept → Client → Type 0
+IsAt None c = ⊥
+IsAt (Some k) c = IsKeptAs c k
+
+-- ---- one call
+
+-- the bytes that come over UDP
 abbrev pub arriving : Event → List (List ℕ)
 arriving (event.ToClient bytes from to now) = bytes.items ∷ []
 arriving _ = []
 
--- a call of the client, to which exactly those bytes came: it draws, tells, hands over and shows what the answer says
-pub record IsCallOf (happening : Event) (old new : World) (answer : Answer) (call : Call Client) : Type 0 where
-  pub before : old.client ≡ Some (kept_by call.before)
-  pub after : new.client ≡ Some (kept_by call.after)
+-- a call of the client, to which exactly those bytes came, and by which no frame that waits is touched: it draws, tells,
+-- hands over and shows what the answer says
+pub record IsCallOf (happening : Event) (answer : Answer) (call : Call Client) : Type 0 where
   pub came_is : call.came ≡ arriving happening
   pub handled_is : call.handled ≡ arriving happening
   pub drawn_is : call.drawn ≡ bytes_drawn happening answer
   pub answered_is : call.answered ≡ notices_in answer
   pub payloads_are : call.payloads ≡ payloads_in happening answer
   pub shown_is : call.shown ≡ shown_in happening answer
+
+-- one such call leads the client from one state to another
+abbrev pub IsOneCall : Event → Answer → Client → List (Call Client) → Client → Type 0
+IsOneCall happening answer first calls last =
+    (call : Call Client) × (calls ≡ call ∷ []) × (call.before ≡ first) × (last ≡ call.after) × IsCallOf happening answer call
+
+-- ---- calls over TCP: frames come whole and wait, and are taken up one by one
+
+-- an answer hands nothing of a peer over
+abbrev pub HandsNothing : Answer → Type 0
+HandsNothing answer = (bytes : List ℕ) → given_of bytes answer ≡ []
+
+-- a call that draws, tells and shows nothing
+pub record IsQuiet (call : Call Client) : Type 0 where
+  pub drawn_is : call.drawn ≡ None
+  pub answered_is : call.answered ≡ []
+  pub shown_is : call.shown ≡ []
+
+-- these frames came, and none was taken up; afterwards these wait
+pub record AreComing (came waiting : List (List ℕ)) (call : Call Client) : Type 0 where
+  pub quiet : IsQuiet call
+  pub came_is : call.came ≡ came
+  pub handled_is : call.handled ≡ []
+  pub payloads_are : call.payloads ≡ []
+  pub core_is : call.after.core ≡ call.before.core
+  pub waits : call.after.waiting ≡ waiting
+
+-- the oldest frame that waited was taken up at a moment, by the contract of the client, and handed over what is answered
+pub record IsTakenUp (now : ℕ) (answer : Answer) (call : Call Client) : Type 0 where
+  pub quiet : IsQuiet call
+  pub came_is : call.came ≡ []
+  pub frame : List ℕ
+  pub handled_is : call.handled ≡ frame ∷ []
+  pub waited : call.before.waiting ≡ frame ∷ call.after.waiting
+  pub taken : Taken
+  pub is_taken : IsFrameTaken call.before.core frame now taken call.after.core
+  pub payloads_are : call.payloads ≡ given_of frame answer
+
+-- the oldest frames were taken up, one behind another, each in a call of its own, of which the newest is the first here; by
+-- the last frame is handed over what is answered, and by those before it nothing
+abbrev pub AreTakenUp : ℕ → Answer → Client → List (Call Client) → Client → Type 0
+AreTakenUp now answer first [] last = (last ≡ first) × HandsNothing answer
+AreTakenUp now answer first (call ∷ earlier) last =
+    (last ≡ call.after) × IsTakenUp now answer call × AreTakenUp now Nothing first earlier call.before
+
+-- bytes are a piece of the stream of a client: they come from its server, at a moment that is in range, and it has not
+-- failed
+pub record IsPieceOf (p : Protocol) (from to : SocketAddr) (now : ℕ) : Type 0 where
+  pub from_is : from ≡ p.server
+  pub to_is : to ≡ p.agent.here
+  pub works : has_failed p ≡ false
+  pub in_range : is_in_range now ≡ true
+
+-- which frames bytes complete that come at a moment, and which wait then: a piece of no bytes ends the stream, and what is
+-- no piece of it brings nothing
+pub data AreBrought (k : Kept) (bytes : List ℕ) (from to : SocketAddr) (now : ℕ) (came waiting : List (List ℕ))
+    : Type 0 where
+  ByPiece : (stream : Stream) → k.control ≡ Open stream → IsPieceOf k.core from to now → bytes ≢ []
+      → came ≡ completed stream bytes → waiting ≡ whole_frames (joined stream bytes)
+      → AreBrought k bytes from to now came waiting
+  ByEnd : (stream : Stream) → k.control ≡ Open stream → IsPieceOf k.core from to now → bytes ≡ []
+      → came ≡ [] → waiting ≡ [] → AreBrought k bytes from to now came waiting
+  ByOthers : (stream : Stream) → k.control ≡ Open stream → ¬ IsPieceOf k.core from to now
+      → came ≡ [] → waiting ≡ whole_frames stream → AreBrought k bytes from to now came waiting
+  ByNone : k.control ≡ Closed → came ≡ [] → waiting ≡ [] → AreBrought k bytes from to now came waiting
+
+-- bytes came over TCP: a call in which the frames come that they complete, and one for each frame that is taken up then
+pub record AreCallsOfPiece (k : Kept) (bytes : List ℕ) (from to : SocketAddr) (now : ℕ) (answer : Answer)
+    (first : Client) (calls : List (Call Client)) (last : Client) : Type 0 where
+  pub came : List (List ℕ)
+  pub waiting : List (List ℕ)
+  pub brought : AreBrought k bytes from to now came waiting
+  pub coming : Call Client
+  pub begins : coming.before ≡ first
+  pub comes : AreComing came waiting coming
+  pub taking : List (Call Client)
+  pub taken : AreTakenUp now answer coming.after taking last
+  pub calls_are : calls ≡ taking ++ coming ∷ []
+
+-- by how bytes come
+abbrev pub AreCallsOfBytes : Control → Kept → Vec ℕ Global → (from to : SocketAddr) → ℕ → Answer → Client
+    → List (Call Client) → Client → Type 0
+AreCallsOfBytes Datagrams k bytes from to now answer first calls last =
+    IsOneCall (event.ToClient bytes from to now) answer first calls last
+AreCallsOfBytes (Open stream) k bytes from to now answer first calls last =
+    AreCallsOfPiece k bytes.items from to now answer first calls last
+AreCallsOfBytes Closed k bytes from to now answer first calls last =
+    AreCallsOfPiece k bytes.items from to now answer first calls last
+
+-- calls of a client that keeps this, by one event, the newest first, lead it from one state to another
+abbrev pub AreCallsBy : Event → Kept → Answer → Client → List (Call Client) → Client → Type 0
+AreCallsBy (event.Call call.PollRecv now) k answer first calls last = AreTakenUp now answer first calls last
+AreCallsBy (event.ToClient bytes from to now) k answer first calls last =
+    AreCallsOfBytes k.control k bytes from to now answer first calls last
+AreCallsBy happening k answer first calls last = IsOneCall happening answer first calls last
+
+-- ---- steps
+
+-- steps of a run are such calls
+pub record AreStepsOfClient (happening : Event) (answer : Answer) (old new : Option Kept)
+    (steps : List (Step Client DeskCall)) : Type 0 where
+  pub kept : Kept
+  pub kept_is : old ≡ Some kept
+  pub first : Client
+  pub before : IsKeptAs first kept
+  pub calls : List (Call Client)
+  pub steps_are : steps ≡ steps_of calls
+  pub last : Client
+  pub after : IsAt new last
+  pub are : AreCallsBy happening kept answer first calls last
 
 -- what reached the desk, and what it made of it
 abbrev pub desk_call : World → List ℕ → SocketAddr → ℕ → Decision → List ℕ → Answer → World → DeskCall
@@ -129,12 +259,11 @@ desk_call old bytes from now decision seed answer new = record {
   after = new.desk;
 }
 
--- steps of a run, the newest first, are this event with its answer: one
+-- steps of a run, the newest first, are this event with its answer
 abbrev pub AreStepsBy : Event → Answer → World → List (Step Client DeskCall) → World → Type 0
 AreStepsBy (event.ToDesk bytes from now decision seed) answer old steps new =
     steps ≡ AtDesk (desk_call old bytes.items from now decision seed answer new) ∷ []
-AreStepsBy happening answer old steps new =
-    (call : Call Client) × (steps ≡ AtClient call ∷ []) × IsCallOf happening old new answer call
+AreStepsBy happening answer old steps new = AreStepsOfClient happening answer old.client new.client steps
 
 -- ---- a run
 

@@ -3,7 +3,7 @@
 //! and `specs/Safety.antt` the theorem.
 
 ghost use Rattle.std.specs.List.{AllByRecursion};
-ghost use Rattle.std.specs.Prelude.{◌≡◌, ◌≢◌, ◌++◌, List, ℕ, [], ◌∷◌, true, Vec};
+ghost use Rattle.std.specs.Prelude.{◌≡◌, ◌≢◌, ◌++◌, List, ℕ, [], ◌∷◌, Some, true, Vec};
 ghost use Rattle.std.specs.declared.alloc.Global.{Global};
 ghost use Rattle.std.specs.declared.net.ip_addr.IpAddr.{IpAddr};
 ghost use Rattle.std.specs.Net.Socket.{socket_ip};
@@ -11,8 +11,8 @@ ghost use Rattle.std.specs.declared.net.socket_addr.SocketAddr.{SocketAddr};
 ghost use Rattle.stun_proto.specs.Users.{HashesDiffer};
 ghost use Rattle.turn_client_proto.specs.Members.{IsIn};
 ghost use Rattle.turn_client_proto.specs.Api.Payloads.{PeerPayload};
-ghost use Rattle.turn_client_proto.specs.Indications.{Carries};
-ghost use Rattle.turn_client_proto.specs.Messages.{Allocation, Channel, FromChannel, FromPeer, Permission, Reported};
+ghost use Rattle.turn_client_proto.specs.Control.{Datagrams};
+ghost use Rattle.turn_client_proto.specs.Messages.{Allocation, Channel, Permission, Reported};
 ghost use Rattle.turn_client_proto.specs.Runs.{Step};
 ghost use Rattle.turn_desk_steps.specs.DeskRun.{AreTold, DeskCall};
 ghost use Rattle.turn_desk_event.specs.declared.answer.Answer.{Answer};
@@ -22,12 +22,10 @@ ghost use Rattle.turn_desk_event.specs.declared.event.Event.{Event};
 ghost use Rattle.turn_desk_event.specs.declared.event.Event.TheVariants.{Call, ToClient};
 ghost use Rattle.turn_desk_world.specs.Model.{World};
 ghost use Rattle.turn_desk_world.specs.Runs.{IsRun};
-ghost use Rattle.stun_types.specs.Grammar.{refusal};
 ghost use Rattle.stun_types.specs.Headers.{AreBytes};
-ghost use Rattle.turn_types.specs.ChannelFrames.{frame_at};
 ghost use Rattle.stun_types.specs.declared.transmit.Transmit.{Transmit};
 ghost use Rattle.stun_types.specs.declared.transport.TransportType.{TransportType};
-ghost use Rattle.turn_client_proto.specs.Kept.{Kept};
+ghost use Rattle.turn_client_proto.specs.Kept.{Kept, over_udp};
 ghost use Rattle.turn_client_proto.specs.Receipts.{IsReceived};
 ghost use Rattle.turn_client_proto.specs.Api.declared.answer.TurnRecvRet.{TurnRecvRet};
 ghost use Rattle.turn_client_proto.specs.Api.declared.answer.TurnRecvRet.TheVariants as recv;
@@ -36,8 +34,8 @@ ghost use Rattle.turn_client_proto_steps.specs.RunSteps.{IsGiving};
 ghost use Rattle.turn_client_proto_steps.specs.Sound.{IsSound, IsWhole};
 ghost use Rattle.turn_desk_world.specs.Copies.{AreAlike, IsCopy};
 ghost use Rattle.turn_desk_world.specs.Determined.{AreSame, HaveSameEvents};
-ghost use Rattle.turn_desk_world.specs.Safety.{IsAccount, IsLastAnswered, IsSafeRun, WasGranted};
-ghost use Rattle.turn_desk_world.specs.Told.{IsReadBack, given_by, kept_by};
+ghost use Rattle.turn_desk_world.specs.Safety.{IsAccount, IsCarried, IsDataCarried, IsLastAnswered, IsSafeRun, WasGranted, last_taken};
+ghost use Rattle.turn_desk_world.specs.Told.{IsReadBack, given_by};
 
 use std::convert::AsSlice;
 
@@ -69,7 +67,8 @@ pub fn relayed_addresses_are_told()
 {}
 
 /// Whatever events come to a world of a new client and any desk, their answers are steps of a run of
-/// a client and a server, one each. Where nothing that arrives was forged under a key of the
+/// a client and a server: one each; but over TCP, where a piece of the stream is one step in which the
+/// whole frames that it completes come, and one for each frame that is taken up. Where nothing that arrives was forged under a key of the
 /// client's, and no number is drawn twice, each step is safe. Nothing is answered as created twice
 /// for one request, and each relayed address, each permission and each channel that the client shows was
 /// granted by the desk before: a channel with that number and to that peer, in answer to a CHANNEL_BIND
@@ -117,31 +116,35 @@ pub fn answers_show_what_was_granted()
 {}
 
 /// What the theorem says of what a client hands over, in the words of the answers. Where by the last
-/// event of a run bytes came to the client, and it gave data of a peer, those bytes carry just this data:
-/// as the value of the last DATA of an indication that names the peer, whose permission the desk granted
-/// in that run, in answer to a request of the client's; or as the data of a channel frame, whose channel
-/// to the peer it granted so. A report is that of the last ICMP of such an indication, without a DATA.
+/// event of a run bytes came to the client, or it was asked for what waits, and it gave data of a peer, a
+/// frame that was taken up last carries just this data: as the value of the last DATA of an indication
+/// that names the peer, whose permission the desk granted in that run, in answer to a request of the
+/// client's; or as the data of a channel frame, whose channel to the peer it granted so. A report is that
+/// of the last ICMP of such an indication, without a DATA. Over UDP that frame is the datagram which came.
+/// Over TCP it is a whole frame of the stream.
 pub fn answers_give_what_was_delivered()
-    ensures messages { (first last : Client) (run : List (Step Client DeskCall)) (now : ℕ)
+    ensures came { (first last : Client) (run : List (Step Client DeskCall)) (now : ℕ)
         (bytes : Vec ℕ Global) (from to : SocketAddr) (given : PeerPayload)
         → IsLastAnswered (ToClient bytes from to now) (answer.Peer given) first run last
-        → refusal bytes.items ≡ None
-        → Carries bytes.items (FromPeer given.transport given.peer given.payload)
-        × WasGranted first run last (Permission given.transport (socket_ip given.peer)) }
-    ensures frames { (first last : Client) (run : List (Step Client DeskCall)) (now : ℕ)
-        (bytes : Vec ℕ Global) (from to : SocketAddr) (given : PeerPayload)
-        → IsLastAnswered (ToClient bytes from to now) (answer.Peer given) first run last
-        → refusal bytes.items ≢ None
-        → Carries bytes.items (FromChannel (frame_at bytes.items).id given.peer given.payload)
-        × WasGranted first run last (Channel (frame_at bytes.items).id given.peer) }
+        → IsDataCarried first run last given }
+    ensures waited { (first last : Client) (run : List (Step Client DeskCall)) (now : ℕ)
+        (given : PeerPayload)
+        → IsLastAnswered (Call call.PollRecv now) (answer.Peer given) first run last
+        → IsDataCarried first run last given }
     ensures reports { (first last : Client) (run : List (Step Client DeskCall)) (now : ℕ)
         (bytes : Vec ℕ Global) (from to : SocketAddr) (transport : TransportType)
         (peer : SocketAddr) (kind code details : ℕ)
         → IsLastAnswered (ToClient bytes from to now)
         (answer.Icmp transport peer kind code details) first run last
-        → Carries bytes.items (Reported transport peer
+        → IsCarried first run last
+        (λ frame. Reported transport peer
         (record { icmp_type = kind; code = code; details = details }))
-        × WasGranted first run last (Permission transport (socket_ip peer)) }
+        (λ frame. Permission transport (socket_ip peer)) }
+    ensures datagrams { (first last : Client) (run : List (Step Client DeskCall)) (now : ℕ)
+        (bytes : Vec ℕ Global) (from to : SocketAddr) (ret : Answer)
+        (is : IsLastAnswered (ToClient bytes from to now) ret first run last) (k : Kept)
+        → is.new.client ≡ Some k → k.control ≡ Datagrams
+        → last_taken run ≡ bytes.items ∷ [] }
 {}
 
 /// All accounts of a run count as many numbers as drawn: how many is no account's choice.
@@ -186,13 +189,13 @@ pub fn receiving_is_definite<T: AsSlice<u8>>()
         → AreAlike came copy answer again × (one ≡ other) }
 {}
 
-/// `recv` is a step, whatever datagram came, and leaves a sound client sound: what is neither a message
+/// `recv` of a client over UDP is a step, whatever datagram came, and leaves a sound client sound: what is neither a message
 /// nor a channel frame, or did not come from the server, changes nothing. What it gives of a peer is
 /// handed over in that step.
 pub fn receipts_are_steps<T: AsSlice<u8>>()
     ensures { (c : Client) (came : Transmit T) (now : ℕ) (answer : TurnRecvRet T) (new : Kept)
         → IsSound c
         → AreBytes (T.items came.bytes)
-        → IsReceived T.items (kept_by c) came now answer new
+        → IsReceived T.items (over_udp c.core) came now answer new
         → IsGiving c (T.items came.bytes) (given_by (T.items came.bytes) answer) new.core }
 {}

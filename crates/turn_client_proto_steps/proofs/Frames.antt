@@ -1,0 +1,151 @@
+-- Over TCP: frames that come wait, and are taken up one by one.
+use Rattle.std.proofs.Common.{◌≡◌, ◌⊎◌, ℕ, Bool, List, [], ◌∷◌, Option, Some, None, refl, sym, ap, subst, inl, inr}
+use Rattle.stun_types.specs.Grammar.{refusal}
+use Rattle.stun_types.specs.Headers.{AreBytes}
+use Rattle.turn_client_proto_poll.specs.Core.Receiving.{IsHeard}
+use Rattle.turn_client_proto_poll.specs.Core.declared.protocol.Phase.{Phase}
+use Rattle.turn_client_proto_poll.specs.Core.declared.protocol.Protocol.{Protocol}
+use Rattle.turn_client_proto_poll.specs.Members.{IsIn}
+use Rattle.turn_client_proto_poll.specs.Messages.{Message, Gain, Holds, Knows, Payload as Told}
+use Rattle.turn_client_proto_poll.specs.OfPeers.{told_of}
+use Rattle.turn_client_proto_poll.specs.Payloads.{payload_of}
+use Rattle.turn_client_proto_poll.specs.Steps.{Arrives, Call, ClientStep, IsAnswered, IsTried}
+use Rattle.turn_client_proto_poll.specs.declared.payload.Payload.{Payload}
+use Rattle.turn_client_proto_steps.specs.ClientWords.{client_words}
+use Rattle.turn_client_proto_steps.specs.RunClient.{Client}
+use Rattle.turn_client_proto_steps.specs.RunSteps.{IsComing, IsGiving, IsRunStep, IsTakingUp, call_of}
+use Rattle.turn_client_proto_steps.specs.Sound.{CanAsk, IsSound}
+use Rattle.turn_client_proto_steps.proofs.Ending.{still}
+use Rattle.turn_client_proto_steps.proofs.Giving.{giving_step}
+use Rattle.turn_client_proto_steps.proofs.Orderly.{until_map}
+use Rattle.turn_client_proto_steps.proofs.Receiving.{receive_step}
+use Rattle.turn_client_proto_steps.proofs.Showing.{delivered}
+
+-- ---- the same call, with other frames that came and wait
+
+-- a client in which these frames wait
+abbrev waits : List (List ℕ) → Client → Client
+waits frames c = record c { waiting = frames }
+
+waits_sound : (frames : List (List ℕ)) (c : Client) → IsSound c → IsSound (waits frames c)
+waits_sound frames c sound = record {
+  orderly = sound.orderly;
+  can_ask = until_map c.core.phase (λ (can : CanAsk c). record { account = can.account; texts = can.texts; families = can.families; words = can.words }) sound.can_ask;
+}
+
+module _ (call : Call Client) (came before after : List (List ℕ)) where
+  abbrev other : Call Client
+  other = record call { before = waits before call.before; came = came; after = waits after call.after }
+
+  arrives : (bytes : List ℕ) (m : Message) → Arrives client_words call bytes m → Arrives client_words other bytes m
+  arrives bytes m is = record { handled = is.handled; shows = is.shows; key = is.key; own = is.own; algorithm = is.algorithm; text = is.text; valid = is.valid }
+
+  tried : IsTried client_words call → IsTried client_words other
+  tried is = record { bytes = is.bytes; attempt = is.attempt; arrives = arrives is.bytes is.attempt is.arrives; class_is = is.class_is; method_is = is.method_is }
+
+  answered : (begun : List Message) (gain : Gain) (number : ℕ) → IsAnswered client_words call begun gain number → IsAnswered client_words other begun gain number
+  answered begun gain number is = record {
+    bytes = is.bytes;
+    response = is.response;
+    arrives = arrives is.bytes is.response is.arrives;
+    number_is = is.number_is;
+    request = is.request;
+    waited = is.waited;
+    request_is = is.request_is;
+    asks = is.asks;
+    brings = is.brings;
+  }
+
+  -- what is taken up came or waited, and what waits then came or waited
+  framed_step : ((f : List ℕ) → IsIn f call.handled → IsIn f came ⊎ IsIn f before) → ((f : List ℕ) → IsIn f after → IsIn f came ⊎ IsIn f before)
+      → ClientStep client_words call → ClientStep client_words other
+  framed_step handles buffers is = record {
+    account = is.account;
+    seed = is.seed;
+    counted = is.counted;
+    few = is.few;
+    begun = is.begun;
+    requests = is.requests;
+    numbered = is.numbered;
+    outstanding = is.outstanding;
+    queued = is.queued;
+    taken = λ n h. elim (is.taken n h) [
+      | inl was ↦ inl was
+      | inr now ↦ elim now [ inl made ↦ inr (inl made) | inr attempt ↦ inr (inr (tried attempt)) ]
+    ];
+    draws = is.draws;
+    handles = handles;
+    buffers = buffers;
+    gained = is.gained;
+    gains = is.gains;
+    answers = λ t h. answered is.begun (Holds t.held) t.number (is.answers t h);
+    once = is.once;
+    spent = is.spent;
+    known = is.known;
+    is_of = is.is_of;
+    tells = is.tells;
+    shows = is.shows;
+    shown = is.shown;
+    waits = λ n peer h. elim (is.waits n peer h) [
+      | inl was ↦ inl was
+      | inr now ↦ elim now [
+        | inl known ↦ inr (inl (known.0, answered is.begun (Knows n peer) known.0 known.1))
+        | inr attempt ↦ inr (inr (tried attempt))
+      ]
+    ];
+    attempted = λ n h. elim (is.attempted n h) [ inl was ↦ inl was | inr attempt ↦ inr (tried attempt) ];
+    delivers = λ p i. delivered client_words call other refl p (is.delivers p i);
+    names = is.names;
+  }
+
+-- ---- frames come
+
+module _ (c : Client) (sound : IsSound c) where
+  pub coming_step : (came waiting : List (List ℕ)) → ((f : List ℕ) → IsIn f waiting → IsIn f came ⊎ IsIn f c.waiting) → IsComing c came waiting
+  coming_step came waiting of_these =
+      let quiet = still c [] c.core sound refl in
+      record {
+        after = waits waiting quiet.after;
+        core_is = quiet.core_is;
+        waits = refl;
+        step = framed_step (call_of c [] None [] quiet.after) came c.waiting waiting (λ f i. absurd i) of_these quiet.step;
+        sound = waits_sound waiting quiet.after quiet.sound;
+      }
+
+-- ---- one that waited is taken up
+
+module _ (c : Client) (sound : IsSound c) (frame : List ℕ) (rest : List (List ℕ)) (waited : c.waiting ≡ frame ∷ rest) where
+  -- what waits afterwards had waited
+  waited_too : (f : List ℕ) → IsIn f rest → IsIn f [] ⊎ IsIn f c.waiting
+  waited_too f i = inr (subst (λ (l : List (List ℕ)). IsIn f l) (sym waited) (inr i))
+
+  was_first : (f : List ℕ) → IsIn f (frame ∷ []) → IsIn f [] ⊎ IsIn f c.waiting
+  was_first f i = elim i [
+    | inl same ↦ inr (subst (λ (l : List (List ℕ)). IsIn f l) (sym waited) (inl same))
+    | inr none ↦ absurd none
+  ]
+
+  -- as if it came now
+  taken_up : (payloads : List Told) (new : Protocol) → IsGiving c frame payloads new → IsTakingUp c frame payloads new
+  taken_up payloads new is = record {
+    after = waits rest is.after;
+    core_is = is.core_is;
+    waits = waited;
+    step = framed_step (record (call_of c (frame ∷ []) None [] is.after) { payloads = payloads }) [] c.waiting rest was_first waited_too is.step;
+    sound = waits_sound rest is.after is.sound;
+  }
+
+  nothing_given : (new : Protocol) → IsRunStep c (frame ∷ []) None [] new → IsGiving c frame [] new
+  nothing_given new is = record { after = is.after; core_is = is.core_is; waits = is.waits; step = is.step; sound = is.sound }
+
+  -- a message is heard
+  pub hearing_step : (now : ℕ) (handled : Bool) (new : Protocol) → AreBytes frame → refusal frame ≡ None → IsHeard c.core frame now handled new → IsTakingUp c frame [] new
+  hearing_step now handled new are_bytes message is = taken_up [] new (nothing_given new (receive_step c frame now handled new sound are_bytes message is))
+
+  -- nothing is made of it
+  pub passing_step : (new : Protocol) → new ≡ c.core → IsTakingUp c frame [] new
+  passing_step new is = taken_up [] new (nothing_given new (still c (frame ∷ []) new sound is))
+
+  -- something of a peer is handed over
+  pub handing_step : (payload : Payload) → payload_of c.core frame ≡ Some payload → IsTakingUp c frame (told_of frame payload ∷ []) c.core
+  handing_step payload is = taken_up (told_of frame payload ∷ []) c.core (giving_step c frame payload sound is)
