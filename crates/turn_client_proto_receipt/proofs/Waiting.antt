@@ -1,5 +1,5 @@
 -- The frames that wait in a stream, taken one by one.
-use Rattle.std.proofs.Common.{◌≡◌, ℕ, ◌+◌, Bool, true, false, ltb, List, [], ◌∷◌, ◌++◌, length, drop, map, refl, sym, ap, ◌∙◌, subst, inl, inr}
+use Rattle.std.proofs.Common.{◌≡◌, ℕ, Bool, true, false, ltb, List, [], ◌∷◌, ◌++◌, length, drop, map, refl, sym, ap, ◌∙◌, subst, inl, inr}
 use Rattle.std.proofs.lemmas.Bool.{cases_Bool, and_from}
 use Rattle.std.proofs.lemmas.List.Folds.{list_all-append}
 use Rattle.std.specs.List.{list_all}
@@ -9,7 +9,7 @@ use Rattle.turn_types_frame.specs.declared.front.Front.{Front}
 use Rattle.turn_types_frame.specs.declared.front.Front.TheVariants.{Message, Channel, Partial, Broken}
 use Rattle.turn_types_frame.specs.StreamAnswers.{IsNone, looked, after_look, joined}
 use Rattle.turn_types_frame.specs.StreamFronts.{given_of, size_of}
-use Rattle.turn_types_frame.specs.Streams.{Fed, Stream, alive, fed, feeding, left_by}
+use Rattle.turn_types_frame.specs.Streams.{Fed, Stream, alive, fed, left_by}
 use Rattle.turn_types_frame.proofs.Feeding.{cut_anywhere}
 use Rattle.turn_client_proto_receipt.specs.Pulls.{bare, frame_of}
 use Rattle.turn_client_proto_receipt.specs.Waiting.{completed, whole_frames}

@@ -1,9 +1,8 @@
 -- Over TCP: frames that come wait, and are taken up one by one.
-use Rattle.std.proofs.Common.{◌≡◌, ◌⊎◌, ℕ, Bool, List, [], ◌∷◌, Option, Some, None, refl, sym, ap, subst, inl, inr}
+use Rattle.std.proofs.Common.{◌≡◌, ◌⊎◌, ℕ, Bool, List, [], ◌∷◌, Some, None, refl, sym, subst, inl, inr}
 use Rattle.stun_types.specs.Grammar.{refusal}
 use Rattle.stun_types.specs.Headers.{AreBytes}
 use Rattle.turn_client_proto_poll.specs.Core.Receiving.{IsHeard}
-use Rattle.turn_client_proto_poll.specs.Core.declared.protocol.Phase.{Phase}
 use Rattle.turn_client_proto_poll.specs.Core.declared.protocol.Protocol.{Protocol}
 use Rattle.turn_client_proto_poll.specs.Members.{IsIn}
 use Rattle.turn_client_proto_poll.specs.Messages.{Message, Gain, Holds, Knows, Payload as Told}

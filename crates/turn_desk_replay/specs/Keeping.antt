@@ -4,7 +4,8 @@ use Rattle.program_lines.specs.Cut.{says_nothing}
 use Rattle.turn_desk_world.specs.Model.{World}
 use Rattle.turn_desk_world.specs.declared.answer.Answer.{Answer}
 use Rattle.turn_desk_world.specs.declared.event.Event.{Event as Happening}
-use Rattle.turn_desk_trace.specs.Answer.{answer_text, named_by}
+use Rattle.turn_desk_print.specs.Printed.{answer_text}
+use Rattle.turn_desk_trace.specs.Answer.{named_by}
 use Rattle.turn_desk_trace.specs.TraceLines.{IsLine}
 use Rattle.turn_desk_trace.specs.declared.line.Line.TheVariants.{Setup, Event}
 use Rattle.turn_desk_trace.specs.declared.setup.Setup.{Setup as SettingUp}

@@ -19,6 +19,7 @@ pub use Rattle.turn_desk_world.specs.Requests
 pub use Rattle.turn_desk_world.specs.State
 pub use Rattle.turn_desk_world.specs.Steps
 pub use Rattle.turn_desk_world.specs.Verdicts
+pub use Rattle.turn_desk_print.specs.Printed
 pub use Rattle.turn_desk_trace.specs.Address
 pub use Rattle.turn_desk_trace.specs.Answer
 pub use Rattle.turn_desk_trace.specs.Bytes

@@ -9,7 +9,7 @@ use Rattle.program_lines.specs.declared.stop.Stop.{Stop}
 use Rattle.program_lines.specs.declared.stop.Stop.TheVariants as stop
 use Rattle.turn_desk_world.specs.declared.answer.Answer.{Answer}
 use Rattle.turn_desk_world.specs.declared.event.Event.{Event as Happening}
-use Rattle.turn_desk_trace.specs.Answer.{answer_text}
+use Rattle.turn_desk_print.specs.Printed.{answer_text}
 use Rattle.turn_desk_trace.specs.TraceLines.{IsLine}
 use Rattle.turn_desk_trace.specs.declared.line.Line.{Line}
 use Rattle.turn_desk_trace.specs.declared.line.Line.TheVariants.{Setup, Event}

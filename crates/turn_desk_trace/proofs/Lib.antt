@@ -1,4 +1,3 @@
 pub mod BytesLemmas
 pub mod LineLemmas
 pub mod NumberLemmas
-pub mod PrintLemmas

@@ -8,7 +8,7 @@ use Rattle.turn_desk_event.specs.declared.event.ClientCall.{ClientCall}
 use Rattle.turn_desk_event.specs.declared.event.ClientCall.TheVariants.{Poll, PollEvent, Delete, CreatePermission, HavePermission, Permissions, BindChannel, Channels, SendTo, PollRecv, ProtocolError, RelayedAddresses}
 use Rattle.turn_desk_event.specs.declared.event.Event.{Event}
 use Rattle.turn_desk_event.specs.declared.event.Event.TheVariants.{Call, Draw, ToClient, ToDesk}
-use Rattle.turn_desk_trace.specs.Answer.{transport_word}
+use Rattle.turn_desk_print.specs.Printed.{transport_word}
 use Rattle.turn_desk_trace.specs.Bytes.{named_bytes}
 use Rattle.turn_desk_trace.specs.Decision.{IsDecision}
 use Rattle.turn_desk_trace.specs.TraceNumbers.{number, seed_of}

@@ -10,7 +10,7 @@ use Rattle.stun_types.specs.declared.family.AddressFamily.{AddressFamily}
 use Rattle.stun_types.specs.declared.family.AddressFamily.TheVariants.{IPV4, IPV6}
 use Rattle.stun_types.specs.declared.transport.TransportType.{TransportType}
 use Rattle.stun_types.specs.declared.transport.TransportType.TheVariants.{Udp, Tcp}
-use Rattle.turn_desk_trace.specs.Answer.{transport_word}
+use Rattle.turn_desk_print.specs.Printed.{transport_word}
 use Rattle.turn_desk_trace.specs.Decision.{IsU32}
 use Rattle.turn_desk_trace.specs.TraceNumbers.{number, seed_of}
 use Rattle.turn_desk_trace.specs.declared.setup.Algorithms.{Algorithms}

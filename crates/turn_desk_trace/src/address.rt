@@ -7,7 +7,7 @@ ghost use Rattle.std.specs.declared.net.ip_addr.IpAddr.{IpAddr};
 ghost use Rattle.std.specs.declared.net.socket_addr.SocketAddr.{SocketAddr};
 ghost use Rattle.stun_types.specs.declared.transport.TransportType.{TransportType};
 ghost use Rattle.turn_desk_trace.specs.Address.{AreAddresses};
-ghost use Rattle.turn_desk_trace.specs.Answer.{transport_word};
+ghost use Rattle.turn_desk_print.specs.Printed.{transport_word};
 
 use program_lines::refusal::LineError;
 use program_lines::word::pieces;

@@ -1,10 +1,8 @@
-//! The lines of a trace, and the printing of what its events are answered. `docs/TRACE.md` has the
-//! language.
+//! The lines of a trace, as they are read. `docs/TRACE.md` has the language.
 //!
 //! The words of a line are read as numbers ([`number`]), addresses ([`address`]), bytes
 //! ([`bytes`]), decisions ([`decision`]), setup lines ([`setup`]) and events ([`event`]), and then
-//! as a [`line`]. An answer is printed by [`print`], and its bytes, which later lines name, are
-//! kept as [`named`].
+//! as a [`line`]. The bytes of an answer, which later lines name, are kept as [`named`].
 #![tactic(auto)]
 
 pub mod address;
@@ -14,5 +12,4 @@ pub mod event;
 pub mod line;
 pub mod named;
 pub mod number;
-pub mod print;
 pub mod setup;

@@ -27,9 +27,8 @@ use Rattle.turn_client_proto.specs.Steps.{Call}
 use Rattle.turn_client_proto.specs.Taken.{Taken}
 use Rattle.turn_client_proto.specs.Taken.TheVariants.{Given, Garbled}
 use Rattle.turn_client_proto.specs.Waiting.{completed, whole_frames}
-use Rattle.turn_client_proto.proofs.Waiting.{first_waits, frame_bytes, joined_bytes, left_bytes, none_behind, none_waits, piece_completes}
+use Rattle.turn_client_proto.proofs.Waiting.{first_waits, frame_bytes, left_bytes, none_behind, none_waits, piece_completes}
 use Rattle.turn_client_proto_steps.specs.Payload.{Payload}
-use Rattle.turn_client_proto_steps.specs.Payload.TheVariants.{Data, Framed, Report}
 use Rattle.turn_client_proto_steps.specs.ClientWords.{client_words}
 use Rattle.turn_client_proto_steps.specs.RunClient.{Client}
 use Rattle.turn_client_proto_steps.specs.RunSteps.{IsComing, IsTakingUp, call_of}
@@ -39,7 +38,7 @@ use Rattle.turn_client_proto_steps.proofs.Lists.{in_either}
 use Rattle.turn_desk_event.specs.declared.answer.Answer.{Answer}
 use Rattle.turn_desk_event.specs.declared.answer.Answer.TheVariants as answer
 use Rattle.turn_desk_world.specs.Calls.{IsTold}
-use Rattle.turn_desk_world.specs.Told.{AreComing, AreTakenUp, HandsNothing, IsTakenUp, data_of, given_by, given_of}
+use Rattle.turn_desk_world.specs.Told.{AreComing, AreTakenUp, HandsNothing, data_of, given_by, given_of}
 use Rattle.turn_desk_world.proofs.AtClient.{told_of_it}
 use Rattle.turn_desk_world.proofs.Chain.{each_behind}
 use Rattle.turn_desk_world.proofs.Handed.{data_told, handed_as}

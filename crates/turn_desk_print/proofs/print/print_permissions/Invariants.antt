@@ -1,7 +1,7 @@
 use Rattle.std.proofs.Common.{◌≡◌, ◌++◌, codes, string_bytes, take}
 use Rattle.std.specs.List.{flat_map}
-use Rattle.turn_desk_trace.specs.Answer.{permitted_text}
-use Rattle.turn_desk_trace.proofs.print.print_permissions.Given as goal
+use Rattle.turn_desk_print.specs.Printed.{permitted_text}
+use Rattle.turn_desk_print.proofs.print.print_permissions.Given as goal
 
 -- the text so far has those of the list that were passed
 abbrev pub invariant-loop-ip : goal.invariant-loop-ip

@@ -1,7 +1,7 @@
 use Rattle.std.proofs.Common.{◌++◌, ap, codes, decimal, refl, string_bytes}
 use Rattle.std.specs.Net.Text.{socket_text}
-use Rattle.turn_desk_trace.proofs.PrintLemmas.{four_words, text_is}
-use Rattle.turn_desk_trace.proofs.print.print_socket.Goals as goal
+use Rattle.turn_desk_print.proofs.PrintLemmas.{four_words, text_is}
+use Rattle.turn_desk_print.proofs.print.print_socket.Goals as goal
 
 pub returns : goal.returns
 returns c = text_is string_bytes c.format.result _ _ _ c.format.ensures.ok refl

@@ -1,7 +1,7 @@
 use Rattle.std.proofs.Common.{◌≡◌, ◌++◌, codes, string_bytes, take}
 use Rattle.std.specs.List.{flat_map}
-use Rattle.turn_desk_trace.specs.Answer.{relayed_text}
-use Rattle.turn_desk_trace.proofs.print.print_relayed.Given as goal
+use Rattle.turn_desk_print.specs.Printed.{relayed_text}
+use Rattle.turn_desk_print.proofs.print.print_relayed.Given as goal
 
 -- the text so far has those of the list that were passed
 abbrev pub invariant-loop-relayed : goal.invariant-loop-relayed

@@ -4,7 +4,7 @@ ghost use Rattle.std.specs.Prelude.{◌≡◌, ◌++◌, IfOk, OnOk, codes, deci
 ghost use Rattle.std.specs.List.{flat_map};
 ghost use Rattle.std.specs.Net.Text.{socket_text};
 ghost use Rattle.program_lines.specs.LowerHex.{hex_text};
-ghost use Rattle.turn_desk_trace.specs.Answer.{answer_text, answer_words, between_text, bind_error_text, channel_text, delete_error_text, event_text, family_word, have_text, icmp_text, permission_error_text, permitted_text, placed_text, refusal_text, relayed_text, send_error_text, transport_word};
+ghost use Rattle.turn_desk_print.specs.Printed.{answer_text, answer_words, between_text, bind_error_text, channel_text, delete_error_text, event_text, family_word, have_text, icmp_text, permission_error_text, permitted_text, placed_text, refusal_text, relayed_text, send_error_text, transport_word};
 
 use program_lines::lower_hex::write_hex;
 use std::alloc::{AllocError, Global};

@@ -1,8 +1,8 @@
 use Rattle.std.proofs.Common.{◌++◌, ap, codes, decimal, refl, string_bytes}
 use Rattle.std.specs.Net.Text.{socket_text}
-use Rattle.turn_desk_trace.specs.Answer.{transport_word}
-use Rattle.turn_desk_trace.proofs.PrintLemmas.{five_words, text_is}
-use Rattle.turn_desk_trace.proofs.print.print_icmp.Goals as goal
+use Rattle.turn_desk_print.specs.Printed.{transport_word}
+use Rattle.turn_desk_print.proofs.PrintLemmas.{five_words, text_is}
+use Rattle.turn_desk_print.proofs.print.print_icmp.Goals as goal
 
 pub returns : goal.returns
 returns c = text_is string_bytes c.format.result _ _ _ c.format.ensures.ok refl
