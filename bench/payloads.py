@@ -13,7 +13,7 @@ from channels import (
     renewing,
 )
 from permissions import DUE, FORBIDDEN, LAPSE, PEER_1, PEER_2, PEER_3, PEER_6, RELAYED_6, RENEWAL, holding
-from world import (
+from traces import (
     ALLOCATE, BINDING, CHANNEL_BIND, CLIENT, CREATE_PERMISSION, ERROR, INDICATION, MAGIC, MS, NONCE, PEER, REALM,
     RELAYED, SECOND, SERVER, SHA1, SHA256, SUCCESS, UNKNOWN, USERNAME, LIFETIME, Trace, attribute, channel_bind,
     create_permission, error, lifetime, message, number, setup, success, xored,

@@ -3,7 +3,7 @@
 Each permission stands for 300 seconds from its grant, and is to be renewed from a minute before its end.
 """
 
-from world import (
+from traces import (
     ADDITIONAL_FAMILY, BINDING, CREATE_PERMISSION, ERROR, HASHED, MS, NAMED, NONCE, OTHER, REALM, REFRESH,
     RELAYED, SECOND, SHA1, SHA256, SUCCESS, USERNAME, V6, Trace, challenge, code, create_permission, error,
     first, grant, lifetime, message, number, refresh, setup, signed_allocate, stale, success, unsigned,

@@ -16,7 +16,7 @@ from payloads import DATA, SEND, frame
 from rows_proto_base import BINDING, DEFAULT, GREATEST, HERE, HOUR, LONGEST, THERE, Waits, message as bare
 from rows_wire_base import NUMBER, ROWS, SMALL, part, row, write
 from rows_wire_frames import TCP_WAY
-from world import INDICATION, MS, PEER, message, xored
+from traces import INDICATION, MS, PEER, message, xored
 
 CRATE = Path(__file__).resolve().parent.parent / "crates/turn_rows_client"
 

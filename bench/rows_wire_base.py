@@ -4,7 +4,7 @@ import struct
 import zlib
 
 from payloads import DATA_METHOD as DATA, SEND
-from world import ALLOCATE, BINDING, CHANNEL_BIND, MAGIC
+from traces import ALLOCATE, BINDING, CHANNEL_BIND, MAGIC
 
 COOKIE = struct.pack(">I", MAGIC)
 CLASSES = ["request", "indication", "success", "error"]

@@ -10,7 +10,7 @@ from rows_wire_base import (
     UNSIGNED_TEXT, answer_of, missing, part, row, too_long, truncated,
 )
 from rows_wire_attributes import LONG_6, read
-from world import attribute, message, xored
+from traces import attribute, message, xored
 
 # ---- types of messages, headers, numbers (RFC 8489, section 5)
 

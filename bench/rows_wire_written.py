@@ -11,7 +11,7 @@ from rows_wire_messages import (
     FINGERPRINT, INTEGRITY, INTEGRITY_SHA256, PASSWORD, PION, SAMPLE, USER, attributes_of, crc, hmac_of,
     message_type, signed, type_told,
 )
-from world import attribute, block, message, xored
+from traces import attribute, block, message, xored
 
 # ---- messages that are written
 

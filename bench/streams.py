@@ -17,7 +17,7 @@ from streams_frames import (
     stream_at_random, stream_in_bytes, stream_in_two, stream_whole, unbound_channel, waiting_challenge,
     waiting_grant, waiting_too_long, waiting_while_it_is_deleted, waiting_while_it_lapses, wrong_cookies,
 )
-from world import (
+from traces import (
     ADDITIONAL_FAMILY, ALLOCATE, CHANNEL_BIND, CREATE_PERMISSION, DONT_FRAGMENT, END, ERROR, HASHED, MS, NAMED,
     OTHER, REFRESH, REFUSED, RELAYED, SECOND, SHA1, STALE, V6, challenge, channel_bind, code, create_permission,
     error, first, grant, hashed, lifetime, message, number, refresh, relayed, signed_allocate, success, unsigned,

@@ -13,7 +13,7 @@ from payloads import AT_1, HI, OTHER_REPORT, REPORT, data, fingerprinted, frame,
 from permissions import PEER_1
 from rows_wire_base import Refused
 from rows_wire_frames import front
-from world import MS, SERVER, TRANSPORT, Trace, block, setup
+from traces import MS, SERVER, TRANSPORT, Trace, block, setup
 
 # when a request of the first moment is given up
 LONGEST = 39500 * MS

@@ -10,7 +10,7 @@ from streams_base import (
     BROKEN, DATA_OF_1, LONGEST, MARKED, NEXT, NOW, ODD, REPORT_OF_1, carrying, holding, over, padded, peer_gives,
     places_within,
 )
-from world import (
+from traces import (
     CHANNEL_BIND, CLIENT, CREATE_PERMISSION, HASHED, MS, RELAYED, SECOND, SERVER, Trace, challenge, setup,
     signed_allocate, success,
 )
