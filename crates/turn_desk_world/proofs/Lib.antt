@@ -3,6 +3,7 @@ pub mod Answered
 pub mod AtClient
 pub mod AtDesk
 pub mod AtStream
+pub mod Beginning
 pub mod Bytes
 pub mod Chain
 pub mod Counting

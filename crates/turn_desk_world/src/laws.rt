@@ -3,7 +3,7 @@
 //! and `specs/Safety.antt` the theorem.
 
 ghost use Rattle.std.specs.List.{AllByRecursion};
-ghost use Rattle.std.specs.Prelude.{◌≡◌, ◌≢◌, ◌++◌, List, ℕ, [], ◌∷◌, Some, true, Vec};
+ghost use Rattle.std.specs.Prelude.{◌≡◌, ◌≢◌, ◌≤◌, ◌++◌, List, ℕ, [], ◌∷◌, Some, length, true, Vec};
 ghost use Rattle.std.specs.declared.alloc.Global.{Global};
 ghost use Rattle.std.specs.declared.net.ip_addr.IpAddr.{IpAddr};
 ghost use Rattle.std.specs.Net.Socket.{socket_ip};
@@ -11,7 +11,11 @@ ghost use Rattle.std.specs.declared.net.socket_addr.SocketAddr.{SocketAddr};
 ghost use Rattle.stun_proto.specs.Users.{HashesDiffer};
 ghost use Rattle.turn_client_proto.specs.Members.{IsIn};
 ghost use Rattle.turn_client_proto.specs.Api.Payloads.{PeerPayload};
-ghost use Rattle.turn_client_proto.specs.Control.{Datagrams};
+ghost use Rattle.stun_types.specs.Registry.{longest_username};
+ghost use Rattle.turn_types.specs.Streams.{alive};
+ghost use Rattle.turn_client_proto.specs.Beginning.{IsNew};
+ghost use Rattle.turn_client_proto.specs.Config.{Config};
+ghost use Rattle.turn_client_proto.specs.Control.{Datagrams, Open};
 ghost use Rattle.turn_client_proto.specs.Messages.{Allocation, Channel, Permission, Reported};
 ghost use Rattle.turn_client_proto.specs.Runs.{Step};
 ghost use Rattle.turn_desk_steps.specs.DeskRun.{AreTold, DeskCall};
@@ -34,7 +38,7 @@ ghost use Rattle.turn_client_proto_steps.specs.RunSteps.{IsGiving};
 ghost use Rattle.turn_client_proto_steps.specs.Sound.{IsSound, IsWhole};
 ghost use Rattle.turn_desk_world.specs.Copies.{AreAlike, IsCopy};
 ghost use Rattle.turn_desk_world.specs.Determined.{AreSame, HaveSameEvents};
-ghost use Rattle.turn_desk_world.specs.Safety.{IsAccount, IsCarried, IsDataCarried, IsLastAnswered, IsSafeRun, WasGranted, last_taken};
+ghost use Rattle.turn_desk_world.specs.Safety.{BeginsNew, IsAccount, IsCarried, IsDataCarried, IsLastAnswered, IsSafeRun, WasGranted, last_taken};
 ghost use Rattle.turn_desk_world.specs.Told.{IsReadBack, given_by};
 
 use std::convert::AsSlice;
@@ -64,6 +68,28 @@ pub fn relayed_addresses_are_told()
     ensures peers { (number : ℕ) (peer : SocketAddr)
         → IsWhole peer
         → IsReadBack number peer }
+{}
+
+/// A world begins new with a client as `TurnClientUdp::allocate` or `TurnClientTcp::allocate` makes it, of a
+/// name that has room in a request (RFC 8489, section 14.3) and two families of addresses at most. So the
+/// theorem on runs can be used wherever a client is made.
+pub fn new_clients_begin_new()
+    ensures udp { (transport : TransportType) (here server : SocketAddr) (config : Config)
+        (seed : List ℕ) (k : Kept) (w : World)
+        → w.client ≡ Some k
+        → IsNew transport here server config seed k.core
+        → length config.credentials.username ≤ longest_username
+        → length config.families ≤ 2
+        → k.control ≡ Datagrams
+        → BeginsNew transport here server config seed k.core w }
+    ensures tcp { (transport : TransportType) (here server : SocketAddr) (config : Config)
+        (seed : List ℕ) (k : Kept) (w : World)
+        → w.client ≡ Some k
+        → IsNew transport here server config seed k.core
+        → length config.credentials.username ≤ longest_username
+        → length config.families ≤ 2
+        → k.control ≡ Open (alive [])
+        → BeginsNew transport here server config seed k.core w }
 {}
 
 /// Whatever events come to a world of a new client and any desk, their answers are steps of a run of
