@@ -8,6 +8,7 @@ pub use Rattle.turn_client_proto_receipt.specs.Cuts
 pub use Rattle.turn_client_proto_receipt.specs.Datagrams
 pub use Rattle.turn_client_proto_receipt.specs.HandingIn
 pub use Rattle.turn_client_proto_receipt.specs.Kept
+pub use Rattle.turn_client_proto_receipt.specs.Order
 pub use Rattle.turn_client_proto_receipt.specs.Pieces
 pub use Rattle.turn_client_proto_receipt.specs.Pulls
 pub use Rattle.turn_client_proto_receipt.specs.Receipts

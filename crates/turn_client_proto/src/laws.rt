@@ -11,7 +11,9 @@ ghost use Rattle.turn_client_proto_poll.specs.Core.declared.protocol.Protocol.{P
 ghost use Rattle.turn_client_proto.specs.Getters.{channels_of};
 
 pub use turn_client_proto_poll::laws::nothing_is_sent_before;
-pub use turn_client_proto_receipt::laws::{cuts_do_not_matter, failed_clients_give_nothing};
+pub use turn_client_proto_receipt::laws::{
+    cuts_do_not_matter, failed_clients_give_nothing, whole_frames_are_taken_in_order,
+};
 
 /// No two channels that a client shows have one number (RFC 8656, section 12). It is so where no two have
 /// that it keeps, of those that stand and of those that were asked for: so it is of a new client, and

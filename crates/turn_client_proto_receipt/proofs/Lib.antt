@@ -11,3 +11,4 @@ pub mod Steps
 pub mod Streamed
 pub mod Taking
 pub mod Waiting
+pub mod Order

@@ -4,6 +4,7 @@ pub mod Cuts
 pub mod Datagrams
 pub mod HandingIn
 pub mod Kept
+pub mod Order
 pub mod Pieces
 pub mod Pulls
 pub mod Receipts

@@ -1,14 +1,21 @@
 //! What the contracts mean for a layer above. The functions do nothing; each contract is a law.
 
-ghost use Rattle.std.specs.Prelude.{◌≡◌, ℕ, List, None, Option};
+ghost use Rattle.std.specs.Prelude.{◌≡◌, ◌≢◌, ℕ, List, [], None, Option};
 ghost use Rattle.std.specs.List.{concat};
 ghost use Rattle.stun_types.specs.declared.transmit.Transmit.{Transmit};
 ghost use Rattle.turn_client_proto_poll.specs.Api.Payloads.{PeerPayload};
 ghost use Rattle.turn_client_proto_receipt.specs.Cuts.{AreDrained, IsDrainedOut, pieces_of};
+ghost use Rattle.turn_client_proto_poll.specs.Api.declared.answer.TurnRecvRet.{TurnRecvRet};
+ghost use Rattle.turn_client_proto_poll.specs.Api.declared.answer.TurnRecvRet.TheVariants.{NoMemory};
+ghost use Rattle.turn_client_proto_receipt.specs.Control.{Open};
 ghost use Rattle.turn_client_proto_receipt.specs.Kept.{Kept, Protocol};
+ghost use Rattle.turn_client_proto_receipt.specs.Order.{AreFirstGiven, AreFirstTaken};
 ghost use Rattle.turn_client_proto_receipt.specs.Pieces.{IsFrameHandled};
 ghost use Rattle.turn_client_proto_receipt.specs.Pulls.{IsPulled};
+ghost use Rattle.turn_client_proto_receipt.specs.Receipts.{IsOfStream, IsReceived, IsWaitingGiven};
+ghost use Rattle.turn_client_proto_receipt.specs.Waiting.{frames_waiting, whole_frames};
 ghost use Rattle.turn_client_proto_poll.specs.Core.Ending.{HasFailed};
+ghost use Rattle.turn_types.specs.StreamAnswers.{joined};
 ghost use Rattle.turn_types.specs.Streams.{Stream};
 
 use std::convert::AsSlice;
@@ -26,6 +33,27 @@ pub fn cuts_do_not_matter<T: AsSlice<u8>>()
         → AreDrained T.items now old pieces given one
         → AreDrained T.items now old cuts again other
         → (given ≡ again) × (one ≡ other) }
+{}
+
+/// What is taken up of a client's stream are its whole frames, in order, once each, and no part of it that
+/// only looks like one (RFC 8656, section 12.5). A piece came: of those that waited and those that it
+/// completes the first are taken up, and the others wait on. What waits was asked for: the first are taken
+/// up until one gives data of a peer, which is given; or all are, and then none is. Where memory was
+/// refused, nothing is said: the client has failed.
+pub fn whole_frames_are_taken_in_order<T: AsSlice<u8>>()
+    ensures came { (now : ℕ) (stream : Stream) (old new : Kept) (came : Transmit T)
+        (answer : TurnRecvRet T)
+        → old.control ≡ Open stream
+        → IsOfStream old.core came
+        → T.items came.bytes ≢ []
+        → answer ≢ NoMemory came
+        → IsReceived T.items old came now answer new
+        → AreFirstTaken now (whole_frames (joined stream (T.items came.bytes))) old.core
+        (frames_waiting new.control) new.core }
+    ensures waited { (now : ℕ) (old new : Kept) (given : Option PeerPayload)
+        → IsWaitingGiven old now given new
+        → AreFirstGiven now (frames_waiting old.control) old.core given
+        (frames_waiting new.control) new.core }
 {}
 
 /// A client that has failed gives nothing of what is kept of its stream, and stays as it is: nothing is held
