@@ -5,10 +5,10 @@ use Rattle.stun_types.specs.Headers.{AreBytes}
 use Rattle.turn_client_proto_poll.specs.Core.Receiving.{IsHeard}
 use Rattle.turn_client_proto_poll.specs.Core.declared.protocol.Protocol.{Protocol}
 use Rattle.turn_client_proto_poll.specs.Members.{IsIn}
-use Rattle.turn_client_proto_poll.specs.Messages.{Message, Gain, Holds, Knows, Payload as Told}
+use Rattle.turn_client_proto_poll.specs.Messages.{Holds, Knows, Payload as Told}
 use Rattle.turn_client_proto_poll.specs.OfPeers.{told_of}
 use Rattle.turn_client_proto_poll.specs.Payloads.{payload_of}
-use Rattle.turn_client_proto_poll.specs.Steps.{Arrives, Call, ClientStep, IsAnswered, IsTried}
+use Rattle.turn_client_proto_poll.specs.Steps.{Call, ClientStep}
 use Rattle.turn_client_proto_poll.specs.declared.payload.Payload.{Payload}
 use Rattle.turn_client_proto_steps.specs.ClientWords.{client_words}
 use Rattle.turn_client_proto_steps.specs.RunClient.{Client}
@@ -18,7 +18,7 @@ use Rattle.turn_client_proto_steps.proofs.Ending.{still}
 use Rattle.turn_client_proto_steps.proofs.Giving.{giving_step}
 use Rattle.turn_client_proto_steps.proofs.Orderly.{until_map}
 use Rattle.turn_client_proto_steps.proofs.Receiving.{receive_step}
-use Rattle.turn_client_proto_steps.proofs.Showing.{delivered}
+use Rattle.turn_client_proto_steps.proofs.Showing.{answered, delivered, tried}
 
 -- ---- the same call, with other frames that came and wait
 
@@ -36,25 +36,6 @@ module _ (call : Call Client) (came before after : List (List ℕ)) where
   abbrev other : Call Client
   other = record call { before = waits before call.before; came = came; after = waits after call.after }
 
-  arrives : (bytes : List ℕ) (m : Message) → Arrives client_words call bytes m → Arrives client_words other bytes m
-  arrives bytes m is = record { handled = is.handled; shows = is.shows; key = is.key; own = is.own; algorithm = is.algorithm; text = is.text; valid = is.valid }
-
-  tried : IsTried client_words call → IsTried client_words other
-  tried is = record { bytes = is.bytes; attempt = is.attempt; arrives = arrives is.bytes is.attempt is.arrives; class_is = is.class_is; method_is = is.method_is }
-
-  answered : (begun : List Message) (gain : Gain) (number : ℕ) → IsAnswered client_words call begun gain number → IsAnswered client_words other begun gain number
-  answered begun gain number is = record {
-    bytes = is.bytes;
-    response = is.response;
-    arrives = arrives is.bytes is.response is.arrives;
-    number_is = is.number_is;
-    request = is.request;
-    waited = is.waited;
-    request_is = is.request_is;
-    asks = is.asks;
-    brings = is.brings;
-  }
-
   -- what is taken up came or waited, and what waits then came or waited
   framed_step : ((f : List ℕ) → IsIn f call.handled → IsIn f came ⊎ IsIn f before) → ((f : List ℕ) → IsIn f after → IsIn f came ⊎ IsIn f before)
       → ClientStep client_words call → ClientStep client_words other
@@ -70,14 +51,14 @@ module _ (call : Call Client) (came before after : List (List ℕ)) where
     queued = is.queued;
     taken = λ n h. elim (is.taken n h) [
       | inl was ↦ inl was
-      | inr now ↦ elim now [ inl made ↦ inr (inl made) | inr attempt ↦ inr (inr (tried attempt)) ]
+      | inr now ↦ elim now [ inl made ↦ inr (inl made) | inr attempt ↦ inr (inr (tried client_words call other refl refl (λ m is. is) attempt)) ]
     ];
     draws = is.draws;
     handles = handles;
     buffers = buffers;
     gained = is.gained;
     gains = is.gains;
-    answers = λ t h. answered is.begun (Holds t.held) t.number (is.answers t h);
+    answers = λ t h. answered client_words call other refl refl (λ m is. is) is.begun (Holds t.held) t.number (is.answers t h);
     once = is.once;
     spent = is.spent;
     known = is.known;
@@ -88,11 +69,11 @@ module _ (call : Call Client) (came before after : List (List ℕ)) where
     waits = λ n peer h. elim (is.waits n peer h) [
       | inl was ↦ inl was
       | inr now ↦ elim now [
-        | inl known ↦ inr (inl (known.0, answered is.begun (Knows n peer) known.0 known.1))
-        | inr attempt ↦ inr (inr (tried attempt))
+        | inl known ↦ inr (inl (known.0, answered client_words call other refl refl (λ m is. is) is.begun (Knows n peer) known.0 known.1))
+        | inr attempt ↦ inr (inr (tried client_words call other refl refl (λ m is. is) attempt))
       ]
     ];
-    attempted = λ n h. elim (is.attempted n h) [ inl was ↦ inl was | inr attempt ↦ inr (tried attempt) ];
+    attempted = λ n h. elim (is.attempted n h) [ inl was ↦ inl was | inr attempt ↦ inr (tried client_words call other refl refl (λ m is. is) attempt) ];
     delivers = λ p i. delivered client_words call other refl p (is.delivers p i);
     names = is.names;
   }

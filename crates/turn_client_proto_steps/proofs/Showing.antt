@@ -4,30 +4,41 @@ use Rattle.std.proofs.Common.{◌≡◌, ℕ, List, refl, subst, inl, inr}
 use Rattle.turn_client_proto_poll.specs.Members.{IsIn}
 use Rattle.turn_client_proto_poll.specs.Messages.{Message, Held, Gain, Holds, Knows, NamesHeld, Payload, FromPeer, Reported, FromChannel, FromConnection}
 use Rattle.turn_client_proto_poll.specs.Words.{Wire, ClientWords}
-use Rattle.turn_client_proto_poll.specs.Steps.{Arrives, Call, ClientStep, IsAnswered, IsDelivered, IsTried}
+use Rattle.turn_client_proto_poll.specs.Steps.{Arrives, Call, ClientStep, IsAnswered, IsDelivered, IsOwnKey, IsTried}
 
-module _ {V : Wire} {C : Type 0} (K : ClientWords V C) (call : Call C) (held : List Held) (payloads : List Payload) where
-  abbrev telling : Call C
-  telling = record call { shown = held; payloads = payloads }
+-- a call that takes up the same, of the same account, where as much is outstanding
+module _ {V : Wire} {C : Type 0} (K : ClientWords V C) (call other : Call C) (same : call.handled ≡ other.handled) (account : K.account call.before ≡ K.account other.before)
+    (outstanding : (m : Message) → K.IsOutstanding call.before m → K.IsOutstanding other.before m) where
+  pub arrives : (bytes : List ℕ) (m : Message) → Arrives K call bytes m → Arrives K other bytes m
+  arrives bytes m is = record {
+    handled = subst (IsIn bytes) same is.handled;
+    shows = is.shows;
+    key = is.key;
+    own = subst (λ (a : V.Account). IsOwnKey V a is.key) account is.own;
+    algorithm = is.algorithm;
+    text = is.text;
+    valid = is.valid;
+  }
 
-  arrives : (bytes : List ℕ) (m : Message) → Arrives K call bytes m → Arrives K telling bytes m
-  arrives bytes m is = record { handled = is.handled; shows = is.shows; key = is.key; own = is.own; algorithm = is.algorithm; text = is.text; valid = is.valid }
-
-  tried : IsTried K call → IsTried K telling
+  pub tried : IsTried K call → IsTried K other
   tried is = record { bytes = is.bytes; attempt = is.attempt; arrives = arrives is.bytes is.attempt is.arrives; class_is = is.class_is; method_is = is.method_is }
 
-  answered : (begun : List Message) (gain : Gain) (number : ℕ) → IsAnswered K call begun gain number → IsAnswered K telling begun gain number
+  pub answered : (begun : List Message) (gain : Gain) (number : ℕ) → IsAnswered K call begun gain number → IsAnswered K other begun gain number
   answered begun gain number is = record {
     bytes = is.bytes;
     response = is.response;
     arrives = arrives is.bytes is.response is.arrives;
     number_is = is.number_is;
     request = is.request;
-    waited = is.waited;
+    waited = elim is.waited [ inl before ↦ inl (outstanding is.request before) | inr now ↦ inr now ];
     request_is = is.request_is;
     asks = is.asks;
     brings = is.brings;
   }
+
+module _ {V : Wire} {C : Type 0} (K : ClientWords V C) (call : Call C) (held : List Held) (payloads : List Payload) where
+  abbrev telling : Call C
+  telling = record call { shown = held; payloads = payloads }
 
   tells_step : ((h : Held) → IsIn h held → K.IsHeld call.after h) → ((p : Payload) → IsIn p payloads → IsDelivered K telling p)
       → ((p : Payload) → IsIn p payloads → (h : Held) × NamesHeld p h × K.IsKept call.after h) → ClientStep K call → ClientStep K telling
@@ -43,14 +54,14 @@ module _ {V : Wire} {C : Type 0} (K : ClientWords V C) (call : Call C) (held : L
     queued = is.queued;
     taken = λ n h. elim (is.taken n h) [
       | inl was ↦ inl was
-      | inr now ↦ elim now [ inl made ↦ inr (inl made) | inr came ↦ inr (inr (tried came)) ]
+      | inr now ↦ elim now [ inl made ↦ inr (inl made) | inr came ↦ inr (inr (tried K call telling refl refl (λ m is. is) came)) ]
     ];
     draws = is.draws;
     handles = is.handles;
     buffers = is.buffers;
     gained = is.gained;
     gains = is.gains;
-    answers = λ t h. answered is.begun (Holds t.held) t.number (is.answers t h);
+    answers = λ t h. answered K call telling refl refl (λ m is. is) is.begun (Holds t.held) t.number (is.answers t h);
     once = is.once;
     spent = is.spent;
     known = is.known;
@@ -61,11 +72,11 @@ module _ {V : Wire} {C : Type 0} (K : ClientWords V C) (call : Call C) (held : L
     waits = λ n peer h. elim (is.waits n peer h) [
       | inl was ↦ inl was
       | inr now ↦ elim now [
-        | inl known ↦ inr (inl (known.0, answered is.begun (Knows n peer) known.0 known.1))
-        | inr came ↦ inr (inr (tried came))
+        | inl known ↦ inr (inl (known.0, answered K call telling refl refl (λ m is. is) is.begun (Knows n peer) known.0 known.1))
+        | inr came ↦ inr (inr (tried K call telling refl refl (λ m is. is) came))
       ]
     ];
-    attempted = λ n h. elim (is.attempted n h) [ inl was ↦ inl was | inr came ↦ inr (tried came) ];
+    attempted = λ n h. elim (is.attempted n h) [ inl was ↦ inl was | inr came ↦ inr (tried K call telling refl refl (λ m is. is) came) ];
     delivers = delivers;
     names = names;
   }
