@@ -1,7 +1,24 @@
 pub mod Distinct
 -- What stands above this crate has these through it.
-pub use Rattle.turn_client_proto_poll.proofs.Keeps
-pub use Rattle.turn_client_proto_poll.proofs.Request
-pub use Rattle.turn_client_proto_poll.proofs.Safe
+pub use Rattle.turn_client_proto_receipt.proofs.Keeps
+pub use Rattle.turn_client_proto_receipt.proofs.Request
+pub use Rattle.turn_client_proto_receipt.proofs.Safe
 pub use Rattle.turn_client_proto_receipt.proofs.Definite
 pub use Rattle.turn_client_proto_receipt.proofs.Waiting
+pub use Rattle.turn_client_proto_receipt.proofs.FirstClient
+pub use Rattle.turn_client_proto_receipt.proofs.Drawing
+pub use Rattle.turn_client_proto_receipt.proofs.Ending
+pub use Rattle.turn_client_proto_receipt.proofs.Frames
+pub use Rattle.turn_client_proto_receipt.proofs.Giving
+pub use Rattle.turn_client_proto_receipt.proofs.Lists
+pub use Rattle.turn_client_proto_receipt.proofs.OfPeers
+pub use Rattle.turn_client_proto_receipt.proofs.Once
+pub use Rattle.turn_client_proto_receipt.proofs.Polling
+pub use Rattle.turn_client_proto_receipt.proofs.Receiving
+pub use Rattle.turn_client_proto_receipt.proofs.Refreshing
+pub use Rattle.turn_client_proto_receipt.proofs.Requesting
+pub use Rattle.turn_client_proto_receipt.proofs.RequestingChannels
+pub use Rattle.turn_client_proto_receipt.proofs.Sending
+pub use Rattle.turn_client_proto_receipt.proofs.Showing
+pub use Rattle.turn_client_proto_receipt.proofs.Shown
+pub use Rattle.turn_client_proto_receipt.proofs.ShownChannels

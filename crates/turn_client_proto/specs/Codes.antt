@@ -2,8 +2,8 @@
 use Rattle.std.specs.Coded.{Coded, code_by, coded×, coded_bool, coded_list, coded_option, coded_ℕ}
 use Rattle.std.specs.Prelude.{◌≡◌, ℕ, Bool, List, Option, None, Some, refl}
 use Rattle.turn_types.specs.Streams.{Stream}
-use Rattle.turn_client_proto_poll.specs.Core.contracts.protocol.Protocol as protocol
-use Rattle.turn_client_proto_poll.specs.Core.declared.protocol.Protocol.{Protocol}
+use Rattle.turn_client_proto_receipt.specs.Core.contracts.protocol.Protocol as protocol
+use Rattle.turn_client_proto_receipt.specs.Core.declared.protocol.Protocol.{Protocol}
 use Rattle.turn_client_proto_receipt.specs.Control.{Control, Datagrams, Open, Closed}
 use Rattle.turn_client_proto_receipt.specs.Kept.{Kept}
 

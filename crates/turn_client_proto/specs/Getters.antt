@@ -4,11 +4,11 @@ use Rattle.std.specs.List.{list_any}
 use Rattle.std.specs.declared.net.ip_addr.IpAddr.{IpAddr}
 use Rattle.std.specs.declared.net.socket_addr.SocketAddr.{SocketAddr}
 use Rattle.stun_types.specs.declared.transport.TransportType.{TransportType}
-use Rattle.turn_client_proto_poll.specs.Core.declared.protocol.Protocol.{Protocol}
-use Rattle.turn_client_proto_poll.specs.Allocation.Listed.{relayed_shown}
-use Rattle.turn_client_proto_poll.specs.Channel.Shown.{channels_shown}
-use Rattle.turn_client_proto_poll.specs.Permission.Asking.{permits_over}
-use Rattle.turn_client_proto_poll.specs.Permission.Shown.{addresses_of, permissions_at}
+use Rattle.turn_client_proto_receipt.specs.Core.declared.protocol.Protocol.{Protocol}
+use Rattle.turn_client_proto_receipt.specs.Allocation.Listed.{relayed_shown}
+use Rattle.turn_client_proto_receipt.specs.Channel.Shown.{channels_shown}
+use Rattle.turn_client_proto_receipt.specs.Permission.Asking.{permits_over}
+use Rattle.turn_client_proto_receipt.specs.Permission.Shown.{addresses_of, permissions_at}
 
 -- the relayed addresses that a client shows, with their transports
 abbrev pub relayed_of : Protocol → List (TransportType × SocketAddr)

@@ -2,13 +2,13 @@
 
 ghost use Rattle.std.specs.Prelude.{◌≡◌, ◌≢◌, ◌++◌, ℕ, [], Err, Ok, None, IfNone, IfOk, OnErr, OnOk, option_to_list};
 ghost use Rattle.std.specs.Option.{option_map};
-ghost use Rattle.turn_client_proto_poll.specs.Core.Binding.{IsBindAnswered};
-ghost use Rattle.turn_client_proto_poll.specs.Core.Deleting.{IsDeleteAnswered};
-ghost use Rattle.turn_client_proto_poll.specs.Drawing.{HasToSend, IsDrawn, sent_of};
-ghost use Rattle.turn_client_proto_poll.specs.Core.Ending.{HasFailed, ended};
-ghost use Rattle.turn_client_proto_poll.specs.Core.Permitting.{IsPermissionAnswered};
-ghost use Rattle.turn_client_proto_poll.specs.Polling.{IsPolled};
-ghost use Rattle.turn_client_proto_poll.specs.Sending.{IsSendAnswered, answered_as};
+ghost use Rattle.turn_client_proto_receipt.specs.Core.Binding.{IsBindAnswered};
+ghost use Rattle.turn_client_proto_receipt.specs.Core.Deleting.{IsDeleteAnswered};
+ghost use Rattle.turn_client_proto_receipt.specs.Drawing.{HasToSend, IsDrawn, sent_of};
+ghost use Rattle.turn_client_proto_receipt.specs.Core.Ending.{HasFailed, ended};
+ghost use Rattle.turn_client_proto_receipt.specs.Core.Permitting.{IsPermissionAnswered};
+ghost use Rattle.turn_client_proto_receipt.specs.Polling.{IsPolled};
+ghost use Rattle.turn_client_proto_receipt.specs.Sending.{IsSendAnswered, answered_as};
 ghost use Rattle.turn_client_proto.specs.Getters.{channels_of, has_permission, permissions_of, relayed_of};
 ghost use Rattle.turn_client_proto_receipt.specs.Kept.{Kept, Leaves};
 ghost use Rattle.turn_client_proto_receipt.specs.Receipts.{IsReceived, IsWaitingGiven, IsWaitingLost};
@@ -21,15 +21,15 @@ use std::net::{IpAddr, SocketAddr};
 use stun_proto::Instant;
 use stun_types::data::Data;
 use stun_types::{NoMemory, Transmit, TransportType};
-pub use turn_client_proto_poll::api::answer::{Socket5Tuple, TurnPollRet, TurnRecvRet};
-pub use turn_client_proto_poll::api::config::TurnConfig;
-pub use turn_client_proto_poll::api::data::{DataRangeOrOwned, TurnPeerData};
-pub use turn_client_proto_poll::api::error::{
+pub use turn_client_proto_receipt::calls::api::answer::{Socket5Tuple, TurnPollRet, TurnRecvRet};
+pub use turn_client_proto_receipt::calls::api::config::TurnConfig;
+pub use turn_client_proto_receipt::calls::api::data::{DataRangeOrOwned, TurnPeerData};
+pub use turn_client_proto_receipt::calls::api::error::{
     BindChannelError, CreatePermissionError, DeleteError, SendError, TcpAllocateError,
     TcpConnectError,
 };
-pub use turn_client_proto_poll::api::event::TurnEvent;
-pub use turn_client_proto_poll::api::send::DelayedMessageOrChannelSend;
+pub use turn_client_proto_receipt::calls::api::event::TurnEvent;
+pub use turn_client_proto_receipt::calls::api::send::DelayedMessageOrChannelSend;
 use turn_types::transmit::TransmitBuild;
 
 /// The greatest moment of a call of a client: 2^62 nanoseconds behind `Instant::ZERO`, some 146 years.

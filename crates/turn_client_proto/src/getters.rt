@@ -1,17 +1,17 @@
 //! What a client's getters give, one after another.
 
 ghost use Rattle.std.specs.Prelude.{◌≡◌};
-ghost use Rattle.turn_client_proto_poll.specs.Allocation.Listed.{relayed_shown};
-ghost use Rattle.turn_client_proto_poll.specs.Channel.Shown.{channels_shown};
-ghost use Rattle.turn_client_proto_poll.specs.Permission.Shown.{addresses_of};
+ghost use Rattle.turn_client_proto_receipt.specs.Allocation.Listed.{relayed_shown};
+ghost use Rattle.turn_client_proto_receipt.specs.Channel.Shown.{channels_shown};
+ghost use Rattle.turn_client_proto_receipt.specs.Permission.Shown.{addresses_of};
 
 use std::marker::Model;
 use std::net::{IpAddr, SocketAddr};
 use stun_types::TransportType;
-use turn_client_proto_poll::allocation::allocation::Allocation;
-use turn_client_proto_poll::allocation::channel::Channel;
-use turn_client_proto_poll::allocation::permission::Permission;
-use turn_client_proto_poll::channel::shown::channels_of;
+use turn_client_proto_receipt::calls::allocation::allocation::Allocation;
+use turn_client_proto_receipt::calls::allocation::channel::Channel;
+use turn_client_proto_receipt::calls::allocation::permission::Permission;
+use turn_client_proto_receipt::calls::channel::shown::channels_of;
 
 /// The relayed addresses of a client with their transports, in the order in which they were granted.
 /// Those of allocations that are marked as expired are passed over. Contracts see the list of what is
@@ -25,7 +25,7 @@ impl<'a> Model for RelayedAddressesIter<'a> {
     ghost use Rattle.std.specs.Prelude.{List};
     ghost use Rattle.std.specs.declared.net.socket_addr.SocketAddr.{SocketAddr};
     ghost use Rattle.stun_types.specs.declared.transport.TransportType.{TransportType};
-    ghost use Rattle.turn_client_proto_poll.specs.Allocation.Listed.{relayed_shown};
+    ghost use Rattle.turn_client_proto_receipt.specs.Allocation.Listed.{relayed_shown};
 
     ghost Value = { List (TransportType × SocketAddr) };
 
@@ -74,7 +74,7 @@ pub struct PermissionAddressesIter<'a> {
 impl<'a> Model for PermissionAddressesIter<'a> {
     ghost use Rattle.std.specs.Prelude.{List};
     ghost use Rattle.std.specs.declared.net.ip_addr.IpAddr.{IpAddr};
-    ghost use Rattle.turn_client_proto_poll.specs.Permission.Shown.{addresses_of};
+    ghost use Rattle.turn_client_proto_receipt.specs.Permission.Shown.{addresses_of};
 
     ghost Value = { List IpAddr };
 
@@ -118,7 +118,7 @@ pub struct ChannelsIter<'a> {
 impl<'a> Model for ChannelsIter<'a> {
     ghost use Rattle.std.specs.Prelude.{ℕ, List, ◌++◌};
     ghost use Rattle.std.specs.declared.net.socket_addr.SocketAddr.{SocketAddr};
-    ghost use Rattle.turn_client_proto_poll.specs.Channel.Shown.{channels_shown, pairs_of};
+    ghost use Rattle.turn_client_proto_receipt.specs.Channel.Shown.{channels_shown, pairs_of};
 
     ghost Value = { List (ℕ × SocketAddr) };
 

@@ -4,13 +4,13 @@
 ghost use Rattle.std.specs.Prelude.{◌==◌, ◌≤◌, ℕ, List, filter, length};
 ghost use Rattle.std.specs.declared.net.socket_addr.SocketAddr.{SocketAddr};
 ghost use Rattle.stun_types.specs.declared.transport.TransportType.{TransportType};
-ghost use Rattle.turn_client_proto_poll.specs.Api.Config.{Config};
-ghost use Rattle.turn_client_proto_poll.specs.Channel.Numbers.{AreDistinct};
-ghost use Rattle.turn_client_proto_poll.specs.Core.Beginning.{IsNew};
-ghost use Rattle.turn_client_proto_poll.specs.Core.declared.protocol.Protocol.{Protocol};
+ghost use Rattle.turn_client_proto_receipt.specs.Api.Config.{Config};
+ghost use Rattle.turn_client_proto_receipt.specs.Channel.Numbers.{AreDistinct};
+ghost use Rattle.turn_client_proto_receipt.specs.Core.Beginning.{IsNew};
+ghost use Rattle.turn_client_proto_receipt.specs.Core.declared.protocol.Protocol.{Protocol};
 ghost use Rattle.turn_client_proto.specs.Getters.{channels_of};
 
-pub use turn_client_proto_poll::laws::nothing_is_sent_before;
+pub use turn_client_proto_receipt::calls::laws::nothing_is_sent_before;
 pub use turn_client_proto_receipt::laws::{
     cuts_do_not_matter, failed_clients_give_nothing, whole_frames_are_taken_in_order,
 };

@@ -4,7 +4,7 @@ ghost use Rattle.std.specs.Prelude.{◌≡◌, ◌≤◌, IsOkAnd, [], length};
 ghost use Rattle.stun_types.specs.Registry.{longest_username};
 ghost use Rattle.stun_types.specs.declared.transport.TransportType.TheVariants.{Tcp};
 ghost use Rattle.turn_types.specs.Streams.{alive};
-ghost use Rattle.turn_client_proto_poll.specs.Core.Beginning.{IsNew};
+ghost use Rattle.turn_client_proto_receipt.specs.Core.Beginning.{IsNew};
 ghost use Rattle.turn_client_proto_receipt.specs.Control.{Open};
 
 use crate::api::{
@@ -21,10 +21,10 @@ use std::net::{IpAddr, SocketAddr};
 use stun_proto::Instant;
 use stun_types::data::Data;
 use stun_types::{NoMemory, Transmit, TransportType};
-use turn_client_proto_poll::permission::asking::permits_any;
-use turn_client_proto_poll::permission::shown::permissions_at;
-use turn_client_proto_poll::protocol::Protocol;
-use turn_client_proto_poll::{drawing, polling, sending};
+use turn_client_proto_receipt::calls::permission::asking::permits_any;
+use turn_client_proto_receipt::calls::permission::shown::permissions_at;
+use turn_client_proto_receipt::calls::protocol::Protocol;
+use turn_client_proto_receipt::calls::{drawing, polling, sending};
 use turn_client_proto_receipt::stream::{ask, receive};
 use turn_types::tcp::TurnTcpBuffer;
 use turn_types::transmit::TransmitBuild;

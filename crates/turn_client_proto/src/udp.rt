@@ -3,7 +3,7 @@
 ghost use Rattle.std.specs.Prelude.{◌≡◌, ◌≤◌, IsOkAnd, length};
 ghost use Rattle.stun_types.specs.Registry.{longest_username};
 ghost use Rattle.stun_types.specs.declared.transport.TransportType.TheVariants.{Udp};
-ghost use Rattle.turn_client_proto_poll.specs.Core.Beginning.{IsNew};
+ghost use Rattle.turn_client_proto_receipt.specs.Core.Beginning.{IsNew};
 
 use crate::api::{
     BindChannelError, ChannelsIter, CreatePermissionError, DelayedMessageOrChannelSend,
@@ -19,10 +19,10 @@ use std::net::{IpAddr, SocketAddr};
 use stun_proto::Instant;
 use stun_types::data::Data;
 use stun_types::{NoMemory, Transmit, TransportType};
-use turn_client_proto_poll::permission::asking::permits_any;
-use turn_client_proto_poll::permission::shown::permissions_at;
-use turn_client_proto_poll::protocol::Protocol;
-use turn_client_proto_poll::{drawing, polling, sending};
+use turn_client_proto_receipt::calls::permission::asking::permits_any;
+use turn_client_proto_receipt::calls::permission::shown::permissions_at;
+use turn_client_proto_receipt::calls::protocol::Protocol;
+use turn_client_proto_receipt::calls::{drawing, polling, sending};
 use turn_client_proto_receipt::datagram::{is_of_server, take_datagram};
 use turn_types::transmit::TransmitBuild;
 
@@ -34,7 +34,7 @@ pub struct TurnClientUdp {
 }
 
 impl Model for TurnClientUdp {
-    ghost use Rattle.turn_client_proto_poll.specs.Core.declared.protocol.Protocol.{Protocol};
+    ghost use Rattle.turn_client_proto_receipt.specs.Core.declared.protocol.Protocol.{Protocol};
     ghost use Rattle.turn_client_proto.specs.Codes.{protocol_code};
 
     ghost Value = { Protocol };

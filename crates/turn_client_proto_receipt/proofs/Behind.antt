@@ -2,10 +2,10 @@
 use Rattle.std.proofs.Common.{◌≡◌, ℕ, Bool, true, false, Some, None, refl}
 use Rattle.stun_types.specs.declared.transmit.Transmit.{Transmit}
 use Rattle.turn_types.specs.Streams.{Stream}
-use Rattle.turn_client_proto_poll.specs.Api.Payloads.{PeerPayload}
-use Rattle.turn_client_proto_poll.specs.Api.declared.answer.TurnRecvRet.{TurnRecvRet}
-use Rattle.turn_client_proto_poll.specs.Api.declared.answer.TurnRecvRet.TheVariants as recv
-use Rattle.turn_client_proto_poll.specs.Core.declared.protocol.Protocol.{Protocol}
+use Rattle.turn_client_proto_steps.specs.Api.Payloads.{PeerPayload}
+use Rattle.turn_client_proto_steps.specs.Api.declared.answer.TurnRecvRet.{TurnRecvRet}
+use Rattle.turn_client_proto_steps.specs.Api.declared.answer.TurnRecvRet.TheVariants as recv
+use Rattle.turn_client_proto_steps.specs.Core.declared.protocol.Protocol.{Protocol}
 use Rattle.turn_client_proto_receipt.specs.Datagrams.{IsHandledAs}
 use Rattle.turn_client_proto_receipt.specs.Pieces.{IsBehind, IsFrameHandled, Pulled}
 use Rattle.turn_client_proto_receipt.specs.Pulls.{IsPulled}

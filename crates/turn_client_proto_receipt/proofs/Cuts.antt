@@ -5,13 +5,13 @@ use Rattle.std.specs.List.{concat}
 use Rattle.stun_types.specs.declared.transmit.Transmit.{Transmit}
 use Rattle.turn_types_frame.specs.StreamAnswers.{IsNone, after_look, looked, joined as grown}
 use Rattle.turn_types_frame.specs.Streams.{Stream, alive}
-use Rattle.turn_client_proto_poll.specs.Api.Payloads.{PeerPayload}
-use Rattle.turn_client_proto_poll.specs.Api.declared.answer.TurnRecvRet.{TurnRecvRet}
-use Rattle.turn_client_proto_poll.specs.Api.declared.answer.TurnRecvRet.TheVariants as recv
-use Rattle.turn_client_proto_poll.specs.Core.declared.protocol.Protocol.{Protocol}
-use Rattle.turn_client_proto_poll.specs.Payloads.{payload_of}
-use Rattle.turn_client_proto_poll.specs.declared.payload.Payload.{Payload}
-use Rattle.turn_client_proto_poll.specs.declared.payload.Payload.TheVariants.{Data, Framed, Report}
+use Rattle.turn_client_proto_steps.specs.Api.Payloads.{PeerPayload}
+use Rattle.turn_client_proto_steps.specs.Api.declared.answer.TurnRecvRet.{TurnRecvRet}
+use Rattle.turn_client_proto_steps.specs.Api.declared.answer.TurnRecvRet.TheVariants as recv
+use Rattle.turn_client_proto_steps.specs.Core.declared.protocol.Protocol.{Protocol}
+use Rattle.turn_client_proto_steps.specs.Payloads.{payload_of}
+use Rattle.turn_client_proto_steps.specs.Payload.{Payload}
+use Rattle.turn_client_proto_steps.specs.Payload.TheVariants.{Data, Framed, Report}
 use Rattle.turn_client_proto_receipt.specs.Control.{Control, Open}
 use Rattle.turn_client_proto_receipt.specs.Cuts.{AreDrained, IsAskedOut, IsDrainedOut, IsPieceDrained, NoMore, OneMore, data_answered, pieces_of}
 use Rattle.turn_client_proto_receipt.specs.HandingIn.{IsFrameTaken, IsHandedIn, taken_as}

@@ -3,10 +3,10 @@ use Rattle.std.proofs.Common.{◌≡◌, ℕ, List, Option, Some, None, refl, sy
 use Rattle.std.specs.Prelude.{MatchOption}
 use Rattle.stun_types.specs.Grammar.{refusal}
 use Rattle.stun_types.specs.ParseErrors.{StunParseError}
-use Rattle.turn_client_proto_poll.specs.Api.Payloads.{PeerPayload}
-use Rattle.turn_client_proto_poll.specs.Core.declared.protocol.Protocol.{Protocol}
-use Rattle.turn_client_proto_poll.specs.Payloads.{payload_of}
-use Rattle.turn_client_proto_poll.specs.declared.payload.Payload.{Payload}
+use Rattle.turn_client_proto_steps.specs.Api.Payloads.{PeerPayload}
+use Rattle.turn_client_proto_steps.specs.Core.declared.protocol.Protocol.{Protocol}
+use Rattle.turn_client_proto_steps.specs.Payloads.{payload_of}
+use Rattle.turn_client_proto_steps.specs.Payload.{Payload}
 use Rattle.turn_client_proto_receipt.specs.HandingIn.{IsFrameTaken, IsHandedIn, taken_as}
 use Rattle.turn_client_proto_receipt.specs.Pieces.{IsFrameHandled, data_taken}
 use Rattle.turn_types.specs.StreamAnswers.{IsNone, after_look, looked}

@@ -7,13 +7,13 @@ use Rattle.stun_types.specs.ParseErrors.{StunParseError}
 use Rattle.turn_types.specs.ChannelFrames.{channel_refusal}
 use Rattle.turn_types.specs.StreamAnswers.{after_look}
 use Rattle.turn_types.specs.Streams.{Stream}
-use Rattle.turn_client_proto_poll.specs.Api.Payloads.{PeerPayload}
-use Rattle.turn_client_proto_poll.specs.Core.Receiving.{IsHeardIn}
-use Rattle.turn_client_proto_poll.specs.Core.declared.protocol.Phase.{Phase}
-use Rattle.turn_client_proto_poll.specs.Core.declared.protocol.Phase.TheVariants.{Ended}
-use Rattle.turn_client_proto_poll.specs.Core.declared.protocol.Protocol.{Protocol}
-use Rattle.turn_client_proto_poll.specs.Payloads.{payload_framed, payload_of, payload_told}
-use Rattle.turn_client_proto_poll.specs.declared.payload.Payload.{Payload}
+use Rattle.turn_client_proto_steps.specs.Api.Payloads.{PeerPayload}
+use Rattle.turn_client_proto_steps.specs.Core.Receiving.{IsHeardIn}
+use Rattle.turn_client_proto_steps.specs.Core.declared.protocol.Phase.{Phase}
+use Rattle.turn_client_proto_steps.specs.Core.declared.protocol.Phase.TheVariants.{Ended}
+use Rattle.turn_client_proto_steps.specs.Core.declared.protocol.Protocol.{Protocol}
+use Rattle.turn_client_proto_steps.specs.Payloads.{payload_framed, payload_of, payload_told}
+use Rattle.turn_client_proto_steps.specs.Payload.{Payload}
 use Rattle.turn_client_proto_receipt.specs.HandingIn.{IsHandedIn, taken_as, unread_as}
 use Rattle.turn_client_proto_receipt.specs.Pieces.{IsFrameHandled, data_taken}
 use Rattle.turn_client_proto_receipt.specs.Pulls.{Ends, Gives, Goes, IsPulled, frame_of}

@@ -1,7 +1,7 @@
 -- A client that fails at once.
 use Rattle.std.proofs.Common.{◌≡◌, List, [], ◌∷◌, take, length, refl, ap, inl}
-use Rattle.turn_client_proto_poll.specs.Core.Ending.{HasFailed, failed}
-use Rattle.turn_client_proto_poll.specs.Core.declared.protocol.Protocol.{Protocol}
+use Rattle.turn_client_proto_steps.specs.Core.Ending.{HasFailed, failed}
+use Rattle.turn_client_proto_steps.specs.Core.declared.protocol.Protocol.{Protocol}
 
 take_all : {A : Type 0} (xs : List A) → take (length xs) xs ≡ xs
 take_all [] = refl

@@ -12,3 +12,24 @@ pub mod Streamed
 pub mod Taking
 pub mod Waiting
 pub mod Order
+-- What stands above this crate has these through it.
+pub use Rattle.turn_client_proto_steps.proofs.Keeps
+pub use Rattle.turn_client_proto_steps.proofs.Request
+pub use Rattle.turn_client_proto_steps.proofs.Safe
+pub use Rattle.turn_client_proto_steps.proofs.Beginning as FirstClient
+pub use Rattle.turn_client_proto_steps.proofs.Drawing
+pub use Rattle.turn_client_proto_steps.proofs.Ending
+pub use Rattle.turn_client_proto_steps.proofs.Frames
+pub use Rattle.turn_client_proto_steps.proofs.Giving
+pub use Rattle.turn_client_proto_steps.proofs.Lists
+pub use Rattle.turn_client_proto_steps.proofs.OfPeers
+pub use Rattle.turn_client_proto_steps.proofs.Once
+pub use Rattle.turn_client_proto_steps.proofs.Polling
+pub use Rattle.turn_client_proto_steps.proofs.Receiving
+pub use Rattle.turn_client_proto_steps.proofs.Refreshing
+pub use Rattle.turn_client_proto_steps.proofs.Requesting
+pub use Rattle.turn_client_proto_steps.proofs.RequestingChannels
+pub use Rattle.turn_client_proto_steps.proofs.Sending
+pub use Rattle.turn_client_proto_steps.proofs.Showing
+pub use Rattle.turn_client_proto_steps.proofs.Shown
+pub use Rattle.turn_client_proto_steps.proofs.ShownChannels

@@ -4,9 +4,9 @@ use Rattle.std.specs.Prelude.{OnErr, is_some}
 use Rattle.std.proofs.lemmas.Bool.{cases_Bool}
 use Rattle.turn_types.specs.StreamAnswers.{IsNone, after_look, looked}
 use Rattle.turn_types.specs.Streams.{Stream, alive}
-use Rattle.turn_client_proto_poll.specs.Api.Payloads.{PeerPayload}
-use Rattle.turn_client_proto_poll.specs.Core.Ending.{HasFailed}
-use Rattle.turn_client_proto_poll.specs.Core.declared.protocol.Protocol.{Protocol}
+use Rattle.turn_client_proto_steps.specs.Api.Payloads.{PeerPayload}
+use Rattle.turn_client_proto_steps.specs.Core.Ending.{HasFailed}
+use Rattle.turn_client_proto_steps.specs.Core.declared.protocol.Protocol.{Protocol}
 use Rattle.turn_client_proto_receipt.specs.Pieces.{Here, IsFrameHandled, IsLostOn, IsTakenOff, Later, Needs}
 use Rattle.turn_client_proto_receipt.specs.Pulls.{Ends, Gives, Goes, IsPulled, frame_of}
 use Rattle.turn_client_proto_receipt.proofs.Steps.{step_of}

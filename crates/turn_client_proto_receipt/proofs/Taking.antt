@@ -12,17 +12,17 @@ use Rattle.turn_types_frame.specs.declared.front.Front.{Front}
 use Rattle.turn_types_frame.specs.declared.front.Front.TheVariants.{Message, Channel, Partial, Broken as BrokenFront}
 use Rattle.turn_types_frame.specs.StreamFronts.{given_of}
 use Rattle.turn_types_frame.specs.Streams.{Stream}
-use Rattle.turn_client_proto_poll.specs.Api.Payloads.{part_of}
-use Rattle.turn_client_proto_poll.specs.Api.declared.answer.TurnRecvRet.{TurnRecvRet}
-use Rattle.turn_client_proto_poll.specs.Api.declared.answer.TurnRecvRet.TheVariants as recv
-use Rattle.turn_client_proto_poll.specs.Core.Ending.{HasFailed}
-use Rattle.turn_client_proto_poll.specs.Core.Receiving.{MayGrow}
-use Rattle.turn_client_proto_poll.specs.Core.declared.protocol.Protocol.{Protocol}
-use Rattle.turn_client_proto_poll.specs.OfPeers.{end_of}
-use Rattle.turn_client_proto_poll.specs.Payloads.{payload_of}
-use Rattle.turn_client_proto_poll.specs.declared.payload.Payload.{Payload}
-use Rattle.turn_client_proto_poll.specs.declared.payload.Payload.TheVariants.{Data, Framed, Report}
-use Rattle.turn_client_proto_poll.proofs.OfPeers.{payload_of_peer}
+use Rattle.turn_client_proto_steps.specs.Api.Payloads.{part_of}
+use Rattle.turn_client_proto_steps.specs.Api.declared.answer.TurnRecvRet.{TurnRecvRet}
+use Rattle.turn_client_proto_steps.specs.Api.declared.answer.TurnRecvRet.TheVariants as recv
+use Rattle.turn_client_proto_steps.specs.Core.Ending.{HasFailed}
+use Rattle.turn_client_proto_steps.specs.Core.Receiving.{MayGrow}
+use Rattle.turn_client_proto_steps.specs.Core.declared.protocol.Protocol.{Protocol}
+use Rattle.turn_client_proto_steps.specs.OfPeers.{end_of}
+use Rattle.turn_client_proto_steps.specs.Payloads.{payload_of}
+use Rattle.turn_client_proto_steps.specs.Payload.{Payload}
+use Rattle.turn_client_proto_steps.specs.Payload.TheVariants.{Data, Framed, Report}
+use Rattle.turn_client_proto_steps.proofs.OfPeers.{payload_of_peer}
 use Rattle.turn_client_proto_receipt.specs.Datagrams.{IsHandedOver}
 use Rattle.turn_client_proto_receipt.specs.HandingIn.{IsFrameTaken, IsHandedIn, taken_as, unread_as}
 use Rattle.turn_client_proto_receipt.specs.Pieces.{AtFrame, Behind, Broken, First, FirstLost, FirstTaken, Grew, HasBegun, IsBehind, IsFirstAnswered, IsHandedAs, IsPayloadAnswered, IsPieceTaken, Lost, LostBehind, LostLater, OfItsOwn, Pulled, Refused, Takes, ToldApart}

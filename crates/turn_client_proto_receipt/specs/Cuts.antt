@@ -2,9 +2,9 @@
 use Rattle.std.specs.Prelude.{◌≡◌, ◌≢◌, ℕ, true, List, [], ◌∷◌, ◌++◌, map, Some, None}
 use Rattle.stun_types.specs.declared.transmit.Transmit.{Transmit}
 use Rattle.turn_types.specs.Streams.{alive, fed}
-use Rattle.turn_client_proto_poll.specs.Api.Payloads.{PeerPayload}
-use Rattle.turn_client_proto_poll.specs.Api.declared.answer.TurnRecvRet.{TurnRecvRet}
-use Rattle.turn_client_proto_poll.specs.Api.declared.answer.TurnRecvRet.TheVariants.{Handled, Ignored, NoMemory, PeerData, PeerIcmp}
+use Rattle.turn_client_proto_steps.specs.Api.Payloads.{PeerPayload}
+use Rattle.turn_client_proto_steps.specs.Api.declared.answer.TurnRecvRet.{TurnRecvRet}
+use Rattle.turn_client_proto_steps.specs.Api.declared.answer.TurnRecvRet.TheVariants.{Handled, Ignored, NoMemory, PeerData, PeerIcmp}
 use Rattle.turn_client_proto_receipt.specs.Control.{Open}
 use Rattle.turn_client_proto_receipt.specs.Kept.{Kept}
 use Rattle.turn_client_proto_receipt.specs.Pieces.{owned_if}

@@ -5,15 +5,15 @@ use Rattle.stun_types.specs.Grammar.{refusal}
 use Rattle.stun_types.specs.ParseErrors.{StunParseError}
 use Rattle.stun_types.specs.declared.transmit.Transmit.{Transmit}
 use Rattle.stun_types.specs.declared.transport.TransportType.{TransportType}
-use Rattle.turn_client_proto_poll.specs.Api.Payloads.{PeerPayload, part_of}
-use Rattle.turn_client_proto_poll.specs.Api.declared.answer.TurnRecvRet.{TurnRecvRet}
-use Rattle.turn_client_proto_poll.specs.Api.declared.answer.TurnRecvRet.TheVariants.{Handled, Ignored, NoMemory, PeerData, PeerIcmp}
-use Rattle.turn_client_proto_poll.specs.Core.Ending.{HasFailed}
-use Rattle.turn_client_proto_poll.specs.Core.Receiving.{IsHeard, MayGrow}
-use Rattle.turn_client_proto_poll.specs.Core.declared.protocol.Protocol.{Protocol}
-use Rattle.turn_client_proto_poll.specs.Payloads.{payload_of}
-use Rattle.turn_client_proto_poll.specs.declared.payload.Payload.{Payload}
-use Rattle.turn_client_proto_poll.specs.declared.payload.Payload.TheVariants.{Data, Framed, Report}
+use Rattle.turn_client_proto_steps.specs.Api.Payloads.{PeerPayload, part_of}
+use Rattle.turn_client_proto_steps.specs.Api.declared.answer.TurnRecvRet.{TurnRecvRet}
+use Rattle.turn_client_proto_steps.specs.Api.declared.answer.TurnRecvRet.TheVariants.{Handled, Ignored, NoMemory, PeerData, PeerIcmp}
+use Rattle.turn_client_proto_steps.specs.Core.Ending.{HasFailed}
+use Rattle.turn_client_proto_steps.specs.Core.Receiving.{IsHeard, MayGrow}
+use Rattle.turn_client_proto_steps.specs.Core.declared.protocol.Protocol.{Protocol}
+use Rattle.turn_client_proto_steps.specs.Payloads.{payload_of}
+use Rattle.turn_client_proto_steps.specs.Payload.{Payload}
+use Rattle.turn_client_proto_steps.specs.Payload.TheVariants.{Data, Framed, Report}
 
 -- a datagram that came from the server to the client's own address, by the client's transport
 pub record IsOfServer {T : Type 0} (p : Protocol) (came : Transmit T) : Type 0 where

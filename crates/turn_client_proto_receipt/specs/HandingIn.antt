@@ -3,9 +3,9 @@ use Rattle.std.specs.Prelude.{◌≡◌, ℕ, Bool, true, false, List, Option, N
 use Rattle.stun_types.specs.Grammar.{refusal}
 use Rattle.stun_types.specs.ParseErrors.{StunParseError}
 use Rattle.turn_types.specs.ChannelFrames.{channel_refusal}
-use Rattle.turn_client_proto_poll.specs.Core.Receiving.{IsHeard}
-use Rattle.turn_client_proto_poll.specs.Core.declared.protocol.Protocol.{Protocol}
-use Rattle.turn_client_proto_poll.specs.Payloads.{payload_of}
+use Rattle.turn_client_proto_steps.specs.Core.Receiving.{IsHeard}
+use Rattle.turn_client_proto_steps.specs.Core.declared.protocol.Protocol.{Protocol}
+use Rattle.turn_client_proto_steps.specs.Payloads.{payload_of}
 use Rattle.turn_client_proto_receipt.specs.declared.handing.Taken.{Taken}
 use Rattle.turn_client_proto_receipt.specs.declared.handing.Taken.TheVariants.{Given, Handled, Ignored, Garbled}
 

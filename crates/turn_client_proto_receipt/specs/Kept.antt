@@ -1,6 +1,6 @@
 -- What a client keeps, over either transport.
 use Rattle.std.specs.Prelude.{◌≡◌}
-pub use Rattle.turn_client_proto_poll.specs.Core.declared.protocol.Protocol.{Protocol}
+pub use Rattle.turn_client_proto_steps.specs.Core.declared.protocol.Protocol.{Protocol}
 use Rattle.turn_client_proto_receipt.specs.Control.{Control, Datagrams}
 
 pub record Kept : Type 0 where

@@ -1,7 +1,7 @@
 -- What is taken up of a stream, as a whole list: the frames at its front, in order, once each (RFC 8656, section 12.5).
 use Rattle.std.specs.Prelude.{◌≡◌, ℕ, List, [], ◌∷◌, ◌++◌, Option, None, Some, MatchOption}
-use Rattle.turn_client_proto_poll.specs.Api.Payloads.{PeerPayload}
-use Rattle.turn_client_proto_poll.specs.Core.declared.protocol.Protocol.{Protocol}
+use Rattle.turn_client_proto_steps.specs.Api.Payloads.{PeerPayload}
+use Rattle.turn_client_proto_steps.specs.Core.declared.protocol.Protocol.{Protocol}
 use Rattle.turn_client_proto_receipt.specs.HandingIn.{IsFrameTaken}
 use Rattle.turn_client_proto_receipt.specs.Pieces.{IsFrameHandled}
 use Rattle.turn_client_proto_receipt.specs.declared.handing.Taken.{Taken}

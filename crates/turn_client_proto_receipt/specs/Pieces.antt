@@ -6,15 +6,15 @@ use Rattle.stun_types.specs.declared.transmit.Transmit.{Transmit}
 use Rattle.stun_types.specs.declared.transport.TransportType.{TransportType}
 use Rattle.turn_types.specs.StreamAnswers.{IsNone, after_look, joined, looked}
 use Rattle.turn_types.specs.Streams.{Stream}
-use Rattle.turn_client_proto_poll.specs.Api.Payloads.{PeerPayload, part_of}
-use Rattle.turn_client_proto_poll.specs.Api.declared.answer.TurnRecvRet.{TurnRecvRet}
-use Rattle.turn_client_proto_poll.specs.Api.declared.answer.TurnRecvRet.TheVariants as recv
-use Rattle.turn_client_proto_poll.specs.Core.Ending.{HasFailed}
-use Rattle.turn_client_proto_poll.specs.Core.Receiving.{MayGrow}
-use Rattle.turn_client_proto_poll.specs.Core.declared.protocol.Protocol.{Protocol}
-use Rattle.turn_client_proto_poll.specs.Payloads.{payload_of}
-use Rattle.turn_client_proto_poll.specs.declared.payload.Payload.{Payload}
-use Rattle.turn_client_proto_poll.specs.declared.payload.Payload.TheVariants.{Data, Framed, Report}
+use Rattle.turn_client_proto_steps.specs.Api.Payloads.{PeerPayload, part_of}
+use Rattle.turn_client_proto_steps.specs.Api.declared.answer.TurnRecvRet.{TurnRecvRet}
+use Rattle.turn_client_proto_steps.specs.Api.declared.answer.TurnRecvRet.TheVariants as recv
+use Rattle.turn_client_proto_steps.specs.Core.Ending.{HasFailed}
+use Rattle.turn_client_proto_steps.specs.Core.Receiving.{MayGrow}
+use Rattle.turn_client_proto_steps.specs.Core.declared.protocol.Protocol.{Protocol}
+use Rattle.turn_client_proto_steps.specs.Payloads.{payload_of}
+use Rattle.turn_client_proto_steps.specs.Payload.{Payload}
+use Rattle.turn_client_proto_steps.specs.Payload.TheVariants.{Data, Framed, Report}
 use Rattle.turn_client_proto_receipt.specs.HandingIn.{IsFrameTaken, taken_as}
 use Rattle.turn_client_proto_receipt.specs.Pulls.{IsPulled, frame_of}
 use Rattle.turn_client_proto_receipt.specs.Datagrams.{IsHandledAs}

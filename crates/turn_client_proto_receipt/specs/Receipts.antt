@@ -2,10 +2,10 @@
 use Rattle.std.specs.Prelude.{◌≡◌, ◌≢◌, ℕ, Bool, false, is_none, List, [], Option, None, Some}
 use Rattle.stun_types.specs.declared.transmit.Transmit.{Transmit}
 use Rattle.turn_types.specs.Streams.{Stream}
-use Rattle.turn_client_proto_poll.specs.Api.Payloads.{PeerPayload}
-use Rattle.turn_client_proto_poll.specs.Api.declared.answer.TurnRecvRet.{TurnRecvRet}
-use Rattle.turn_client_proto_poll.specs.Api.declared.answer.TurnRecvRet.TheVariants.{Handled}
-use Rattle.turn_client_proto_poll.specs.Core.declared.protocol.Protocol.{Protocol}
+use Rattle.turn_client_proto_steps.specs.Api.Payloads.{PeerPayload}
+use Rattle.turn_client_proto_steps.specs.Api.declared.answer.TurnRecvRet.{TurnRecvRet}
+use Rattle.turn_client_proto_steps.specs.Api.declared.answer.TurnRecvRet.TheVariants.{Handled}
+use Rattle.turn_client_proto_steps.specs.Core.declared.protocol.Protocol.{Protocol}
 use Rattle.turn_client_proto_receipt.specs.Control.{Control, Datagrams, Open, Closed}
 use Rattle.turn_client_proto_receipt.specs.Datagrams.{IsDatagramTaken, IsGivenBack, IsOfServer}
 use Rattle.turn_client_proto_receipt.specs.Kept.{Kept}

@@ -8,8 +8,8 @@ use std::convert::AsSlice;
 use std::fmt::Debug;
 use stun_proto::Instant;
 use stun_types::{NoMemory, Transmit};
-use turn_client_proto_poll::api::answer::TurnRecvRet;
-use turn_client_proto_poll::protocol::Protocol;
+use turn_client_proto_steps::calls::api::answer::TurnRecvRet;
+use turn_client_proto_steps::calls::protocol::Protocol;
 
 /// Whether bytes came from the server to the client's own address, by its transport.
 pub fn is_of_server<T>(protocol: &Protocol, transmit: &Transmit<T>) -> bool

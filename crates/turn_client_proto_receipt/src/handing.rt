@@ -2,9 +2,9 @@
 
 ghost use Rattle.std.specs.Prelude.{◌≡◌, IfOk, None, OnErr};
 ghost use Rattle.stun_types.specs.Grammar.{refusal};
-ghost use Rattle.turn_client_proto_poll.specs.Core.Ending.{HasFailed};
-ghost use Rattle.turn_client_proto_poll.specs.Core.Receiving.{MayGrow};
-ghost use Rattle.turn_client_proto_poll.specs.Payloads.{payload_of};
+ghost use Rattle.turn_client_proto_steps.specs.Core.Ending.{HasFailed};
+ghost use Rattle.turn_client_proto_steps.specs.Core.Receiving.{MayGrow};
+ghost use Rattle.turn_client_proto_steps.specs.Payloads.{payload_of};
 ghost use Rattle.turn_client_proto_receipt.specs.HandingIn.{IsFrameTaken};
 ghost use Rattle.turn_client_proto_receipt.specs.Datagrams.{IsHandedOver};
 
@@ -13,10 +13,10 @@ use std::fmt::Debug;
 use stun_proto::Instant;
 use stun_types::message::Message;
 use stun_types::{NoMemory, Transmit};
-use turn_client_proto_poll::api::answer::TurnRecvRet;
-use turn_client_proto_poll::api::data::{DataRangeOrOwned, TurnPeerData};
-use turn_client_proto_poll::payload::{Payload, payload_framed, payload_in};
-use turn_client_proto_poll::protocol::Protocol;
+use turn_client_proto_steps::calls::api::answer::TurnRecvRet;
+use turn_client_proto_steps::calls::api::data::{DataRangeOrOwned, TurnPeerData};
+use turn_client_proto_steps::calls::payload::{Payload, payload_framed, payload_in};
+use turn_client_proto_steps::calls::protocol::Protocol;
 use turn_types::channel::ChannelData;
 
 /// What became of it.

@@ -3,10 +3,10 @@
 ghost use Rattle.std.specs.Prelude.{◌≡◌, ◌≢◌, ℕ, List, [], None, Option};
 ghost use Rattle.std.specs.List.{concat};
 ghost use Rattle.stun_types.specs.declared.transmit.Transmit.{Transmit};
-ghost use Rattle.turn_client_proto_poll.specs.Api.Payloads.{PeerPayload};
+ghost use Rattle.turn_client_proto_steps.specs.Api.Payloads.{PeerPayload};
 ghost use Rattle.turn_client_proto_receipt.specs.Cuts.{AreDrained, IsDrainedOut, pieces_of};
-ghost use Rattle.turn_client_proto_poll.specs.Api.declared.answer.TurnRecvRet.{TurnRecvRet};
-ghost use Rattle.turn_client_proto_poll.specs.Api.declared.answer.TurnRecvRet.TheVariants.{NoMemory};
+ghost use Rattle.turn_client_proto_steps.specs.Api.declared.answer.TurnRecvRet.{TurnRecvRet};
+ghost use Rattle.turn_client_proto_steps.specs.Api.declared.answer.TurnRecvRet.TheVariants.{NoMemory};
 ghost use Rattle.turn_client_proto_receipt.specs.Control.{Open};
 ghost use Rattle.turn_client_proto_receipt.specs.Kept.{Kept, Protocol};
 ghost use Rattle.turn_client_proto_receipt.specs.Order.{AreFirstGiven, AreFirstTaken};
@@ -14,7 +14,7 @@ ghost use Rattle.turn_client_proto_receipt.specs.Pieces.{IsFrameHandled};
 ghost use Rattle.turn_client_proto_receipt.specs.Pulls.{IsPulled};
 ghost use Rattle.turn_client_proto_receipt.specs.Receipts.{IsOfStream, IsReceived, IsWaitingGiven};
 ghost use Rattle.turn_client_proto_receipt.specs.Waiting.{frames_waiting, whole_frames};
-ghost use Rattle.turn_client_proto_poll.specs.Core.Ending.{HasFailed};
+ghost use Rattle.turn_client_proto_steps.specs.Core.Ending.{HasFailed};
 ghost use Rattle.turn_types.specs.StreamAnswers.{joined};
 ghost use Rattle.turn_types.specs.Streams.{Stream};
 

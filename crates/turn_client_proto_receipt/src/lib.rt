@@ -11,3 +11,6 @@ pub mod laws;
 pub mod piece;
 pub mod pulling;
 pub mod stream;
+
+// What stands above this crate has the calls through it.
+pub use turn_client_proto_steps::calls;

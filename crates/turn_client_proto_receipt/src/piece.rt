@@ -9,9 +9,9 @@ use std::convert::AsSlice;
 use std::fmt::Debug;
 use stun_proto::Instant;
 use stun_types::{NoMemory, Transmit};
-use turn_client_proto_poll::api::answer::TurnRecvRet;
-use turn_client_proto_poll::payload::Payload;
-use turn_client_proto_poll::protocol::Protocol;
+use turn_client_proto_steps::calls::api::answer::TurnRecvRet;
+use turn_client_proto_steps::calls::payload::Payload;
+use turn_client_proto_steps::calls::protocol::Protocol;
 use turn_types::tcp::{IncomingTcp, TurnTcpBuffer};
 
 /// A piece came. The first frame that is whole then is taken up, and what it gives of a peer is answered:

@@ -1,7 +1,7 @@
 //! The frames that wait in a client's stream, taken one by one.
 
 ghost use Rattle.std.specs.Prelude.{◌≡◌, IfOk, OnErr};
-ghost use Rattle.turn_client_proto_poll.specs.Core.Ending.{HasFailed};
+ghost use Rattle.turn_client_proto_steps.specs.Core.Ending.{HasFailed};
 ghost use Rattle.turn_client_proto_receipt.specs.Pieces.{GivesData, Needs, data_given};
 ghost use Rattle.turn_client_proto_receipt.specs.Pieces.{IsFrameHandled, IsLostOn, IsTakenOff};
 ghost use Rattle.turn_client_proto_receipt.specs.Pulls.{IsPulled, frame_of};
@@ -13,9 +13,9 @@ use std::convert::AsSlice;
 use std::fmt::Debug;
 use stun_proto::Instant;
 use stun_types::NoMemory;
-use turn_client_proto_poll::api::data::{DataRangeOrOwned, TurnPeerData};
-use turn_client_proto_poll::payload::Payload;
-use turn_client_proto_poll::protocol::Protocol;
+use turn_client_proto_steps::calls::api::data::{DataRangeOrOwned, TurnPeerData};
+use turn_client_proto_steps::calls::payload::Payload;
+use turn_client_proto_steps::calls::protocol::Protocol;
 use turn_types::tcp::TurnTcpBuffer;
 
 /// The client was refused memory, and fails.

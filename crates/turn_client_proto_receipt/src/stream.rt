@@ -12,9 +12,9 @@ use std::convert::AsSlice;
 use std::fmt::Debug;
 use stun_proto::Instant;
 use stun_types::{NoMemory, Transmit};
-use turn_client_proto_poll::api::answer::TurnRecvRet;
-use turn_client_proto_poll::api::data::TurnPeerData;
-use turn_client_proto_poll::protocol::Protocol;
+use turn_client_proto_steps::calls::api::answer::TurnRecvRet;
+use turn_client_proto_steps::calls::api::data::TurnPeerData;
+use turn_client_proto_steps::calls::protocol::Protocol;
 use turn_types::tcp::TurnTcpBuffer;
 
 /// Whether a piece is one of the stream that comes from the server, to a client that has not failed.

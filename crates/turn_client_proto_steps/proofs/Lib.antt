@@ -44,3 +44,6 @@ pub mod Taken
 pub mod Wanting
 -- What stands above this crate has these through it.
 pub use Rattle.turn_client_proto_poll.proofs.OfPeers
+pub use Rattle.turn_client_proto_poll.proofs.Keeps
+pub use Rattle.turn_client_proto_poll.proofs.Request
+pub use Rattle.turn_client_proto_poll.proofs.Safe

@@ -6,3 +6,20 @@ pub mod Beginning
 pub mod RunSteps
 -- What stands above this crate has these through it.
 pub use Rattle.turn_client_proto_poll.specs.declared.payload.Payload
+pub use Rattle.turn_client_proto_poll.specs.Core
+pub use Rattle.turn_client_proto_poll.specs.Allocation
+pub use Rattle.turn_client_proto_poll.specs.Api
+pub use Rattle.turn_client_proto_poll.specs.Channel
+pub use Rattle.turn_client_proto_poll.specs.Permission
+pub use Rattle.turn_client_proto_poll.specs.Drawing
+pub use Rattle.turn_client_proto_poll.specs.Headline
+pub use Rattle.turn_client_proto_poll.specs.Indications
+pub use Rattle.turn_client_proto_poll.specs.Members
+pub use Rattle.turn_client_proto_poll.specs.Messages
+pub use Rattle.turn_client_proto_poll.specs.OfPeers
+pub use Rattle.turn_client_proto_poll.specs.Payloads
+pub use Rattle.turn_client_proto_poll.specs.Polling
+pub use Rattle.turn_client_proto_poll.specs.Runs
+pub use Rattle.turn_client_proto_poll.specs.Sending
+pub use Rattle.turn_client_proto_poll.specs.Steps
+pub use Rattle.turn_client_proto_poll.specs.Words

@@ -11,6 +11,7 @@
 pub mod definite;
 pub mod framed;
 
+// What stands above this crate has the calls through it.
 ghost use Rattle.std.specs.Prelude.{◌≤◌, ℕ, List, length, ◌≡◌, ◌++◌, Bool, true, [], ◌∷◌, Option, None, Some, Result, option_to_list};
 ghost use Rattle.std.specs.declared.net.ip_addr.IpAddr.{IpAddr};
 ghost use Rattle.std.specs.declared.net.socket_addr.SocketAddr.{SocketAddr};
@@ -54,6 +55,8 @@ ghost use Rattle.turn_client_proto_poll.specs.Sending.{IsSendAnswered};
 ghost use Rattle.turn_client_proto_poll.specs.declared.payload.Payload.{Payload};
 ghost use Rattle.turn_client_proto_poll.specs.Core.Receiving.{IsHeard};
 ghost use Rattle.turn_client_proto_steps.specs.RunSteps.{IsGiving, IsReceiving, IsRunStep, IsSilent};
+
+pub use turn_client_proto_poll as calls;
 
 /// What a run tells of a desk. It has no code; the law of new clients holds for every one.
 pub trait Desk {

@@ -4,7 +4,7 @@ use Rattle.std.specs.List.{AllByRecursion}
 use Rattle.std.specs.declared.net.socket_addr.SocketAddr.{SocketAddr}
 use Rattle.stun_types.specs.Addresses as addresses
 use Rattle.turn_client_proto.proofs.Request.Peers.{peer_read}
-use Rattle.turn_client_proto_steps.specs.Sound.{IsWhole}
+use Rattle.turn_client_proto.specs.Sound.{IsWhole}
 use Rattle.turn_desk_steps.specs.DeskRun.{AreTold}
 use Rattle.turn_desk_world.specs.Told.{IsReadBack}
 

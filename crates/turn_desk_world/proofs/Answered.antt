@@ -18,10 +18,10 @@ use Rattle.turn_client_proto.specs.Messages.{Held, NamesHeld, Payload, Permissio
 use Rattle.turn_client_proto.specs.Receipts.{End, IsReceivedBy, IsStreamed, Piece, Strange}
 use Rattle.turn_client_proto.specs.Runs.{Step, AtClient, AtEach, IsLawful}
 use Rattle.turn_client_proto.specs.Steps.{Call as StepCall, IsDelivered}
-use Rattle.turn_client_proto_steps.specs.ClientWords.{client_words}
-use Rattle.turn_client_proto_steps.specs.RunClient.{Client}
-use Rattle.turn_client_proto_steps.proofs.Lists.{inside, nothing_behind}
-use Rattle.turn_client_proto_steps.proofs.Polling.{by_test}
+use Rattle.turn_client_proto.specs.ClientWords.{client_words}
+use Rattle.turn_client_proto.specs.RunClient.{Client}
+use Rattle.turn_client_proto.proofs.Lists.{inside, nothing_behind}
+use Rattle.turn_client_proto.proofs.Polling.{by_test}
 use Rattle.turn_desk_event.specs.declared.answer.Answer.{Answer}
 use Rattle.turn_desk_event.specs.declared.answer.Answer.TheVariants as answer
 use Rattle.turn_desk_event.specs.declared.event.ClientCall.{ClientCall}

@@ -25,20 +25,20 @@ use Rattle.turn_client_proto.specs.Kept.{Kept, Protocol, over_udp}
 use Rattle.turn_client_proto.specs.Payloads.{payload_of}
 use Rattle.turn_client_proto.specs.Datagrams.{Foreign, Heard, IsDatagramTaken, IsGivenBack, IsHandedOver, IsHandledAs, IsMessageTaken, IsRead, Lost, Own}
 use Rattle.turn_client_proto.specs.Steps.{Call, ClientStep}
-use Rattle.turn_client_proto_steps.specs.Payload.{Payload}
-use Rattle.turn_client_proto_steps.specs.ClientWords.{IsHeld, client_words}
-use Rattle.turn_client_proto_steps.specs.RunClient.{Client}
-use Rattle.turn_client_proto_steps.specs.RunSteps.{IsGiving, IsRunStep, call_of}
-use Rattle.turn_client_proto_steps.specs.Sound.{IsSound, IsWhole}
-use Rattle.turn_client_proto_steps.proofs.Drawing.{draw_step}
-use Rattle.turn_client_proto_steps.proofs.Ending.{ended_step, event_step, failed_step, still}
-use Rattle.turn_client_proto_steps.proofs.Giving.{giving_step}
-use Rattle.turn_client_proto_steps.proofs.Polling.{poll_step}
-use Rattle.turn_client_proto_steps.proofs.Receiving.{receive_step}
-use Rattle.turn_client_proto_steps.proofs.Refreshing.{delete_step}
-use Rattle.turn_client_proto_steps.proofs.Requesting.{permission_step}
-use Rattle.turn_client_proto_steps.proofs.RequestingChannels.{bind_step}
-use Rattle.turn_client_proto_steps.proofs.Sending.{send_step}
+use Rattle.turn_client_proto.specs.Payload.{Payload}
+use Rattle.turn_client_proto.specs.ClientWords.{IsHeld, client_words}
+use Rattle.turn_client_proto.specs.RunClient.{Client}
+use Rattle.turn_client_proto.specs.RunSteps.{IsGiving, IsRunStep, call_of}
+use Rattle.turn_client_proto.specs.Sound.{IsSound, IsWhole}
+use Rattle.turn_client_proto.proofs.Drawing.{draw_step}
+use Rattle.turn_client_proto.proofs.Ending.{ended_step, event_step, failed_step, still}
+use Rattle.turn_client_proto.proofs.Giving.{giving_step}
+use Rattle.turn_client_proto.proofs.Polling.{poll_step}
+use Rattle.turn_client_proto.proofs.Receiving.{receive_step}
+use Rattle.turn_client_proto.proofs.Refreshing.{delete_step}
+use Rattle.turn_client_proto.proofs.Requesting.{permission_step}
+use Rattle.turn_client_proto.proofs.RequestingChannels.{bind_step}
+use Rattle.turn_client_proto.proofs.Sending.{send_step}
 use Rattle.turn_desk_event.specs.declared.answer.Answer.{Answer}
 use Rattle.turn_desk_event.specs.declared.answer.Answer.TheVariants as answer
 use Rattle.turn_desk_event.specs.declared.answer.Refusal.TheVariants.{BindChannel as BindRefused, CreatePermission as PermissionRefused, Delete as DeleteRefused, Send as SendRefused}

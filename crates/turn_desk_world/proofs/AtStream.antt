@@ -28,13 +28,13 @@ use Rattle.turn_client_proto.specs.Taken.{Taken}
 use Rattle.turn_client_proto.specs.Taken.TheVariants.{Given, Garbled}
 use Rattle.turn_client_proto.specs.Waiting.{completed, whole_frames}
 use Rattle.turn_client_proto.proofs.Waiting.{first_waits, frame_bytes, left_bytes, none_behind, none_waits, piece_completes}
-use Rattle.turn_client_proto_steps.specs.Payload.{Payload}
-use Rattle.turn_client_proto_steps.specs.ClientWords.{client_words}
-use Rattle.turn_client_proto_steps.specs.RunClient.{Client}
-use Rattle.turn_client_proto_steps.specs.RunSteps.{IsComing, IsTakingUp, call_of}
-use Rattle.turn_client_proto_steps.specs.Sound.{IsSound}
-use Rattle.turn_client_proto_steps.proofs.Frames.{coming_step, handing_step, hearing_step, passing_step}
-use Rattle.turn_client_proto_steps.proofs.Lists.{in_either}
+use Rattle.turn_client_proto.specs.Payload.{Payload}
+use Rattle.turn_client_proto.specs.ClientWords.{client_words}
+use Rattle.turn_client_proto.specs.RunClient.{Client}
+use Rattle.turn_client_proto.specs.RunSteps.{IsComing, IsTakingUp, call_of}
+use Rattle.turn_client_proto.specs.Sound.{IsSound}
+use Rattle.turn_client_proto.proofs.Frames.{coming_step, handing_step, hearing_step, passing_step}
+use Rattle.turn_client_proto.proofs.Lists.{in_either}
 use Rattle.turn_desk_event.specs.declared.answer.Answer.{Answer}
 use Rattle.turn_desk_event.specs.declared.answer.Answer.TheVariants as answer
 use Rattle.turn_desk_world.specs.Calls.{IsTold}

@@ -13,7 +13,7 @@ use Rattle.turn_client_proto.specs.Control.{Control, Datagrams, Open}
 use Rattle.turn_client_proto.specs.Kept.{Kept}
 use Rattle.turn_client_proto.specs.Waiting.{bytes_waiting, frames_waiting}
 use Rattle.turn_client_proto.proofs.Waiting.{none_waits}
-use Rattle.turn_client_proto_steps.specs.Beginning.{first_client}
+use Rattle.turn_client_proto.specs.FirstClient.{first_client}
 use Rattle.turn_desk_world.specs.Model.{World}
 use Rattle.turn_desk_world.specs.Safety.{BeginsNew}
 use Rattle.turn_desk_world.specs.Told.{IsAt}

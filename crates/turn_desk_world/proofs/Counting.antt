@@ -12,8 +12,8 @@ use Rattle.turn_client_proto.specs.Kept.{Kept, Leaves, Protocol}
 use Rattle.turn_client_proto.specs.Steps.{Call as StepCall}
 use Rattle.turn_client_proto.specs.Waiting.{whole_frames}
 use Rattle.turn_client_proto.proofs.Definite.{taken_same}
-use Rattle.turn_client_proto_steps.specs.RunClient.{Client, numbers_between}
-use Rattle.turn_client_proto_steps.proofs.Lists.{inside}
+use Rattle.turn_client_proto.specs.RunClient.{Client, numbers_between}
+use Rattle.turn_client_proto.proofs.Lists.{inside}
 use Rattle.turn_desk_event.specs.declared.answer.Answer.{Answer}
 use Rattle.turn_desk_event.specs.declared.answer.Answer.TheVariants as answer
 use Rattle.turn_desk_event.specs.declared.event.ClientCall.{ClientCall}

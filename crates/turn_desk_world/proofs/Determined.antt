@@ -30,12 +30,12 @@ use Rattle.turn_client_proto.proofs.Definite.{pulled_same}
 use Rattle.turn_client_proto.specs.Permitting.{IsPermissionAnswered}
 use Rattle.turn_client_proto.specs.Polling.{IsPolled}
 use Rattle.turn_desk_world.specs.Copies.{AreAlike, BothData, BothGivenBack, BothHandled, BothReports, IsCopy}
-use Rattle.turn_client_proto_steps.proofs.Lists.{inside}
-use Rattle.turn_client_proto_steps.proofs.Once.Calling.{delete_same, permission_same}
-use Rattle.turn_client_proto_steps.proofs.Once.Channels.{bind_same}
-use Rattle.turn_client_proto_steps.proofs.Once.Drawing.{draw_same}
-use Rattle.turn_client_proto_steps.proofs.Once.Polling.{poll_same}
-use Rattle.turn_client_proto_steps.proofs.Once.Sending.{send_same}
+use Rattle.turn_client_proto.proofs.Lists.{inside}
+use Rattle.turn_client_proto.proofs.Once.Calling.{delete_same, permission_same}
+use Rattle.turn_client_proto.proofs.Once.Channels.{bind_same}
+use Rattle.turn_client_proto.proofs.Once.Drawing.{draw_same}
+use Rattle.turn_client_proto.proofs.Once.Polling.{poll_same}
+use Rattle.turn_client_proto.proofs.Once.Sending.{send_same}
 use Rattle.turn_desk_world.proofs.Receiving.{kept_same, received_same}
 use Rattle.turn_desk_event.specs.declared.answer.Answer.{Answer}
 use Rattle.turn_desk_event.specs.declared.answer.Answer.TheVariants as answer

@@ -20,10 +20,10 @@ use Rattle.turn_client_proto.specs.OfPeers.{told_of}
 use Rattle.turn_client_proto.specs.Payloads.{carried_for, carried_over, payload_framed, payload_of, payload_told, permitted}
 use Rattle.turn_client_proto.specs.Datagrams.{IsHandedOver}
 use Rattle.turn_client_proto.specs.Pieces.{IsHandedAs, apart, data_given, owned_if}
-use Rattle.turn_client_proto_steps.specs.Payload.{Payload}
-use Rattle.turn_client_proto_steps.specs.Payload.TheVariants.{Data, Framed, Report}
-use Rattle.turn_client_proto_steps.proofs.OfPeers.{payload_of_peer}
-use Rattle.turn_client_proto_steps.proofs.Lists.{inside}
+use Rattle.turn_client_proto.specs.Payload.{Payload}
+use Rattle.turn_client_proto.specs.Payload.TheVariants.{Data, Framed, Report}
+use Rattle.turn_client_proto.proofs.OfPeers.{payload_of_peer}
+use Rattle.turn_client_proto.proofs.Lists.{inside}
 use Rattle.turn_desk_world.specs.Told.{data_of, given_by}
 
 -- ---- a message gives no channel's data

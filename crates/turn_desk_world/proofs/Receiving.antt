@@ -11,10 +11,10 @@ use Rattle.turn_client_proto.specs.Payloads.{payload_of}
 use Rattle.turn_client_proto.specs.Datagrams.{Foreign, Heard, IsDatagramTaken, IsGivenBack, IsHandedOver, IsHandledAs, IsMessageTaken, IsOfServer, IsRead, Lost, Own, in_place}
 use Rattle.turn_client_proto.specs.Control.{Control, Datagrams, Open, Closed}
 use Rattle.turn_client_proto.specs.Receipts.{IsReceived, IsReceivedBy}
-use Rattle.turn_client_proto_steps.specs.Payload.{Payload}
-use Rattle.turn_client_proto_steps.specs.Payload.TheVariants.{Data, Framed, Report}
+use Rattle.turn_client_proto.specs.Payload.{Payload}
+use Rattle.turn_client_proto.specs.Payload.TheVariants.{Data, Framed, Report}
 use Rattle.turn_desk_world.specs.Copies.{AreAlike, BothData, BothGivenBack, BothHandled, BothReports, IsCopy}
-use Rattle.turn_client_proto_steps.proofs.Once.Hearing.{heard_definite}
+use Rattle.turn_client_proto.proofs.Once.Hearing.{heard_definite}
 use Rattle.turn_desk_world.proofs.Streaming.{streamed_same}
 
 module _ {T : Type 0} (items : T → List ℕ) (old : Protocol) (came copy : Transmit T) (now : ℕ) (answer again : TurnRecvRet T) (one other : Protocol) where

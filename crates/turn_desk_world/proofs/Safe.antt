@@ -4,9 +4,9 @@ use Rattle.turn_client_proto.specs.Headline.{IsPromised}
 use Rattle.turn_client_proto.specs.Runs.{IsCounted, IsNew, Step}
 use Rattle.turn_client_proto.proofs.Safe.{counted, promised}
 use Rattle.turn_desk_steps.proofs.Lawful.{lawful}
-use Rattle.turn_client_proto_steps.specs.Beginning.{first_client}
-use Rattle.turn_client_proto_steps.specs.RunClient.{Client}
-use Rattle.turn_client_proto_steps.proofs.Beginning.{new_sound, new_unasked}
+use Rattle.turn_client_proto.specs.FirstClient.{first_client}
+use Rattle.turn_client_proto.specs.RunClient.{Client}
+use Rattle.turn_client_proto.proofs.FirstClient.{new_sound, new_unasked}
 use Rattle.turn_desk_event.specs.declared.answer.Answer.{Answer}
 use Rattle.turn_desk_event.specs.declared.event.Event.{Event}
 use Rattle.turn_desk_steps.specs.DeskRun.{DeskCall, desk_words}

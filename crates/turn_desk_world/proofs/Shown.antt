@@ -10,10 +10,10 @@ use Rattle.turn_client_proto.specs.Allocation.Listed.{relayed_shown}
 use Rattle.turn_client_proto.specs.Channel.Shown.{channels_shown}
 use Rattle.turn_client_proto.specs.Permission.Shown.{addresses_of, permissions_at}
 use Rattle.turn_client_proto.specs.Kept.{Protocol}
-use Rattle.turn_client_proto_steps.specs.ClientWords.{IsHeld}
-use Rattle.turn_client_proto_steps.proofs.Lists.{in_map}
-use Rattle.turn_client_proto_steps.proofs.ShownChannels.{channel_held}
-use Rattle.turn_client_proto_steps.proofs.Shown.{had_held, permission_held, shown_held}
+use Rattle.turn_client_proto.specs.ClientWords.{IsHeld}
+use Rattle.turn_client_proto.proofs.Lists.{in_map}
+use Rattle.turn_client_proto.proofs.ShownChannels.{channel_held}
+use Rattle.turn_client_proto.proofs.Shown.{had_held, permission_held, shown_held}
 use Rattle.turn_desk_event.specs.declared.answer.Answer.{Answer}
 use Rattle.turn_desk_event.specs.declared.event.Event.{Event}
 use Rattle.turn_desk_world.specs.Told.{shown_in}

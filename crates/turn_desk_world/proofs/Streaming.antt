@@ -18,8 +18,8 @@ use Rattle.turn_client_proto.specs.Pulls.{IsPulled, frame_of}
 use Rattle.turn_client_proto.specs.Receipts.{End, IsOfStream, IsStreamed, Piece, Strange}
 use Rattle.turn_client_proto.specs.Taken.{Taken}
 use Rattle.turn_client_proto.specs.Taken.TheVariants.{Given, Garbled}
-use Rattle.turn_client_proto_steps.specs.Payload.{Payload}
-use Rattle.turn_client_proto_steps.specs.Payload.TheVariants.{Data, Framed, Report}
+use Rattle.turn_client_proto.specs.Payload.{Payload}
+use Rattle.turn_client_proto.specs.Payload.TheVariants.{Data, Framed, Report}
 use Rattle.turn_client_proto.proofs.Definite.{pulled_same, taken_same}
 use Rattle.turn_desk_world.specs.Copies.{AreAlike, BothData, BothGivenBack, BothHandled, BothReports, IsCopy}
 

@@ -19,14 +19,14 @@ use Rattle.turn_client_proto.specs.Receipts.{End, IsGivenBy, IsOfStream, IsStrea
 use Rattle.turn_client_proto.specs.Steps.{Call}
 use Rattle.turn_client_proto.specs.Waiting.{bytes_waiting, completed, frames_waiting, whole_frames}
 use Rattle.turn_client_proto.proofs.Waiting.{joined_bytes}
-use Rattle.turn_client_proto_steps.specs.ClientWords.{IsHeld, client_words}
-use Rattle.turn_client_proto_steps.specs.RunClient.{Client}
-use Rattle.turn_client_proto_steps.specs.RunSteps.{IsComing}
-use Rattle.turn_client_proto_steps.specs.Sound.{IsSound}
-use Rattle.turn_client_proto_steps.proofs.Frames.{coming_step}
-use Rattle.turn_client_proto_steps.proofs.Lists.{inside, nothing_behind}
-use Rattle.turn_client_proto_steps.proofs.Polling.{by_test}
-use Rattle.turn_client_proto_steps.proofs.Showing.{shows_step}
+use Rattle.turn_client_proto.specs.ClientWords.{IsHeld, client_words}
+use Rattle.turn_client_proto.specs.RunClient.{Client}
+use Rattle.turn_client_proto.specs.RunSteps.{IsComing}
+use Rattle.turn_client_proto.specs.Sound.{IsSound}
+use Rattle.turn_client_proto.proofs.Frames.{coming_step}
+use Rattle.turn_client_proto.proofs.Lists.{inside, nothing_behind}
+use Rattle.turn_client_proto.proofs.Polling.{by_test}
+use Rattle.turn_client_proto.proofs.Showing.{shows_step}
 use Rattle.turn_desk_event.specs.declared.answer.Answer.{Answer}
 use Rattle.turn_desk_event.specs.declared.answer.Answer.TheVariants as answer
 use Rattle.turn_desk_event.specs.declared.answer.Answer.TheVariants.{OutOfRange}

@@ -17,10 +17,10 @@ use Rattle.turn_client_proto.specs.Words.{Words}
 use Rattle.turn_client_proto.specs.Beginning.{IsNew}
 use Rattle.turn_client_proto.specs.Config.{Config}
 use Rattle.turn_client_proto.specs.Kept.{Protocol}
-use Rattle.turn_client_proto_steps.specs.Beginning.{first_client}
-use Rattle.turn_client_proto_steps.specs.ClientWords.{run_words}
-use Rattle.turn_client_proto_steps.specs.RunClient.{Client}
-use Rattle.turn_client_proto_steps.specs.Sound.{IsSound}
+use Rattle.turn_client_proto.specs.FirstClient.{first_client}
+use Rattle.turn_client_proto.specs.ClientWords.{run_words}
+use Rattle.turn_client_proto.specs.RunClient.{Client}
+use Rattle.turn_client_proto.specs.Sound.{IsSound}
 use Rattle.turn_desk_event.specs.declared.answer.Answer.{Answer}
 use Rattle.turn_desk_event.specs.declared.event.Event.{Event}
 use Rattle.turn_desk_steps.specs.DeskRun.{DeskCall, desk_words}

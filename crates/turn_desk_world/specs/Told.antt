@@ -27,9 +27,9 @@ use Rattle.turn_client_proto.specs.Runs.{Step, AtDesk}
 use Rattle.turn_runs.specs.Chains.{steps_of}
 use Rattle.turn_client_proto.specs.Steps.{Call}
 use Rattle.turn_client_proto.specs.Drawing.{sent_of}
-use Rattle.turn_client_proto_steps.specs.ClientWords.{notice_of}
-use Rattle.turn_client_proto_steps.specs.RunClient.{Client}
-use Rattle.turn_client_proto_steps.specs.Sound.{IsWhole}
+use Rattle.turn_client_proto.specs.ClientWords.{notice_of}
+use Rattle.turn_client_proto.specs.RunClient.{Client}
+use Rattle.turn_client_proto.specs.Sound.{IsWhole}
 use Rattle.turn_desk_event.specs.TurnRegistry.{xor_peer_address_kind}
 use Rattle.turn_desk_event.specs.declared.decision.Decision.{Decision}
 use Rattle.turn_desk_event.specs.declared.decision.Decision.TheVariants as by

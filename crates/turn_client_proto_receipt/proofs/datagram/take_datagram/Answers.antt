@@ -1,5 +1,5 @@
 use Rattle.std.proofs.Common.{refl}
-use Rattle.turn_client_proto_poll.specs.Api.declared.answer.TurnRecvRet.TheVariants as recv
+use Rattle.turn_client_proto_steps.specs.Api.declared.answer.TurnRecvRet.TheVariants as recv
 use Rattle.turn_client_proto_receipt.proofs.Received.{received_ok}
 use Rattle.turn_client_proto_receipt.specs.declared.handing.Taken.TheVariants.{Handled, Ignored, Garbled}
 use Rattle.turn_client_proto_receipt.proofs.datagram.take_datagram.Goals as goal

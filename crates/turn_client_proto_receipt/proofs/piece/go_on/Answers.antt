@@ -1,5 +1,5 @@
 use Rattle.std.proofs.Common.{subst}
-use Rattle.turn_client_proto_poll.specs.Api.declared.answer.TurnRecvRet.TheVariants as recv
+use Rattle.turn_client_proto_steps.specs.Api.declared.answer.TurnRecvRet.TheVariants as recv
 use Rattle.turn_client_proto_receipt.specs.Pieces.{IsFrameHandled}
 use Rattle.turn_client_proto_receipt.specs.Pulls.{IsPulled}
 use Rattle.turn_client_proto_receipt.proofs.Behind.{behind_none, behind_some, handled_so, ignored_so}

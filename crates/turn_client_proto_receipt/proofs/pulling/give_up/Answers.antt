@@ -1,5 +1,5 @@
 use Rattle.std.proofs.Common.{ap, subst, sym, ◌∙◌}
-use Rattle.turn_client_proto_poll.specs.Core.Ending.{HasFailed, failed}
+use Rattle.turn_client_proto_steps.specs.Core.Ending.{HasFailed, failed}
 use Rattle.turn_client_proto_receipt.proofs.Failing.{fails_at_once}
 use Rattle.turn_client_proto_receipt.proofs.pulling.give_up.Goals as goal
 
