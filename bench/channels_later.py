@@ -7,7 +7,7 @@ from channels import (
     lasting, of_both_families, renewing,
 )
 from permissions import (
-    DUE, FORBIDDEN, LAPSE, NAMED_ANEW, OTHER_NONCE, PEER_1, PEER_6, RELAYED_6, RENEWAL, holding,
+    DUE, FORBIDDEN, LAPSE, NAMED_ANEW, OTHER_NONCE, PEER_6, RELAYED_6, RENEWAL, answered_by, holding,
 )
 from traces import (
     BINDING, CHANNEL_BIND, CREATE_PERMISSION, HASHED, MS, NAMED, OTHER, PASSWORD_ALGORITHM,
@@ -18,6 +18,14 @@ from traces import (
 
 
 # ---- renewed, and lapsed
+
+
+def under_no_permission():
+    """A channel stands whose permission has lapsed."""
+    t = lasting(ONE)
+    t.poll(LAPSE, LAPSE)
+    t.event(f"PermissionCreateFailed udp {ONE_IP}")
+    return t
 
 
 def channel_renewed():
@@ -50,9 +58,7 @@ def channel_renewed():
 
 
 def renewal_without_a_permission():
-    t = lasting(ONE)
-    t.poll(LAPSE, LAPSE)
-    t.event(f"PermissionCreateFailed udp {ONE_IP}")
+    t = under_no_permission()
     t.poll(LAPSE, CHANNEL_DUE)
     t.channels((A, ONE))
     drawn = t.draw(CHANNEL_DUE, channel_bind(3, A, ONE))
@@ -101,9 +107,7 @@ def renewed_behind_a_refresh():
 
 
 def channel_renewal_forbidden():
-    t = lasting(ONE)
-    t.poll(LAPSE, LAPSE)
-    t.event(f"PermissionCreateFailed udp {ONE_IP}")
+    t = under_no_permission()
     drawn = t.draw(CHANNEL_DUE, channel_bind(3, A, ONE))
     t.decides(CHANNEL_DUE, drawn, "refuse 403", error(CHANNEL_BIND, 3, FORBIDDEN))
     failed(t, ONE, permission=False)
@@ -132,9 +136,7 @@ def permission_not_renewed_under_a_channel():
 
 
 def channel_renewal_lost():
-    t = lasting(ONE)
-    t.poll(LAPSE, LAPSE)
-    t.event(f"PermissionCreateFailed udp {ONE_IP}")
+    t = under_no_permission()
     t.draw(CHANNEL_DUE, channel_bind(3, A, ONE))
     t.poll(CHANNEL_DUE, CHANNEL_DUE + 500 * MS)
     slots = [500, 1500, 3500, 7500, 15500, 31500, 39500]
@@ -468,9 +470,7 @@ def forged_channel():
 
 
 def forged_channel_renewal():
-    t = lasting(ONE)
-    t.poll(LAPSE, LAPSE)
-    t.event(f"PermissionCreateFailed udp {ONE_IP}")
+    t = under_no_permission()
     drawn = t.draw(CHANNEL_DUE, channel_bind(3, A, ONE))
     t.hear(CHANNEL_DUE, unsigned(BOUND, 3, []), "ignored")
     t.hear(CHANNEL_DUE, message(BOUND, number(3), [], SHA1, b"evil"), "ignored")
@@ -502,13 +502,7 @@ def channel_of_another_method():
 
 
 def permission_answered_as_a_channel():
-    t = holding()
-    drawn = t.asks(50 * MS, 2, PEER_1)
-    t.hear(100 * MS, success(CHANNEL_BIND, 2), "ignored")
-    line = t.ask(100 * MS, f"@{drawn}", "grant", success(CREATE_PERMISSION, 2))
-    t.hear(100 * MS, f"@{line}", "ignored")
-    t.event("none")
-    t.has(PEER_1, "no")
+    t = answered_by(CHANNEL_BIND)
     t.channels()
     bound(t, 100 * MS, 3, A, ONE)
     return "A CREATE_PERMISSION is answered by a signed success of CHANNEL_BIND: there is neither", t

@@ -451,14 +451,20 @@ def forged_renewal():
     return "The same where a permission is to be renewed: it neither ends nor stands longer", t
 
 
-def permission_of_another_method():
+def answered_by(method):
+    """A CREATE_PERMISSION is answered by a signed success of another method, and then granted too late."""
     t = holding()
     drawn = t.asks(50 * MS, 2, PEER_1)
-    t.hear(100 * MS, success(BINDING, 2), "ignored")
+    t.hear(100 * MS, success(method, 2), "ignored")
     line = t.ask(100 * MS, f"@{drawn}", "grant", success(CREATE_PERMISSION, 2))
     t.hear(100 * MS, f"@{line}", "ignored")
     t.event("none")
     t.has(PEER_1, "no")
+    return t
+
+
+def permission_of_another_method():
+    t = answered_by(BINDING)
     t.permission(100 * MS, PEER_1, "refused AlreadyExists")
     t.poll(100 * MS, RENEWAL)
     return "A CREATE_PERMISSION is answered by a signed success of BINDING: its request ends, and stays pending", t
