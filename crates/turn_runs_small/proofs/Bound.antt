@@ -1,7 +1,7 @@
--- A getter that answers a channel behind some requests: there is an account where the desk granted that very
--- channel, and none elsewhere.
+-- A getter that answers something behind some requests, sixteen at most: an account shows that the desk granted just that
+-- by then. Where it answers a channel that was granted, there is an account.
 use Rattle.std.proofs.Common.{◌≡◌, ℕ, zero, suc, ◌<◌, ◌≤◌, List, [], ◌∷◌, map, Some, refl, ap, sym, ◌∙◌, subst, inl, inr, arith}
-use Rattle.turn_runs.specs.Headline.{IsGrantedAt, IsPromised, ShowsTraced, Unless}
+use Rattle.turn_runs.specs.Headline.{IsGrantedAt, IsPromised, ShowsTraced, Traced, TracedBy, Unless}
 use Rattle.turn_runs.specs.Members.{IsIn}
 use Rattle.turn_runs.specs.Messages.{Held, Channel, Gain, Grant, GrantIs, Holds}
 use Rattle.turn_runs.specs.Names.{SocketAddr, IntegrityAlgorithm}
@@ -12,7 +12,7 @@ use Rattle.turn_runs.proofs.Tools.{in_right}
 use Rattle.turn_runs_small.specs.Handshakes.{Addresses, grant_at, held_after, request_at, told_at}
 use Rattle.turn_runs_small.specs.Rounds.{idle, quiet, rounds}
 use Rattle.turn_runs_small.specs.SmallWords.{Client, Core, Idle, given_by, small}
-use Rattle.turn_runs_small.specs.Ungranted.{AreSafe, IsBound, forget, forget_call, shows_channel}
+use Rattle.turn_runs_small.specs.Ungranted.{AreSafe, IsBound, forget, forget_call, shows_behind, shows_channel}
 use Rattle.turn_runs_small.proofs.Rounds.{authentic, distinct, first_is_new, idle_step, lawful, leads, none_given, small_laws}
 
 module _ (a : Addresses) where
@@ -105,11 +105,17 @@ module _ (a : Addresses) where
     ]
   ]
 
-  shown_below : (n d number : ℕ) (peer : SocketAddr) → IsIn (AtDesk d) (shows_channel a n number peer) → d < n
-  shown_below n d number peer i = elim i [
+  shown_below : (n d : ℕ) (h : Held) → IsIn (AtDesk d) (shows_behind a n h) → d < n
+  shown_below n d h i = elim i [
     | inl e ↦ absurd (let never : ⊥ = cc in never)
     | inr before ↦ granted_below n d before
   ]
+
+  pub granted_early : (n number : ℕ) (h : Held) (gain : Gain) (run : List (Step Client ℕ)) → map forget run ≡ shows_behind a n h →
+      TracedBy (small a) run number gain → (d : ℕ) × (d < n) × GrantIs (grant_at a d) gain
+  granted_early n number h gain run told traced =
+      let g = granted_by number gain run traced in
+      (g.0, shown_below n g.0 h (subst (IsIn (AtDesk g.0)) told g.1), g.2)
 
   -- one grant alone is of a channel
   the_channel : (d number : ℕ) (peer : SocketAddr) → GrantIs (grant_at a d) (Holds (Channel number peer)) →
@@ -121,12 +127,12 @@ module _ (a : Addresses) where
   the_channel (suc (suc (suc (suc zero)))) number peer is = absurd (omega (arith, is.0))
   the_channel (suc (suc (suc (suc (suc d))))) number peer is = absurd (omega (arith, is.0))
 
-  -- ---- an account shows that the channel was granted
+  -- ---- an account shows that what is answered was granted
 
-  bound_by : (n number : ℕ) (peer : SocketAddr) (run : List (Step Client ℕ)) (last : Client) → n ≤ 16 → map forget run ≡ shows_channel a n number peer →
-      IsCounted (small a) (idle 0) run last → Unless (small a) (idle 0) run last (AtEach (ShowsTraced (small a)) run) → IsBound a n number peer
-  bound_by n number peer (AtClient gets ∷ earlier) last few told counts shown =
-      let gets_is : forget_call gets ≡ record (quiet (Idle n) (Idle n)) { shown = Channel number peer ∷ [] } = cc in
+  pub traced_before : (n : ℕ) (h : Held) (run : List (Step Client ℕ)) (last : Client) → n ≤ 16 → map forget run ≡ shows_behind a n h →
+      IsCounted (small a) (idle 0) run last → Unless (small a) (idle 0) run last (AtEach (ShowsTraced (small a)) run) → Traced (small a) run h
+  traced_before n h (AtClient gets ∷ earlier) last few told counts shown =
+      let gets_is : forget_call gets ≡ record (quiet (Idle n) (Idle n)) { shown = h ∷ [] } = cc in
       let before : map forget earlier ≡ map forget (rounds a n) = cc in
       let all_counted = counted (small a) (idle 0) (rounds a n) (idle n) (leads a n) (lawful a n) in
       let drawn : last.drawn ≤ 16 =
@@ -135,14 +141,17 @@ module _ (a : Addresses) where
         (λ bytes key text b i own v. absurd (subst (IsIn bytes) (ap (λ (x : Call Core). x.came) gets_is) i)),
         authentic_alike last.drawn earlier (rounds a n) before (authentic a last.drawn n),
       ) in
-      let listed : IsIn (Channel number peer) gets.shown =
-      subst (IsIn (Channel number peer)) (sym (ap (λ (x : Call Core). x.shown) gets_is)) (inl refl) in
-      let traced = (shown unforged (distinct a last.drawn drawn)).0 (Channel number peer) listed in
-      let g = granted_by traced.0 (Holds (Channel number peer)) (AtClient gets ∷ earlier) traced.1.0 in
+      let listed : IsIn h gets.shown = subst (IsIn h) (sym (ap (λ (x : Call Core). x.shown) gets_is)) (inl refl) in
+      (shown unforged (distinct a last.drawn drawn)).0 h listed
+  traced_before n h run last few told counts shown = absurd {A = Traced (small a) run h} (cc)
+
+  bound_by : (n number : ℕ) (peer : SocketAddr) (run : List (Step Client ℕ)) (last : Client) → n ≤ 16 → map forget run ≡ shows_channel a n number peer →
+      IsCounted (small a) (idle 0) run last → Unless (small a) (idle 0) run last (AtEach (ShowsTraced (small a)) run) → IsBound a n number peer
+  bound_by n number peer run last few told counts shown =
+      let traced = traced_before n (Channel number peer) run last few told counts shown in
+      let g = granted_early n traced.0 (Channel number peer) (Holds (Channel number peer)) run told traced.1.0 in
       let third = the_channel g.0 number peer g.2 in
-      let early : g.0 < n = shown_below n g.0 number peer (subst (IsIn (AtDesk g.0)) told g.1) in
-      record { granted = omega (arith, early, third.0); number_is = third.1; peer_is = third.2 }
-  bound_by n number peer run last few told counts shown = absurd {A = IsBound a n number peer} (cc)
+      record { granted = omega (arith, g.1, third.0); number_is = third.1; peer_is = third.2 }
 
   -- ---- where it was granted, there is an account
 
@@ -156,18 +165,18 @@ module _ (a : Addresses) where
   held_behind (suc (suc zero)) le = absurd (omega (arith, le))
   held_behind (suc (suc (suc k))) le = held_from k
 
-  abbrev asked_after : ℕ → Call Client
-  asked_after n = record (quiet (idle n) (idle n)) { shown = Channel 0x4000 a.peer ∷ [] }
+  abbrev asked_after : ℕ → Held → Call Client
+  asked_after n h = record (quiet (idle n) (idle n)) { shown = h ∷ [] }
 
-  account : (n : ℕ) → 3 ≤ n → AreSafe a (shows_channel a n 0x4000 a.peer)
-  account n le =
-      let run : List (Step Client ℕ) = AtClient (asked_after n) ∷ rounds a n in
+  pub account : (n : ℕ) (h : Held) → IsIn h (held_after a n) → AreSafe a (shows_behind a n h)
+  account n h holds =
+      let run : List (Step Client ℕ) = AtClient (asked_after n h) ∷ rounds a n in
       let lead : Leads (idle 0) run (idle n) = (refl, leads a n) in
-      let held = λ (h : Held) (i : IsIn h (Channel 0x4000 a.peer ∷ [])). elim i as (λ (_ : IsIn h (Channel 0x4000 a.peer ∷ [])). IsIn h (held_after a n)) [
-        | inl e ↦ subst (λ (x : Held). IsIn x (held_after a n)) e (held_behind n le)
+      let held = λ (x : Held) (i : IsIn x (h ∷ [])). elim i as (λ (_ : IsIn x (h ∷ [])). IsIn x (held_after a n)) [
+        | inl e ↦ subst (λ (y : Held). IsIn y (held_after a n)) e holds
         | inr none ↦ absurd none
       ] in
-      let law : AtEach (λ s _. IsLawful (small a) s) run = (idle_step a n [] (Channel 0x4000 a.peer ∷ []) held, lawful a n) in
+      let law : AtEach (λ s _. IsLawful (small a) s) run = (idle_step a n [] (h ∷ []) held, lawful a n) in
       let promise : IsPromised (small a) (idle 0) run (idle n) = promised (small a) (small_laws a) (idle 0) run (idle n) (first_is_new a) lead law in
       record {
         run = run;
@@ -185,5 +194,5 @@ module _ (a : Addresses) where
   shown_where_bound n number peer few = (
     (λ is. bound_by n number peer is.run is.last few is.told is.counted is.shown),
     (λ is. subst (λ (k : ℕ). AreSafe a (shows_channel a n k peer)) (sym is.number_is)
-        (subst (λ (p : SocketAddr). AreSafe a (shows_channel a n 0x4000 p)) (sym is.peer_is) (account n is.granted))),
+        (subst (λ (p : SocketAddr). AreSafe a (shows_channel a n 0x4000 p)) (sym is.peer_is) (account n (Channel 0x4000 a.peer) (held_behind n is.granted)))),
   )

@@ -1,4 +1,5 @@
 pub mod Bound
 pub mod Handshakes
+pub mod Joined
 pub mod Rounds
 pub mod Ungranted

@@ -3,7 +3,7 @@
 use Rattle.std.specs.Prelude.{◌≡◌, ◌≤◌, ℕ, List, [], ◌∷◌, map, Some}
 use Rattle.stun_types.specs.declared.transport.TransportType.TheVariants.{Tcp}
 use Rattle.turn_runs.specs.Headline.{AnswersOnce, IsSafe, ShowsTraced, Unless}
-use Rattle.turn_runs.specs.Messages.{Allocation, AllocationCreated, Channel}
+use Rattle.turn_runs.specs.Messages.{Held, Allocation, AllocationCreated, Channel, Connection}
 use Rattle.turn_runs.specs.Names.{SocketAddr}
 use Rattle.turn_runs.specs.Runs.{Step, AtClient, AtDesk, AtEach, IsCounted, Leads}
 use Rattle.turn_runs.specs.Steps.{Call}
@@ -60,14 +60,29 @@ module _ (a : Addresses) where
   shows_ungranted =
       AtClient (record (quiet (Idle 0) (Idle 0)) { shown = Allocation Tcp a.relayed ∷ [] }) ∷ []
 
-  -- behind so many requests, each granted and answered, a getter answers a channel
+  -- behind so many requests, each granted and answered, a getter answers this
+  abbrev pub shows_behind : (n : ℕ) → Held → List (Step Core ℕ)
+  shows_behind n h =
+      AtClient (record (quiet (Idle n) (Idle n)) { shown = h ∷ [] }) ∷ map forget (rounds a n)
+
+  -- it answers a channel
   abbrev pub shows_channel : (n number : ℕ) → SocketAddr → List (Step Core ℕ)
-  shows_channel n number peer =
-      AtClient (record (quiet (Idle n) (Idle n)) { shown = Channel number peer ∷ [] })
-      ∷ map forget (rounds a n)
+  shows_channel n number peer = shows_behind n (Channel number peer)
+
+  -- it answers a connection from this address of the client's
+  abbrev pub shows_connection : (n : ℕ) → (local : SocketAddr) → (number : ℕ) → (peer : SocketAddr)
+      → List (Step Core ℕ)
+  shows_connection n local number peer = shows_behind n (Connection local peer number)
 
   -- the desk granted the channel by then: the third request is a CHANNEL_BIND of this number to this peer
   pub record IsBound (n number : ℕ) (peer : SocketAddr) : Type 0 where
     pub granted : 3 ≤ n
     pub number_is : number ≡ 0x4000
+    pub peer_is : peer ≡ a.peer
+
+  -- the desk granted the connection by then: the fourth request is a CONNECT to this peer, which this number answers, and
+  -- the fifth a CONNECTION_BIND of it
+  pub record IsJoined (n number : ℕ) (peer : SocketAddr) : Type 0 where
+    pub granted : 5 ≤ n
+    pub number_is : number ≡ 7
     pub peer_is : peer ≡ a.peer

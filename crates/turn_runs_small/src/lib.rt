@@ -4,8 +4,8 @@
 //! The client asks for one thing after the other, and the desk grants each (`specs/Handshakes.antt`). They
 //! keep all that the theory asks of a client and a desk. Three runs in which the client holds, tells or
 //! shows an address that no desk granted have no account of which the promise stands; and so it is of a
-//! run in which the client shows a channel that no desk granted (`specs/Ungranted.antt`). There is no code
-//! but the laws.
+//! run in which the client shows a channel or a connection that no desk granted (`specs/Ungranted.antt`).
+//! There is no code but the laws.
 #![tactic(auto)]
 
 ghost use Rattle.std.specs.Prelude.{ℕ, ◌≤◌, ◌↔◌, map};
@@ -15,7 +15,7 @@ ghost use Rattle.turn_runs.specs.Runs.{AtEach, IsUnforged};
 ghost use Rattle.turn_runs_small.specs.Handshakes.{Addresses};
 ghost use Rattle.turn_runs_small.specs.Rounds.{HoldsOneOfEach, idle, rounds};
 ghost use Rattle.turn_runs_small.specs.SmallWords.{small};
-ghost use Rattle.turn_runs_small.specs.Ungranted.{AreSafe, IsBound, forget, holds_ungranted, shows_channel, shows_ungranted, tells_twice};
+ghost use Rattle.turn_runs_small.specs.Ungranted.{AreSafe, IsBound, IsJoined, forget, holds_ungranted, shows_channel, shows_connection, shows_ungranted, tells_twice};
 
 /// Up to sixteen requests, each granted and answered, over a network that plays messages again, are a lawful
 /// run of a new client in which nothing is forged and no number comes twice. Behind five of them one thing
@@ -49,6 +49,10 @@ pub fn handshakes_meet_an_account()
 /// granted that very number to that very peer by then, and nowhere else: a channel of another number, to
 /// another peer, or shown too early has none.
 ///
+/// One that answers a connection so, from whichever address of the client's, meets an account only where the
+/// desk granted it by then: its number by a CONNECT to that very peer, and the connection by a CONNECTION_BIND
+/// of that number. Where it did, the connection that the client holds meets one.
+///
 /// That a step is one by the contracts is no part of it: the promise alone rules these runs out.
 pub fn nothing_ungranted_meets_an_account()
     ensures held { (a : Addresses) → AreSafe a (holds_ungranted a) → ⊥ }
@@ -56,4 +60,9 @@ pub fn nothing_ungranted_meets_an_account()
     ensures shown { (a : Addresses) → AreSafe a (shows_ungranted a) → ⊥ }
     ensures channels { (a : Addresses) (n number : ℕ) (peer : SocketAddr) → n ≤ 16
         → AreSafe a (shows_channel a n number peer) ↔ IsBound a n number peer }
+    ensures connections { (a : Addresses) (n : ℕ) (local : SocketAddr) (number : ℕ)
+        (peer : SocketAddr) → n ≤ 16 → AreSafe a (shows_connection a n local number peer)
+        → IsJoined a n number peer }
+    ensures joined { (a : Addresses) (n : ℕ) → 5 ≤ n
+        → AreSafe a (shows_connection a n a.local 7 a.peer) }
 {}

@@ -1,6 +1,14 @@
 use Rattle.turn_runs_small.proofs.Bound.{shown_where_bound}
+use Rattle.turn_runs_small.proofs.Joined.{joined_where_shown, shown_where_joined}
 use Rattle.turn_runs_small.proofs.Ungranted.{none_held, none_shown, none_told}
 use Rattle.turn_runs_small.proofs.nothing_ungranted_meets_an_account.Goals as goal
 
 pub returns : goal.returns
-returns c = record { held = none_held; told = none_told; shown = none_shown; channels = shown_where_bound }
+returns c = record {
+  held = none_held;
+  told = none_told;
+  shown = none_shown;
+  channels = shown_where_bound;
+  connections = joined_where_shown;
+  joined = shown_where_joined;
+}
