@@ -3,10 +3,10 @@
 
 It knows nothing of the repository's code: messages and numbers are written by `traces.py`. The moments
 were worked out by hand, from the waits that a client is documented to have. It was run once, and what it
-wrote is stored: seven examples, and the traces of a client and a desk in the stored run of `turn_traces`,
+wrote is stored: eight examples, and the traces of a client and a desk in the stored run of `turn_traces`,
 behind those of a desk alone. The traces of permissions are in `permissions.py`, those of channels in
 `channels.py` and `channels_later.py`, those of sends and payloads in `payloads.py`, those of a client over
-TCP in `streams.py`.
+TCP in `streams.py`, those of connections in `connections.py`.
 """
 
 import hashlib
@@ -559,6 +559,7 @@ def good_traces():
     from channels_later import channel_traces
     from payloads import payload_traces
     from permissions import permission_traces
+    from connections import connection_traces
     from streams import stream_traces
 
     yield from (
@@ -572,7 +573,7 @@ def good_traces():
         family_unknown(), family_not_supported(), both_families(), refresh_times_out(),
         *refreshes_answered(), stale_refresh(), stale_refresh_lost(), stale_deletion(),
         mismatched_deletion(), *each_setting(), *permission_traces(), *channel_traces(),
-        *payload_traces(), *stream_traces(),
+        *payload_traces(), *stream_traces(), *connection_traces(),
     )
 
 
@@ -630,6 +631,13 @@ def bad_traces():
     yield "A send of what no event answered", BOTH + "send 0 udp 10.0.0.1:5 @1\n", "", 5
     yield "A send of an answer that has no bytes", BOTH + "event\nsend 0 udp 10.0.0.1:5 @1\n", "none\n", 6
     yield "A bad peer of a send, at a moment out of range", BOTH + f"send {2**62 + 1} udp x 00\n", "", 5
+    yield "A connection, and no client", "desk realm sha1 auto\nconnect 0 10.0.0.3:9000\n", "", 3
+    yield "A connection to no peer", BOTH + "connect 0\n", "", 5
+    yield "A connection at no moment", BOTH + "connect 10.0.0.3:9000\n", "", 5
+    yield "A connection over a transport", BOTH + "connect 0 tcp 10.0.0.3:9000\n", "", 5
+    yield "A connection to an address without a port", BOTH + "connect 0 10.0.0.3\n", "", 5
+    yield "A connection of a number", BOTH + "connect 0 10.0.0.3:9000 7\n", "", 5
+    yield "A bad peer of a connection, at a moment out of range", BOTH + f"connect {2**62 + 1} x\n", "", 5
     yield "What waits is asked for, and no client", "desk realm sha1 auto\nrecv 0\n", "", 3
     yield "What waits is asked for at no moment", DESK + TCP + "recv\n", "", 5
     yield "What waits is asked for at two moments", DESK + TCP + "recv 0 0\n", "", 5
@@ -649,6 +657,7 @@ def all_traces():
 
 def examples():
     from channels import granted_channel_again
+    from connections import example as example_of_connections
     from payloads import example
     from permissions import granted_reply_again
     from streams import example as example_over_tcp
@@ -660,6 +669,7 @@ def examples():
     yield "channel", granted_channel_again()
     yield "payload", example()
     yield "tcp", example_over_tcp()
+    yield "connection", example_of_connections()
 
 
 def store_examples():

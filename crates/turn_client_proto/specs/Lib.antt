@@ -15,6 +15,7 @@ pub use Rattle.turn_client_proto_receipt.specs.Receipts
 pub use Rattle.turn_client_proto_receipt.specs.Waiting
 pub use Rattle.turn_client_proto_receipt.specs.declared.handing.Taken
 pub use Rattle.turn_client_proto_receipt.specs.Core.Beginning
+pub use Rattle.turn_client_proto_receipt.specs.Connecting
 pub use Rattle.turn_client_proto_receipt.specs.Core.Binding
 pub use Rattle.turn_client_proto_receipt.specs.Core.Deleting
 pub use Rattle.turn_client_proto_receipt.specs.Drawing

@@ -2,6 +2,7 @@
 
 ghost use Rattle.std.specs.Prelude.{◌≡◌, ◌≢◌, ◌++◌, ℕ, [], Err, Ok, None, IfNone, IfOk, OnErr, OnOk, option_to_list};
 ghost use Rattle.std.specs.Option.{option_map};
+ghost use Rattle.turn_client_proto_receipt.specs.Connecting.{IsConnectAnswered};
 ghost use Rattle.turn_client_proto_receipt.specs.Core.Binding.{IsBindAnswered};
 ghost use Rattle.turn_client_proto_receipt.specs.Core.Deleting.{IsDeleteAnswered};
 ghost use Rattle.turn_client_proto_receipt.specs.Drawing.{HasToSend, IsDrawn, sent_of};
@@ -46,8 +47,8 @@ pub const CLIENT_END: u64 = 1 << 62;
 /// first frame gives that a piece makes whole, and `poll_recv` what the others do: it is to be called after
 /// each piece until it answers `None`.
 ///
-/// No client has connections to peers yet: calls that ask for one are refused, with the error of a client
-/// that has no allocation of the kind, and change nothing.
+/// A client asks for connections to peers, and tells for which it needs a socket; but it takes none yet, so
+/// no connection is bound: `allocated_tcp_socket` is refused and changes nothing.
 pub trait TurnClientApi: Debug + Send {
     ghost kept: { Self → Kept };
 
@@ -139,13 +140,23 @@ pub trait TurnClientApi: Debug + Send {
     fn channels(&self) -> ChannelsIter<'_>
         ensures { result ≡ channels_of (kept self.now).core };
 
-    /// Asks for a connection to a peer (RFC 6062, section 4.3). There are none yet: it is refused with
-    /// `NoAllocation`.
+    /// Asks for a connection to a peer (RFC 6062, section 4.3), in the first allocation over TCP whose
+    /// relayed address is of the peer's family. Where the server connects, `poll` asks for a socket by
+    /// `AllocateTcpSocket`; where it doesn't, the event `TcpConnectFailed` tells so.
+    ///
+    /// Refused with `NoAllocation` where there is no such allocation, or its time is over: then it is
+    /// marked as expired; with `NoAllocation` where the client has ended; with `NoPermission` where no
+    /// permission for the peer's address stands in that allocation; and with `AlreadyExists` where it
+    /// has a connection to the peer, waits for the socket of one, or has asked for one. Where memory is
+    /// refused, `NoMemory`, and nothing changes but the words that were drawn.
+    ///
+    /// A request tells the peer's IP and port alone, as that of `bind_channel` does.
     fn tcp_connect(&mut self, peer_addr: SocketAddr, now: Instant) -> Result<(), TcpConnectError>
-        ensures { IsTurnedDown result TcpConnectError.NoAllocation (kept self.old) (kept self.new) };
+        ensures { Leaves (λ old new. IsConnectAnswered old peer_addr now result new)
+            (kept self.old) (kept self.new) };
 
     /// Hands in the local address of the socket for a connection to a peer, or that there is none (RFC
-    /// 6062, section 4.3). `poll` asks for none yet: it is refused with `NoAllocation`.
+    /// 6062, section 4.3). No client takes a socket yet: it is refused with `NoAllocation`.
     fn allocated_tcp_socket(
         &mut self,
         id: u32,

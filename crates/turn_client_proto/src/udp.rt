@@ -22,7 +22,7 @@ use stun_types::{NoMemory, Transmit, TransportType};
 use turn_client_proto_receipt::calls::permission::asking::permits_any;
 use turn_client_proto_receipt::calls::permission::shown::permissions_at;
 use turn_client_proto_receipt::calls::protocol::Protocol;
-use turn_client_proto_receipt::calls::{drawing, polling, sending};
+use turn_client_proto_receipt::calls::{connecting, deleting, drawing, polling, sending};
 use turn_client_proto_receipt::datagram::{is_of_server, take_datagram};
 use turn_types::transmit::TransmitBuild;
 
@@ -88,7 +88,7 @@ impl TurnClientApi for TurnClientUdp {
     }
 
     fn delete(&mut self, now: Instant) -> Result<(), DeleteError> {
-        self.protocol.delete(now)
+        deleting::delete(&mut self.protocol, now)
     }
 
     fn create_permission(
@@ -126,12 +126,8 @@ impl TurnClientApi for TurnClientUdp {
         ChannelsIter::new(self.protocol.allocations.as_slice())
     }
 
-    fn tcp_connect(
-        &mut self,
-        _peer_addr: SocketAddr,
-        _now: Instant,
-    ) -> Result<(), TcpConnectError> {
-        Err(TcpConnectError::NoAllocation)
+    fn tcp_connect(&mut self, peer_addr: SocketAddr, now: Instant) -> Result<(), TcpConnectError> {
+        connecting::tcp_connect(&mut self.protocol, peer_addr, now)
     }
 
     fn allocated_tcp_socket(

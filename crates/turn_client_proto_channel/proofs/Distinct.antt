@@ -7,12 +7,13 @@ use Rattle.std.specs.Prelude.{find}
 use Rattle.std.specs.Option.{option_and_then, option_map, option_or}
 use Rattle.std.specs.declared.net.socket_addr.SocketAddr.{SocketAddr}
 use Rattle.stun_types.specs.declared.transport.TransportType.{TransportType}
-use Rattle.turn_client_proto_allocation.specs.Awaited.{asks_for_channel, asks_for_permission, is_among, renews_channel, renews_permission}
+use Rattle.turn_client_proto_allocation.specs.Awaited.{asks_for_channel, asks_for_permission, is_among, is_connecting, renews_channel, renews_permission}
 use Rattle.turn_client_proto_allocation.specs.Changes.{change_first}
 use Rattle.turn_client_proto_allocation.specs.Refreshing.{ended, lifetime_asked}
 use Rattle.turn_client_proto_allocation.specs.declared.allocation.Allocation.{Allocation}
 use Rattle.turn_client_proto_allocation.specs.declared.channel.Channel.{Channel}
 use Rattle.turn_client_proto_allocation.specs.declared.channel.PendingChannel.{PendingChannel}
+use Rattle.turn_client_proto_allocation.specs.declared.connection.Connecting.{Connecting}
 use Rattle.turn_client_proto_allocation.specs.declared.permission.PendingPermission.{PendingPermission}
 use Rattle.turn_client_proto_allocation.specs.declared.permission.Permission.{Permission}
 use Rattle.turn_client_proto_channel.specs.Awaited.{asked_by, asked_of, asked_too, awaits_reply, permission_too}
@@ -22,7 +23,7 @@ use Rattle.turn_client_proto_channel.specs.Granted.{all_bound, bound, channel_en
 use Rattle.turn_client_proto_channel.specs.Lapsing.{lapsed, last_place, polled, without}
 use Rattle.turn_client_proto_channel.specs.Wanting.{renewing}
 use Rattle.turn_client_proto_channel.specs.declared.awaited.Asked.{Asked}
-use Rattle.turn_client_proto_channel.specs.declared.awaited.Asked.TheVariants.{ChannelRenewal, Lifetime, NewChannel, NewPermission, Renewal}
+use Rattle.turn_client_proto_channel.specs.declared.awaited.Asked.TheVariants.{ChannelRenewal, Lifetime, NewChannel, NewConnection, NewPermission, Renewal}
 use Rattle.turn_client_proto_channel.specs.Numbers.{AreDistinct, IsLeastFree, counted, is_asked_as, is_numbered, is_taken, is_taken_in, uses, uses_in}
 
 -- ---- how many elements pass
@@ -274,6 +275,7 @@ asked_too_uses_less (ChannelRenewal transport channel peer) old request a number
     omega (arith, same, few)
 asked_too_uses_less (NewPermission transport ip) old request a number = omega arith
 asked_too_uses_less (Renewal transport ip) old request a number = omega arith
+asked_too_uses_less (NewConnection peer) old request a number = omega arith
 
 -- one that ends has no channels that stand
 pub ended_uses_less : (now : ℕ) (a : Allocation) → UsesLess (ended now a) a
@@ -286,24 +288,26 @@ abbrev pub IsPending : ℕ → Allocation → ℕ → SocketAddr → Type 0
 IsPending request a channel peer =
     (c : PendingChannel) × (find (asks_for_channel request) a.pending_channels ≡ Some c) × (c.channel ≡ channel) × (c.peer ≡ peer)
 
-pending_by : (request : ℕ) (a : Allocation) (lifetime : Option ℕ) (found : Option PendingChannel) (renewal : Option Channel) (asked : Option PendingPermission) (again : Option Permission) (transport : TransportType) (channel : ℕ) (peer : SocketAddr)
+pending_by : (request : ℕ) (a : Allocation) (lifetime : Option ℕ) (found : Option PendingChannel) (renewal : Option Channel) (asked : Option PendingPermission) (again : Option Permission) (connection : Option Connecting) (transport : TransportType) (channel : ℕ) (peer : SocketAddr)
     → option_or (option_map Lifetime lifetime) (option_or (option_map (λ (c : PendingChannel). NewChannel a.transport c.channel c.peer) found)
     (option_or (option_map (λ (c : Channel). ChannelRenewal a.transport c.number c.peer) renewal)
-    (option_or (option_map (λ (p : PendingPermission). NewPermission a.transport p.ip) asked) (option_map (λ (p : Permission). Renewal a.transport p.ip) again))))
+    (option_or (option_map (λ (p : PendingPermission). NewPermission a.transport p.ip) asked)
+    (option_or (option_map (λ (p : Permission). Renewal a.transport p.ip) again) (option_map (λ (c : Connecting). NewConnection c.peer) connection)))))
     ≡ Some (NewChannel transport channel peer)
     → (c : PendingChannel) × (found ≡ Some c) × (c.channel ≡ channel) × (c.peer ≡ peer)
-pending_by request a (Some lifetime) found renewal asked again transport channel peer is = absurd (Prim.cc is)
-pending_by request a None (Some c) renewal asked again transport channel peer is = (c, refl, Prim.cc is, Prim.cc is)
-pending_by request a None None (Some c) asked again transport channel peer is = absurd (Prim.cc is)
-pending_by request a None None None (Some p) again transport channel peer is = absurd (Prim.cc is)
-pending_by request a None None None None (Some p) transport channel peer is = absurd (Prim.cc is)
-pending_by request a None None None None None transport channel peer is = absurd (Prim.cc is)
+pending_by request a (Some lifetime) found renewal asked again connection transport channel peer is = absurd (Prim.cc is)
+pending_by request a None (Some c) renewal asked again connection transport channel peer is = (c, refl, Prim.cc is, Prim.cc is)
+pending_by request a None None (Some c) asked again connection transport channel peer is = absurd (Prim.cc is)
+pending_by request a None None None (Some p) again connection transport channel peer is = absurd (Prim.cc is)
+pending_by request a None None None None (Some p) connection transport channel peer is = absurd (Prim.cc is)
+pending_by request a None None None None None (Some c) transport channel peer is = absurd (Prim.cc is)
+pending_by request a None None None None None None transport channel peer is = absurd (Prim.cc is)
 
 pub channel_pending : (request : ℕ) (a : Allocation) (transport : TransportType) (channel : ℕ) (peer : SocketAddr) → asked_of request a ≡ Some (NewChannel transport channel peer) → IsPending request a channel peer
 unfolding asked_of
 channel_pending request a transport channel peer is =
     pending_by request a (lifetime_asked request a.pending_refreshes) (find (asks_for_channel request) a.pending_channels) (find (renews_channel request) a.channels)
-    (find (asks_for_permission request) a.pending_permissions) (find (renews_permission request) a.permissions) transport channel peer is
+    (find (asks_for_permission request) a.pending_permissions) (find (renews_permission request) a.permissions) (find (is_connecting request) a.connecting) transport channel peer is
 
 pub bound_stay_distinct : (all : List Allocation) (transport : TransportType) (channel : ℕ) (peer : SocketAddr) (request now : ℕ) → asked_by request all ≡ Some (NewChannel transport channel peer) → AreDistinct all → AreDistinct (all_bound channel peer request now all)
 bound_stay_distinct all transport channel peer request now is =

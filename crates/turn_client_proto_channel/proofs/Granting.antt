@@ -7,20 +7,21 @@ use Rattle.std.specs.Prelude.{find, is_some, nat_lt, if◌then◌else◌}
 use Rattle.std.specs.declared.net.ip_addr.IpAddr.{IpAddr}
 use Rattle.std.specs.declared.net.socket_addr.SocketAddr.{SocketAddr}
 use Rattle.stun_types.specs.declared.transport.TransportType.{TransportType}
-use Rattle.turn_client_proto_allocation.specs.Awaited.{asks_for_channel, asks_for_permission, renews_channel, renews_permission}
+use Rattle.turn_client_proto_allocation.specs.Awaited.{asks_for_channel, asks_for_permission, is_connecting, renews_channel, renews_permission}
 use Rattle.turn_client_proto_allocation.specs.Changes.{change_first}
 use Rattle.turn_client_proto_allocation.specs.Refreshing.{lifetime_asked}
 use Rattle.turn_client_proto_allocation.specs.declared.allocation.Allocation.{Allocation}
 use Rattle.turn_client_proto_allocation.specs.declared.channel.Channel.{Channel}
 use Rattle.turn_client_proto_allocation.specs.declared.channel.PendingChannel.{PendingChannel}
+use Rattle.turn_client_proto_allocation.specs.declared.connection.Connecting.{Connecting}
 use Rattle.turn_client_proto_allocation.specs.declared.permission.PendingPermission.{PendingPermission}
 use Rattle.turn_client_proto_allocation.specs.declared.permission.Permission.{Permission}
 use Rattle.turn_client_proto_permission.proofs.Lent.{length-change_first}
 use Rattle.turn_client_proto_permission.specs.Granted.{permitted}
-use Rattle.turn_client_proto_channel.specs.Awaited.{asked_by, asked_of, awaits_reply, new_asked, renewal_asked}
+use Rattle.turn_client_proto_channel.specs.Awaited.{asked_by, asked_of, awaits_reply, connection_asked, new_asked, renewal_asked}
 use Rattle.turn_client_proto_channel.specs.Granted.{all_permitted}
 use Rattle.turn_client_proto_channel.specs.declared.awaited.Asked.{Asked}
-use Rattle.turn_client_proto_channel.specs.declared.awaited.Asked.TheVariants.{ChannelRenewal, Lifetime, NewChannel, NewPermission, Renewal}
+use Rattle.turn_client_proto_channel.specs.declared.awaited.Asked.TheVariants.{ChannelRenewal, Lifetime, NewChannel, NewConnection, NewPermission, Renewal}
 
 -- ---- the first that passes, which was changed and passes still
 
@@ -54,27 +55,29 @@ position_changed p f xs x found passes =
 
 -- ---- a channel is asked for, whatever permissions are
 
-kept_by : (transport : TransportType) (lifetime : Option ℕ) (found : Option PendingChannel) (renewal : Option Channel) (asked : Option PendingPermission) (again : Option Permission) (other : Option Asked) (of : TransportType) (channel : ℕ) (peer : SocketAddr)
+kept_by : (transport : TransportType) (lifetime : Option ℕ) (found : Option PendingChannel) (renewal : Option Channel) (asked : Option PendingPermission) (again : Option Permission) (connection : Option Connecting) (other : Option Asked) (of : TransportType) (channel : ℕ) (peer : SocketAddr)
     → option_or (option_map Lifetime lifetime) (option_or (option_map (λ (c : PendingChannel). NewChannel transport c.channel c.peer) found)
     (option_or (option_map (λ (c : Channel). ChannelRenewal transport c.number c.peer) renewal)
-    (option_or (option_map (λ (p : PendingPermission). NewPermission transport p.ip) asked) (option_map (λ (p : Permission). Renewal transport p.ip) again))))
+    (option_or (option_map (λ (p : PendingPermission). NewPermission transport p.ip) asked)
+    (option_or (option_map (λ (p : Permission). Renewal transport p.ip) again) (option_map (λ (c : Connecting). NewConnection c.peer) connection)))))
     ≡ Some (NewChannel of channel peer)
     → option_or (option_map Lifetime lifetime) (option_or (option_map (λ (c : PendingChannel). NewChannel transport c.channel c.peer) found)
     (option_or (option_map (λ (c : Channel). ChannelRenewal transport c.number c.peer) renewal) other))
     ≡ Some (NewChannel of channel peer)
-kept_by transport (Some lifetime) found renewal asked again other of channel peer is = absurd (Prim.cc is)
-kept_by transport None (Some c) renewal asked again other of channel peer is = is
-kept_by transport None None (Some c) asked again other of channel peer is = absurd (Prim.cc is)
-kept_by transport None None None (Some p) again other of channel peer is = absurd (Prim.cc is)
-kept_by transport None None None None (Some p) other of channel peer is = absurd (Prim.cc is)
-kept_by transport None None None None None other of channel peer is = absurd (Prim.cc is)
+kept_by transport (Some lifetime) found renewal asked again connection other of channel peer is = absurd (Prim.cc is)
+kept_by transport None (Some c) renewal asked again connection other of channel peer is = is
+kept_by transport None None (Some c) asked again connection other of channel peer is = absurd (Prim.cc is)
+kept_by transport None None None (Some p) again connection other of channel peer is = absurd (Prim.cc is)
+kept_by transport None None None None (Some p) connection other of channel peer is = absurd (Prim.cc is)
+kept_by transport None None None None None (Some c) other of channel peer is = absurd (Prim.cc is)
+kept_by transport None None None None None None other of channel peer is = absurd (Prim.cc is)
 
 permitted_asks : (ip : IpAddr) (request now : ℕ) (a : Allocation) (transport : TransportType) (channel : ℕ) (peer : SocketAddr) → asked_of request a ≡ Some (NewChannel transport channel peer) → asked_of request (permitted ip request now a) ≡ Some (NewChannel transport channel peer)
 unfolding asked_of
 permitted_asks ip request now a transport channel peer is =
     kept_by a.transport (lifetime_asked request a.pending_refreshes) (find (asks_for_channel request) a.pending_channels) (find (renews_channel request) a.channels)
-    (find (asks_for_permission request) a.pending_permissions) (find (renews_permission request) a.permissions)
-    (option_or (new_asked request (permitted ip request now a)) (renewal_asked request (permitted ip request now a))) transport channel peer is
+    (find (asks_for_permission request) a.pending_permissions) (find (renews_permission request) a.permissions) (find (is_connecting request) a.connecting)
+    (option_or (new_asked request (permitted ip request now a)) (option_or (renewal_asked request (permitted ip request now a)) (connection_asked request (permitted ip request now a)))) transport channel peer is
 
 -- ---- of a client
 

@@ -2,14 +2,15 @@
 use Rattle.std.specs.Prelude.{ℕ, Bool, List, find, is_some, Option, if◌then◌else◌}
 use Rattle.std.specs.List.{list_any}
 use Rattle.std.specs.Option.{option_and_then, option_map, option_or}
-use Rattle.turn_client_proto_allocation.specs.Awaited.{asks_for_channel, asks_for_permission, renews_channel, renews_permission}
+use Rattle.turn_client_proto_allocation.specs.Awaited.{asks_for_channel, asks_for_permission, is_connecting, renews_channel, renews_permission}
 use Rattle.turn_client_proto_allocation.specs.Changes.{change_first}
 use Rattle.turn_client_proto_allocation.specs.Permissions as permissions
 use Rattle.turn_client_proto_allocation.specs.Refreshing.{lifetime_asked, refreshing}
 use Rattle.turn_client_proto_allocation.specs.declared.allocation.Allocation.{Allocation}
+use Rattle.turn_client_proto_allocation.specs.declared.connection.Connecting.{Connecting}
 use Rattle.turn_client_proto_channel.specs.Channels.{asked_again, renewed_again}
 use Rattle.turn_client_proto_channel.specs.declared.awaited.Asked.{Asked}
-use Rattle.turn_client_proto_channel.specs.declared.awaited.Asked.TheVariants.{ChannelRenewal, Lifetime, NewChannel, NewPermission, Renewal}
+use Rattle.turn_client_proto_channel.specs.declared.awaited.Asked.TheVariants.{ChannelRenewal, Lifetime, NewChannel, NewConnection, NewPermission, Renewal}
 
 -- a channel that the request of a number asks for
 abbrev pub channel_asked : ℕ → Allocation → Option Asked
@@ -31,12 +32,16 @@ abbrev pub renewal_asked : ℕ → Allocation → Option Asked
 renewal_asked number a =
     option_map (λ p. Renewal a.transport p.ip) (find (renews_permission number) a.permissions)
 
+-- a connection that the request of a number asks for
+abbrev pub connection_asked : ℕ → Allocation → Option Asked
+connection_asked number a = option_map (λ c. NewConnection c.peer) (find (is_connecting number) a.connecting)
+
 -- what the request of a number asks for, of an allocation that awaits its response: there is one kind only, but that a
 -- CHANNEL_BIND asks for a channel and may ask for its permission; and of several of one kind it is the first
 unfoldable pub asked_of : ℕ → Allocation → Option Asked
 asked_of number a = option_or (option_map Lifetime (lifetime_asked number a.pending_refreshes))
     (option_or (channel_asked number a) (option_or (channel_renewal_asked number a)
-    (option_or (new_asked number a) (renewal_asked number a))))
+    (option_or (new_asked number a) (option_or (renewal_asked number a) (connection_asked number a)))))
 
 -- an allocation awaits the response to the request of a number
 abbrev pub awaits_reply : ℕ → Allocation → Bool
@@ -53,6 +58,14 @@ permission_too old number a = if list_any (asks_for_permission old) a.pending_pe
     then record a { pending_permissions = permissions.asked_again old number a.pending_permissions }
     else record a { permissions = permissions.renewed_again old number a.permissions }
 
+-- a connection for which the request of another number asks
+abbrev pub connecting_by : (number : ℕ) → Connecting → Connecting
+connecting_by number c = record c { number = number }
+
+-- the first connection that the request of a number asks for is asked for by another one in its place
+abbrev pub connected_again : (old number : ℕ) → List Connecting → List Connecting
+connected_again old number connecting = change_first (is_connecting old) (connecting_by number) connecting
+
 -- an allocation of which the request of another number asks for the same, too: a CHANNEL_BIND for its channel, and for
 -- its permission
 abbrev pub asked_too : Asked → (old number : ℕ) → Allocation → Allocation
@@ -65,6 +78,7 @@ asked_too (NewPermission transport ip) old number a =
     record a { pending_permissions = permissions.asked_again old number a.pending_permissions }
 asked_too (Renewal transport ip) old number a =
     record a { permissions = permissions.renewed_again old number a.permissions }
+asked_too (NewConnection peer) old number a = record a { connecting = connected_again old number a.connecting }
 
 -- the first allocation that awaits the response to a request awaits that to another one, too
 abbrev pub all_asked_too : Asked → (old number : ℕ) → List Allocation → List Allocation

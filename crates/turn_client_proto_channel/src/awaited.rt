@@ -2,8 +2,8 @@
 
 ghost use Rattle.std.specs.Prelude.{◌≡◌, ◌<◌, IfSome, MatchOption, None, OnOk, OnErr, Some, length, position};
 ghost use Rattle.std.specs.List.{list_any};
-ghost use Rattle.turn_client_proto_allocation.specs.Awaited.{asks_for_channel, asks_for_permission, renews_channel};
-ghost use Rattle.turn_client_proto_channel.specs.Awaited.{all_asked_too, asked_by, asked_of, asked_too, awaits_reply, channel_asked, channel_renewal_asked, new_asked, permission_too, renewal_asked};
+ghost use Rattle.turn_client_proto_allocation.specs.Awaited.{asks_for_channel, asks_for_permission, is_connecting, renews_channel};
+ghost use Rattle.turn_client_proto_channel.specs.Awaited.{all_asked_too, asked_by, asked_of, asked_too, awaits_reply, channel_asked, channel_renewal_asked, connected_again, connection_asked, new_asked, permission_too, renewal_asked};
 ghost use Rattle.turn_client_proto_channel.specs.Channels.{asked_again, renewed_again};
 
 use crate::one::{is_asked_by, is_renewed_by};
@@ -12,6 +12,7 @@ use stun_types::message::TransactionId;
 use stun_types::{NoMemory, TransportType};
 use turn_client_proto_allocation::allocation::Allocation;
 use turn_client_proto_allocation::channel::{Channel, ChannelId, PendingChannel};
+use turn_client_proto_allocation::connection::Connecting;
 use turn_client_proto_allocation::permission::PendingPermission;
 use turn_client_proto_allocation::permissions;
 
@@ -33,6 +34,8 @@ pub enum Asked {
     /// A CREATE_PERMISSION: that the permission for this address, in an allocation of this
     /// transport, stands on.
     Renewal(TransportType, IpAddr),
+    /// A CONNECT: a connection to this peer (RFC 6062, section 4.3).
+    NewConnection(SocketAddr),
 }
 
 /// The channel that the request of this number asks for.
@@ -71,6 +74,15 @@ fn renewal_asked(a: &Allocation, number: TransactionId) -> Option<Asked>
     Some(Asked::Renewal(a.transport, found.ip))
 }
 
+/// The connection that the request of this number asks for.
+fn connection_asked(a: &Allocation, number: TransactionId) -> Option<Asked>
+    ensures { result ≡ connection_asked number a.now }
+{
+    let connecting = a.connecting.as_slice();
+    let found = connecting.iter().find(|c| c.number == number)?;
+    Some(Asked::NewConnection(found.peer))
+}
+
 /// What the request of this number asks for, of an allocation that awaits its response.
 #[tactic(auto, unfolding(crate::specs::Awaited::asked_of))]
 fn asked_of(a: &Allocation, number: TransactionId) -> Option<Asked>
@@ -85,9 +97,12 @@ fn asked_of(a: &Allocation, number: TransactionId) -> Option<Asked>
     if let Some(asked) = channel_renewal_asked(a, number) {
         return Some(asked);
     }
-    match new_asked(a, number) {
+    if let Some(asked) = new_asked(a, number) {
+        return Some(asked);
+    }
+    match renewal_asked(a, number) {
         Some(asked) => Some(asked),
-        None => renewal_asked(a, number),
+        None => connection_asked(a, number),
     }
 }
 
@@ -160,6 +175,25 @@ fn renew_again(
     channels[place].renewals.push(number)
 }
 
+/// The place of the first connection that the request of this number asks for.
+fn place_connecting(connecting: &[Connecting], number: TransactionId) -> Option<usize>
+    ensures { result ≡ position (is_connecting number) connecting.now }
+{
+    connecting.iter().position(|c| c.number == number)
+}
+
+/// The first connection that the request of a number asks for is asked for by another one in its
+/// place.
+#[tactic(auto, using(turn_client_proto_allocation::proofs::Changes::first_by_place))]
+fn connect_again(connecting: &mut [Connecting], old: TransactionId, number: TransactionId)
+    ensures { connecting.new ≡ connected_again old number connecting.old }
+{
+    let Some(place) = place_connecting(connecting, old) else {
+        return;
+    };
+    connecting[place].number = number;
+}
+
 /// Whether the request of this number asks for one of the permissions.
 fn is_any_asked(pending: &[PendingPermission], number: TransactionId) -> bool
     ensures { result ≡ list_any (asks_for_permission number) pending.now }
@@ -211,13 +245,18 @@ fn ask_one_too(
         Asked::Renewal(_, _) => {
             permissions::renew_again(a.permissions.as_mut_slice(), old, number)
         }
+        Asked::NewConnection(_) => {
+            connect_again(a.connecting.as_mut_slice(), old, number);
+            Ok(())
+        }
     }
 }
 
 /// What a request asks for of the allocation at a place, which is the first that awaits its
 /// response, is asked for by that of another number, too. A CHANNEL_BIND asks for a channel, and
-/// for the permission that is asked for, or else is to be renewed, under its number. Where memory
-/// is refused, `NoMemory`, and the channel may have the new number already.
+/// for the permission that is asked for, or else is to be renewed, under its number; of a CONNECT
+/// the new number takes the place of the old one. Where memory is refused, `NoMemory`, and the
+/// channel may have the new number already.
 #[tactic(auto, using(turn_client_proto_allocation::proofs::Changes::first_by_place))]
 pub fn ask_too(
     allocations: &mut [Allocation],

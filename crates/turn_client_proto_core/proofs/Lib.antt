@@ -12,6 +12,7 @@ pub mod Usual
 -- What stands above this crate has these through it.
 pub use Rattle.turn_client_proto_allocation.proofs as Allocation
 pub use Rattle.turn_client_proto_channel.proofs as Channel
+pub use Rattle.turn_client_proto_connection.proofs as Connection
 pub use Rattle.turn_client_proto_request.proofs as Request
 pub use Rattle.turn_client_proto_request.proofs.Keeps
 pub use Rattle.turn_client_proto_request.proofs.Safe

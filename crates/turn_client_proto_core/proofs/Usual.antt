@@ -7,14 +7,13 @@ use Rattle.turn_client_proto_core.specs.Authenticating.{allocates_again, allocat
 use Rattle.turn_client_proto_core.specs.Ending.{ended}
 use Rattle.turn_client_proto_core.specs.Permitting.{granted, refused, renews}
 use Rattle.turn_client_proto_core.specs.Responding.{accepted, answered, challenged}
-use Rattle.turn_client_proto_core.specs.Standing.{after_refresh, asks_again, deallocated, refreshed}
-use Rattle.turn_client_proto_core.proofs.Deleting.{deleted_each}
+use Rattle.turn_client_proto_core.specs.Standing.{after_connect, after_refresh, asks_again, deallocated, refreshed}
 use Rattle.turn_client_proto_core.proofs.Numbers.{unused}
 use Rattle.turn_client_proto_core.proofs.Shown.{none_shown}
 
-pub ruleset usual = (front_kept, whole_kept, deleted_each, unused, none_shown)
+pub ruleset usual = (front_kept, whole_kept, unused, none_shown)
 
 -- What calls make of a client, to be opened: to unfold this one is to unfold all that its line names.
 unfoldable pub opened : Type 0
-unfolding allocated asked allocates_again allocates_other ended granted refused renews accepted answered challenged after_refresh asks_again deallocated refreshed request_refusal
+unfolding allocated asked allocates_again allocates_other ended granted refused renews accepted answered challenged after_connect after_refresh asks_again deallocated refreshed request_refusal
 opened = Unit {0}

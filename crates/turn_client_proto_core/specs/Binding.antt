@@ -25,7 +25,7 @@ use Rattle.turn_client_proto_channel.specs.Binding as channels
 use Rattle.turn_client_proto_channel.specs.Granted.{all_bound, all_permitted, let_lapse, permission_asked, renewed, turned_down}
 use Rattle.turn_client_proto_channel.specs.Numbers.{IsLeastFree}
 use Rattle.turn_client_proto_channel.specs.declared.awaited.Asked.{Asked}
-use Rattle.turn_client_proto_channel.specs.declared.awaited.Asked.TheVariants.{ChannelRenewal, Lifetime, NewChannel, NewPermission, Renewal}
+use Rattle.turn_client_proto_channel.specs.declared.awaited.Asked.TheVariants.{ChannelRenewal, Lifetime, NewChannel, NewConnection, NewPermission, Renewal}
 use Rattle.turn_client_proto_request.specs.ToldRequests.{IsLawfulRequest}
 use Rattle.turn_client_proto_request.specs.declared.request.TurnRequest.TheVariants.{ChannelBind}
 use Rattle.turn_client_proto_core.specs.Asking.{asked}
@@ -164,6 +164,7 @@ IsBoundFor (Some (ChannelRenewal transport channel peer)) p number now handled n
 IsBoundFor (Some (NewPermission transport ip)) p number now handled new = IsIgnored p handled new
 IsBoundFor (Some (Renewal transport ip)) p number now handled new = IsIgnored p handled new
 IsBoundFor (Some (Lifetime lifetime)) p number now handled new = IsIgnored p handled new
+IsBoundFor (Some (NewConnection to)) p number now handled new = IsIgnored p handled new
 IsBoundFor None p number now handled new = IsIgnored p handled new
 
 -- the request of a number was refused, by what it asks for
@@ -175,6 +176,7 @@ IsUnboundFor (Some (ChannelRenewal transport channel peer)) p number handled new
 IsUnboundFor (Some (NewPermission transport ip)) p number handled new = IsIgnored p handled new
 IsUnboundFor (Some (Renewal transport ip)) p number handled new = IsIgnored p handled new
 IsUnboundFor (Some (Lifetime lifetime)) p number handled new = IsIgnored p handled new
+IsUnboundFor (Some (NewConnection to)) p number handled new = IsIgnored p handled new
 IsUnboundFor None p number handled new = IsIgnored p handled new
 
 -- the response to a CHANNEL_BIND, by its class

@@ -16,6 +16,7 @@ pub mod Waiting
 pub use Rattle.turn_client_proto_allocation.specs as Allocation
 pub use Rattle.turn_client_proto_api.specs as Api
 pub use Rattle.turn_client_proto_channel.specs as Channel
+pub use Rattle.turn_client_proto_connection.specs as Connection
 pub use Rattle.turn_client_proto_channel.specs.Permission
 pub use Rattle.turn_client_proto_request.specs as Request
 pub use Rattle.turn_client_proto_response.specs as Response

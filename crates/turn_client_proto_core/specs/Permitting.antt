@@ -17,7 +17,7 @@ use Rattle.turn_client_proto_channel.specs.Awaited.{asked_by}
 use Rattle.turn_client_proto_channel.specs.Granted.{all_permitted}
 use Rattle.turn_client_proto_channel.specs.Permission.Granted.{renewed, turned_down}
 use Rattle.turn_client_proto_channel.specs.declared.awaited.Asked.{Asked}
-use Rattle.turn_client_proto_channel.specs.declared.awaited.Asked.TheVariants.{ChannelRenewal, Lifetime, NewChannel, NewPermission, Renewal}
+use Rattle.turn_client_proto_channel.specs.declared.awaited.Asked.TheVariants.{ChannelRenewal, Lifetime, NewChannel, NewConnection, NewPermission, Renewal}
 use Rattle.turn_client_proto_request.specs.ToldRequests.{IsLawfulRequest}
 use Rattle.turn_client_proto_request.specs.declared.request.TurnRequest.TheVariants.{CreatePermission}
 use Rattle.turn_client_proto_core.specs.Asking.{asked}
@@ -105,6 +105,7 @@ IsGrantedFor (Some (NewPermission transport ip)) p number now handled new =
     IsHandled (granted transport ip number now p) handled new
 IsGrantedFor (Some (Renewal transport ip)) p number now handled new = IsHandled (renews number now p) handled new
 IsGrantedFor (Some (Lifetime lifetime)) p number now handled new = IsIgnored p handled new
+IsGrantedFor (Some (NewConnection to)) p number now handled new = IsIgnored p handled new
 IsGrantedFor (Some (NewChannel transport channel peer)) p number now handled new = IsIgnored p handled new
 IsGrantedFor (Some (ChannelRenewal transport channel peer)) p number now handled new = IsIgnored p handled new
 IsGrantedFor None p number now handled new = IsIgnored p handled new
@@ -115,6 +116,7 @@ IsRefusedFor (Some (NewPermission transport ip)) p number handled new =
     IsHandled (refused transport ip number p) handled new
 IsRefusedFor (Some (Renewal transport ip)) p number handled new = IsHandled (refused transport ip number p) handled new
 IsRefusedFor (Some (Lifetime lifetime)) p number handled new = IsIgnored p handled new
+IsRefusedFor (Some (NewConnection to)) p number handled new = IsIgnored p handled new
 IsRefusedFor (Some (NewChannel transport channel peer)) p number handled new = IsIgnored p handled new
 IsRefusedFor (Some (ChannelRenewal transport channel peer)) p number handled new = IsIgnored p handled new
 IsRefusedFor None p number handled new = IsIgnored p handled new

@@ -1,5 +1,5 @@
 -- What a client that has allocated makes of a message (RFC 8656, sections 8.3 and 7.4).
-use Rattle.std.specs.Prelude.{ℕ, ◌==◌, Bool, true, ◌&&◌, List, [], map, Option, Some, None, Result, Ok, Err, if◌then◌else◌}
+use Rattle.std.specs.Prelude.{◌≡◌, ℕ, ◌==◌, Bool, true, ◌&&◌, List, [], ◌++◌, map, Option, Some, None, Result, Ok, Err, if◌then◌else◌}
 use Rattle.std.specs.Bool.{MatchBool}
 use Rattle.std.specs.List.{list_any}
 use Rattle.turn_client_proto_api.specs.ClientAuthErrors.{LongTermClientAuthError, NoMemory}
@@ -9,15 +9,16 @@ use Rattle.stun_types.specs.Attributes.{kind_at}
 use Rattle.stun_types.specs.Grammar.{number_at}
 use Rattle.stun_types.specs.Registry.{allocation_mismatch_code}
 use Rattle.stun_types.specs.Types.{class_of, method_of}
-use Rattle.turn_types.specs.TurnRegistry.{channel_bind_method, create_permission_method, refresh_method}
+use Rattle.turn_types.specs.TurnRegistry.{channel_bind_method, connect_method, create_permission_method, refresh_method}
 use Rattle.turn_client_proto_allocation.specs.Refreshing.{ends_by, renewed}
 use Rattle.turn_client_proto_channel.specs.Awaited.{all_asked_too, asked_by}
 use Rattle.turn_client_proto_channel.specs.declared.awaited.Asked.{Asked}
-use Rattle.turn_client_proto_channel.specs.declared.awaited.Asked.TheVariants.{ChannelRenewal, Lifetime, NewChannel, NewPermission, Renewal}
+use Rattle.turn_client_proto_channel.specs.declared.awaited.Asked.TheVariants.{ChannelRenewal, Lifetime, NewChannel, NewConnection, NewPermission, Renewal}
 use Rattle.turn_client_proto_request.specs.ToldRequests.{IsLawfulRequest}
 use Rattle.turn_client_proto_request.specs.declared.request.TurnRequest.{TurnRequest}
-use Rattle.turn_client_proto_request.specs.declared.request.TurnRequest.TheVariants.{ChannelBind, CreatePermission, Refresh}
-use Rattle.turn_client_proto_response.specs.Told.{first_code, is_code, lifetime_told}
+use Rattle.turn_client_proto_request.specs.declared.request.TurnRequest.TheVariants.{ChannelBind, Connect, CreatePermission, Refresh}
+use Rattle.turn_client_proto_connection.specs.Told.{answered as connections_answered, is_connect, told_of}
+use Rattle.turn_client_proto_response.specs.Told.{connection_told, first_code, is_code, lifetime_told}
 use Rattle.turn_client_proto_core.specs.Asking.{asked}
 use Rattle.turn_client_proto_core.specs.Binding.{IsBindResponded}
 use Rattle.turn_client_proto_core.specs.Ending.{ended}
@@ -37,6 +38,7 @@ request_for (NewChannel transport channel peer) = ChannelBind channel peer
 request_for (ChannelRenewal transport channel peer) = ChannelBind channel peer
 request_for (NewPermission transport ip) = CreatePermission ip
 request_for (Renewal transport ip) = CreatePermission ip
+request_for (NewConnection peer) = Connect peer
 
 -- a client that asks for the same once more, by the request of another number
 unfoldable pub asks_again : Asked → (old number now : ℕ) → Protocol → Protocol
@@ -86,6 +88,21 @@ refreshed bytes now p =
 unfoldable pub after_refresh : List ℕ → ℕ → Protocol → Protocol
 after_refresh bytes now p = if is_refreshed bytes then refreshed bytes now p else p
 
+-- ---- the response to a CONNECT
+
+-- a client after it, by what the request of its number asks for: the number that it tells decides, whatever its class
+unfoldable pub after_connect : List ℕ → Protocol → Protocol
+after_connect bytes p = record p {
+  allocations = connections_answered (asked_by (number_at bytes) p.allocations) (connection_told bytes)
+      (number_at bytes) p.allocations;
+  events = p.events ++ told_of (asked_by (number_at bytes) p.allocations) (connection_told bytes);
+}
+
+-- it is for the client where that asks for a connection
+abbrev pub IsConnectResponded : Protocol → List ℕ → Bool → Protocol → Type 0
+IsConnectResponded p bytes handled new =
+    (handled ≡ is_connect (asked_by (number_at bytes) p.allocations)) × (new ≡ after_connect bytes p)
+
 -- ---- responses
 
 -- by the method of a response that was accepted
@@ -96,7 +113,9 @@ IsRequestAnswered p bytes now handled new = MatchBool (method_of (kind_at bytes)
     (IsPermissionResponded p bytes now handled new)
     (MatchBool (method_of (kind_at bytes) == channel_bind_method)
     (IsBindResponded p bytes now handled new)
-    (IsIgnored p handled new)))
+    (MatchBool (method_of (kind_at bytes) == connect_method)
+    (IsConnectResponded p bytes handled new)
+    (IsIgnored p handled new))))
 
 -- a response that validates counts where its number is outstanding; a request does not
 abbrev pub IsTakenUp : Protocol → List ℕ → ℕ → Bool → Protocol → Type 0

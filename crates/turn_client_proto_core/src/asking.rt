@@ -14,7 +14,7 @@ use turn_client_proto_request::request::TurnRequest;
 impl Protocol {
     /// Makes a request of this number: it is outstanding from now on, and waits to be sent. Where
     /// memory is refused, nothing changes.
-    pub(crate) fn ask(
+    pub fn ask(
         &mut self,
         number: TransactionId,
         request: TurnRequest,

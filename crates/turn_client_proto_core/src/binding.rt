@@ -169,7 +169,10 @@ impl Protocol {
                 granted::renew(self.allocations.as_mut_slice(), number, now);
                 Ok(true)
             }
-            Asked::Lifetime(_) | Asked::NewPermission(_, _) | Asked::Renewal(_, _) => Ok(false),
+            Asked::Lifetime(_)
+            | Asked::NewPermission(_, _)
+            | Asked::Renewal(_, _)
+            | Asked::NewConnection(_) => Ok(false),
         }
     }
 
@@ -222,7 +225,10 @@ impl Protocol {
                 granted::let_lapse(self.allocations.as_mut_slice(), number)?;
                 Ok(true)
             }
-            Asked::Lifetime(_) | Asked::NewPermission(_, _) | Asked::Renewal(_, _) => Ok(false),
+            Asked::Lifetime(_)
+            | Asked::NewPermission(_, _)
+            | Asked::Renewal(_, _)
+            | Asked::NewConnection(_) => Ok(false),
         }
     }
 

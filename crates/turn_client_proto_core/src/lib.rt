@@ -23,4 +23,5 @@ pub use turn_client_proto_api as api;
 pub use turn_client_proto_api::{Instant, agent, laws};
 pub use turn_client_proto_channel as channel;
 pub use turn_client_proto_channel::permission;
+pub use turn_client_proto_connection as connection;
 pub use turn_client_proto_request as request;

@@ -140,9 +140,10 @@ impl Protocol {
             return Ok(false);
         };
         match asked {
-            Asked::Lifetime(_) | Asked::NewChannel(_, _, _) | Asked::ChannelRenewal(_, _, _) => {
-                Ok(false)
-            }
+            Asked::Lifetime(_)
+            | Asked::NewChannel(_, _, _)
+            | Asked::ChannelRenewal(_, _, _)
+            | Asked::NewConnection(_) => Ok(false),
             Asked::NewPermission(transport, ip) => {
                 self.events
                     .push_back(TurnEvent::PermissionCreated(transport, ip))?;
@@ -168,9 +169,10 @@ impl Protocol {
             return Ok(false);
         };
         match asked {
-            Asked::Lifetime(_) | Asked::NewChannel(_, _, _) | Asked::ChannelRenewal(_, _, _) => {
-                Ok(false)
-            }
+            Asked::Lifetime(_)
+            | Asked::NewChannel(_, _, _)
+            | Asked::ChannelRenewal(_, _, _)
+            | Asked::NewConnection(_) => Ok(false),
             Asked::NewPermission(transport, ip) | Asked::Renewal(transport, ip) => {
                 self.events
                     .push_back(TurnEvent::PermissionCreateFailed(transport, ip))?;

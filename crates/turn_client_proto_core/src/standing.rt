@@ -6,7 +6,7 @@ ghost use Rattle.turn_client_proto_api.specs.Handling.{is_awaited, is_response};
 ghost use Rattle.turn_client_proto_core.specs.Ending.{IsUnderWay};
 ghost use Rattle.turn_client_proto_core.specs.Numbering.{IsNextNumber};
 ghost use Rattle.turn_client_proto_core.specs.Receiving.{GrowsBy, GrowsStanding, IsFollowed};
-ghost use Rattle.turn_client_proto_core.specs.Standing.{IsJudgedStanding, IsRechallenged, IsTakenUp, after_refresh, asks_again, deallocated, is_refreshed, refreshed, request_for};
+ghost use Rattle.turn_client_proto_core.specs.Standing.{IsConnectResponded, IsJudgedStanding, IsRechallenged, IsTakenUp, after_refresh, asks_again, deallocated, is_refreshed, refreshed, request_for};
 ghost use Rattle.turn_client_proto_channel.specs.Awaited.{awaits_reply};
 ghost use Rattle.turn_client_proto_request.specs.ToldRequests.{IsLawfulRequest};
 
@@ -17,10 +17,11 @@ use stun_types::registry::ALLOCATION_MISMATCH;
 use turn_client_proto_api::Instant;
 use turn_client_proto_api::auth::{LongTermClientAuthError, LongTermClientValidation};
 use turn_client_proto_channel::awaited::{Asked, ask_too, asked_by};
+use turn_client_proto_connection::told::answer;
 use turn_client_proto_request::laws::requests_are_lawful;
 use turn_client_proto_request::request::TurnRequest;
-use turn_client_proto_response::told::{first_code, lifetime_told};
-use turn_types::message::{CHANNEL_BIND, CREATE_PERMISSION, REFRESH};
+use turn_client_proto_response::told::{connection_told, first_code, lifetime_told};
+use turn_types::message::{CHANNEL_BIND, CONNECT, CREATE_PERMISSION, REFRESH};
 
 /// Whether a REFRESH is granted by its response: by a success, or by the error that there is no
 /// allocation.
@@ -43,6 +44,7 @@ fn request_for(asked: &Asked) -> TurnRequest
             TurnRequest::ChannelBind(channel.number(), *peer)
         }
         Asked::NewPermission(_, ip) | Asked::Renewal(_, ip) => TurnRequest::CreatePermission(*ip),
+        Asked::NewConnection(peer) => TurnRequest::Connect(*peer),
     }
 }
 
@@ -133,7 +135,26 @@ impl Protocol {
         if message.method() == CHANNEL_BIND {
             return self.take_channel(message, now);
         }
+        if message.method() == CONNECT {
+            return self.take_connection(message);
+        }
         Ok(false)
+    }
+
+    /// The response to a CONNECT was accepted.
+    fn take_connection(&mut self, message: &Message<'_>) -> Result<bool, NoMemory>
+        ensures ok { IfOk result (λ handled.
+            IsConnectResponded self.old message.now handled self.new) }
+        ensures err { OnErr result (IsUnderWay self.old self.new) }
+    {
+        let told = connection_told(message);
+        let allocations = self.allocations.as_mut_slice();
+        answer(
+            &mut self.events,
+            allocations,
+            message.transaction_id(),
+            told,
+        )
     }
 
     /// The response to a REFRESH was accepted.

@@ -1,5 +1,5 @@
 -- What is told of an allocation is not nothing, where something goes.
-use Rattle.std.proofs.Common.{◌≡◌, ℕ, List, [], ◌++◌, map, Option, Some, sym, ap, ◌∙◌}
+use Rattle.std.proofs.Common.{append_assoc, ◌≡◌, ℕ, List, [], ◌++◌, map, Option, Some, sym, ap, ◌∙◌}
 use Rattle.std.specs.Prelude.{◌≢◌, option_to_list}
 use Rattle.std.specs.declared.net.socket_addr.SocketAddr.{SocketAddr}
 use Rattle.turn_client_proto_core.specs.Allocation.declared.allocation.Allocation.{Allocation}
@@ -7,10 +7,12 @@ use Rattle.turn_client_proto_core.specs.Allocation.declared.channel.PendingChann
 use Rattle.turn_client_proto_core.specs.Allocation.declared.permission.PendingPermission.{PendingPermission}
 use Rattle.turn_client_proto_core.specs.Allocation.declared.permission.Permission.{Permission}
 use Rattle.turn_client_proto_core.specs.Api.declared.event.TurnEvent.{TurnEvent}
-use Rattle.turn_client_proto_core.specs.Api.declared.event.TurnEvent.TheVariants.{ChannelCreateFailed, PermissionCreateFailed}
+use Rattle.turn_client_proto_core.specs.Api.declared.event.TurnEvent.TheVariants.{ChannelCreateFailed, PermissionCreateFailed, TcpConnectFailed}
+use Rattle.turn_client_proto_core.specs.Allocation.declared.connection.Connecting.{Connecting}
 use Rattle.turn_client_proto_core.specs.Channel.Lapsing as channels
+use Rattle.turn_client_proto_core.specs.Connection.Told as connections
 use Rattle.turn_client_proto_core.specs.Permission.Telling as permissions
-use Rattle.turn_client_proto_poll.specs.Telling.{all_failures, failures}
+use Rattle.turn_client_proto_poll.specs.Telling.{all_failures, failures, relay_failures}
 use Rattle.turn_client_proto_poll.proofs.Tells.{in_turn, none_left, none_mapped, none_right, none_told, told_changed}
 
 module _ (over : Option ℕ) (now : ℕ) (a : Allocation) where
@@ -27,32 +29,32 @@ module _ (over : Option ℕ) (now : ℕ) (a : Allocation) where
   four = map (ChannelCreateFailed a.transport) (channels.peers_lapsing now a)
 
   -- where nothing is told of an allocation, none of its channels lapses, whatever its permissions are
-  no_peer : failures over now a ≡ [] → channels.peers_lapsing now a ≡ []
-  unfolding failures
+  no_peer : relay_failures over now a ≡ [] → channels.peers_lapsing now a ≡ []
+  unfolding relay_failures
   no_peer none = none_mapped (ChannelCreateFailed a.transport) (channels.peers_lapsing now a)
       (none_right three four (none_right two (three ++ four) (none_right one (two ++ (three ++ four)) none)))
 
-  none_lapses : failures over now a ≡ [] → channels.peers_lapsing now (permissions.polled over now a) ≡ []
+  none_lapses : relay_failures over now a ≡ [] → channels.peers_lapsing now (permissions.polled over now a) ≡ []
   unfolding permissions.polled
   none_lapses none = no_peer none
 
   -- and of its four parts, where one isn't empty
-  pub told_first : permissions.addresses_over over a.pending_permissions ≢ [] → failures over now a ≢ []
-  unfolding failures
+  pub told_first : permissions.addresses_over over a.pending_permissions ≢ [] → relay_failures over now a ≢ []
+  unfolding relay_failures
   told_first some = λ none. some (none_mapped (PermissionCreateFailed a.transport) (permissions.addresses_over over a.pending_permissions)
       (none_left one (two ++ (three ++ four)) none))
 
-  pub told_second : channels.peers_over over a.pending_channels ≢ [] → failures over now a ≢ []
-  unfolding failures
+  pub told_second : channels.peers_over over a.pending_channels ≢ [] → relay_failures over now a ≢ []
+  unfolding relay_failures
   told_second some = λ none. some (none_mapped (ChannelCreateFailed a.transport) (channels.peers_over over a.pending_channels)
       (none_left two (three ++ four) (none_right one (two ++ (three ++ four)) none)))
 
-  pub told_third : permissions.addresses_lapsed now a.permissions ≢ [] → failures over now a ≢ []
-  unfolding failures
+  pub told_third : permissions.addresses_lapsed now a.permissions ≢ [] → relay_failures over now a ≢ []
+  unfolding relay_failures
   told_third some = λ none. some (none_mapped (PermissionCreateFailed a.transport) (permissions.addresses_lapsed now a.permissions)
       (none_left three four (none_right two (three ++ four) (none_right one (two ++ (three ++ four)) none))))
 
-  pub told_last : (peer : SocketAddr) → channels.peer_lapsing now a.channels ≡ Some peer → failures over now a ≢ []
+  pub told_last : (peer : SocketAddr) → channels.peer_lapsing now a.channels ≡ Some peer → relay_failures over now a ≢ []
   told_last peer lapses = λ none. let empty = sym (no_peer none) ∙ ap (λ (o : Option SocketAddr). option_to_list o) lapses in absurd (Prim.cc empty)
 
   -- told one after another, they are all that is told
@@ -62,15 +64,38 @@ module _ (over : Option ℕ) (now : ℕ) (a : Allocation) where
       → second ≡ first ++ map (ChannelCreateFailed a.transport) (channels.peers_over over asked)
       → third ≡ second ++ map (PermissionCreateFailed a.transport) (permissions.addresses_lapsed now standing)
       → all ≡ third ++ lapses
-      → all ≡ events ++ failures over now a
-  unfolding failures
+      → all ≡ events ++ relay_failures over now a
+  unfolding relay_failures
   told_all events first second third all lapses pending asked standing is_pending is_asked is_standing is_four is_first is_second is_third is_all =
       let turns = in_turn events one two three four in
       rw (is_all, is_third, is_second, is_first, is_pending, is_asked, is_standing, is_four) turns
+
+  -- of the whole, where one of its parts isn't empty
+  pub told_relays : relay_failures over now a ≢ [] → failures over now a ≢ []
+  unfolding failures
+  told_relays some = λ none. some (none_left (relay_failures over now a) (map TcpConnectFailed (connections.peers_over over a.connecting)) none)
+
+  pub told_connections : connections.peers_over over a.connecting ≢ [] → failures over now a ≢ []
+  unfolding failures
+  told_connections some = λ none. some (none_mapped TcpConnectFailed (connections.peers_over over a.connecting)
+      (none_right (relay_failures over now a) (map TcpConnectFailed (connections.peers_over over a.connecting)) none))
+
+  -- where nothing is told of an allocation, none of its channels lapses
+  left_lapses : failures over now a ≡ [] → channels.peers_lapsing now (permissions.polled over now a) ≡ []
+  unfolding failures
+  left_lapses none = none_lapses (none_left (relay_failures over now a) (map TcpConnectFailed (connections.peers_over over a.connecting)) none)
+
+  -- both are told one after the other
+  pub told_both : (events first all : List TurnEvent) (asked : List Connecting) → asked ≡ a.connecting
+      → first ≡ events ++ relay_failures over now a → all ≡ first ++ map TcpConnectFailed (connections.peers_over over asked)
+      → all ≡ events ++ failures over now a
+  unfolding failures
+  told_both events first all asked is_asked is_first is_all =
+      rw (is_all, is_first, is_asked) (append_assoc events (relay_failures over now a) (map TcpConnectFailed (connections.peers_over over a.connecting)))
 
 -- where a channel lapses, after the permissions were polled, something is told
 pub lapsing_told : (over : Option ℕ) (now : ℕ) (all left : List Allocation) → left ≡ map (permissions.polled over now) all → channels.all_lapsing now left ≢ [] → all_failures over now all ≢ []
 lapsing_told over now all left is some = λ none.
     some (ap (channels.all_lapsing now) is
     ∙ told_changed (channels.peers_lapsing now) (permissions.polled over now) all
-    ∙ none_told (failures over now) (λ (a : Allocation). channels.peers_lapsing now (permissions.polled over now a)) (none_lapses over now) all none)
+    ∙ none_told (failures over now) (λ (a : Allocation). channels.peers_lapsing now (permissions.polled over now a)) (left_lapses over now) all none)

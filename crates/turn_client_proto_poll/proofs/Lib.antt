@@ -1,3 +1,4 @@
+pub mod AskedConnections
 pub mod Draws
 pub mod Lapses
 pub mod Last

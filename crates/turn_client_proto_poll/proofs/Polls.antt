@@ -1,5 +1,5 @@
 -- What a poll answers.
-use Rattle.std.proofs.Common.{◌≡◌, ◌≢◌, ℕ, ◌≤◌, List, [], ◌∷◌, length, Option, refl, subst, arith}
+use Rattle.std.proofs.Common.{◌≡◌, ◌≢◌, ℕ, ◌≤◌, List, [], ◌∷◌, length, Option, Some, None, IfNone, refl, subst, arith}
 use Rattle.turn_client_proto_core.specs.AgentPolls.{StunAgentPollRet}
 use Rattle.turn_client_proto_core.specs.State as agents
 use Rattle.turn_client_proto_core.specs.Api.declared.answer.TurnPollRet.{TurnPollRet}
@@ -50,3 +50,8 @@ ticked_by old now ticked agent over wait ret new polled over_is wait_is is =
       is_ticked = polled;
       outcome = subst (λ (w : ℕ). IsPolledIn old.phase (ended_of ticked) w (record old { agent = agent }) now ret new) wait_is by_over;
     }
+
+-- what holds is so where nothing is answered, too
+pub always_none : {X A : Type 0} (o : Option X) → A → IfNone o A
+always_none None holds = holds
+always_none (Some x) holds = tt

@@ -1,6 +1,6 @@
 -- Nothing is sent before the moment until which a client waits.
 use Rattle.std.proofs.Common.{◌≡◌, ℕ, suc, ◌<◌, ◌≤◌, arith, Bool, true, false, List, [], ◌∷◌, ◌++◌, Option, Some, None, cond, zero, refl, sym, ap, ◌∙◌, subst, map}
-use Rattle.std.specs.Prelude.{find, is_some, nat_le, nat_lt, not, ◌&&◌, max, min, if◌then◌else◌}
+use Rattle.std.specs.Prelude.{find, is_some, nat_le, nat_lt, not, ◌&&◌, max, min, MatchOption, if◌then◌else◌}
 use Rattle.std.specs.Option.{option_and_then, option_map, option_or}
 use Rattle.std.specs.Bool.{MatchBool}
 use Rattle.std.specs.List.{All, cons_option, filter_map}
@@ -19,6 +19,9 @@ use Rattle.turn_client_proto_core.specs.Allocation.declared.channel.Channel.{Cha
 use Rattle.turn_client_proto_core.specs.Channel.Channels as channel
 use Rattle.turn_client_proto_core.specs.Channel.Lapsing as channels
 use Rattle.turn_client_proto_core.specs.Channel.Wanting as bindings
+use Rattle.turn_client_proto_core.specs.Connection.Told as connections
+use Rattle.turn_client_proto_core.specs.Connection.Waiting.{unasked}
+use Rattle.turn_client_proto_core.specs.Allocation.declared.connection.Waiting.{Waiting}
 use Rattle.turn_client_proto_core.specs.Permission.Telling as permissions
 use Rattle.turn_client_proto_core.specs.Permission.Wanting.{renewal_wanted, stands}
 use Rattle.turn_client_proto_poll.specs.Telling as telling
@@ -33,7 +36,7 @@ use Rattle.turn_client_proto_core.specs.Api.declared.answer.TurnPollRet.TheVaria
 use Rattle.turn_client_proto_core.specs.Api.declared.event.TurnEvent.{TurnEvent}
 use Rattle.turn_client_proto_poll.specs.Drawing.{Again, Fresh, IsBegun, IsDrawn, IsNextSent, IsRenewed, IsStill, Sent, is_resting}
 use Rattle.turn_client_proto_core.specs.Ending.{ended}
-use Rattle.turn_client_proto_poll.specs.Polling.{Answers, after_time, answer_of, IsPolled, IsPolledBy, IsPolledIn, IsPolledSent, IsPolledStanding, cadence, ended_of, left, longest_pause, ready_after, wait_of, wait_to_send}
+use Rattle.turn_client_proto_poll.specs.Polling.{Answers, after_asking, after_time, answer_of, IsPolled, IsPolledBy, IsPolledIn, IsPolledSent, IsWalked, cadence, ended_of, left, longest_pause, ready_after, socket_for, wait_of, wait_to_send}
 use Rattle.turn_client_proto_core.specs.Waiting.{Queued}
 use Rattle.turn_client_proto_core.specs.declared.protocol.Phase.{Phase}
 use Rattle.turn_client_proto_core.specs.declared.protocol.Phase.TheVariants.{Initial, InitialSent, Authenticating, Authenticated, Ended}
@@ -177,7 +180,7 @@ module _ (next ready now moment : ℕ) (begins : ready ≤ moment) (before : mom
   nothing_wanted : (a : Allocation) → wants_refresh moment a ≡ false
       → find (channel.wants_renewal moment) (map (channel.polled_channel None) (channels.without a.channels (channels.last_place (channel.has_lapsed now) a.channels))) ≡ None
       → find (wants_renewal moment) (polled_permissions None now a.permissions) ≡ None → want moment (telling.polled None now a) ≡ None
-  unfolding want renewal_wanted bindings.renewal_wanted wants_refresh permissions.polled channels.polled channels.lapsed renewal
+  unfolding want renewal_wanted bindings.renewal_wanted wants_refresh permissions.polled channels.polled channels.lapsed connections.given_up renewal
   nothing_wanted a not_it no_channel no_permission =
       ap (λ (b : Bool). if b then Some Refresh else option_or (channel_wanted moment (telling.polled None now a)) (permission_wanted moment (telling.polled None now a))) not_it
       ∙ ap (λ (o : Option Channel). option_or (option_map (λ (c : ℕ × SocketAddr). Binding c.0 c.1) (if stands moment a then option_map (λ (c : Channel). (c.number, c.peer)) o else None)) (permission_wanted moment (telling.polled None now a))) no_channel
@@ -239,6 +242,11 @@ module _ (quiet : AgentsWait) (old new after : Protocol) (now until moment : ℕ
         | false ↦ λ waits. not_now waits.0
       ] is
 
+  -- no socket is asked for
+  of_walk : {A Walk : Type 0} (found : Option Waiting) (p : Protocol) → MatchOption found Walk (λ w. Answers (socket_for p w) (after_asking p) (answer.WaitUntil until) new) → (Walk → A) → A
+  of_walk None p is follows = follows is
+  of_walk (Some w) p is follows = absurd (Prim.cc is.0)
+
   over_standing : (all : List Allocation) (number next : ℕ) → answer.WaitUntil until ≡ answer_of all (Some number) now next → IsStill new sent after
   over_standing [] number next is = absurd (Prim.cc is)
   over_standing (a ∷ rest) number next is = not_now is
@@ -247,7 +255,7 @@ module _ (quiet : AgentsWait) (old new after : Protocol) (now until moment : ℕ
   over_now Initial number wait p is = not_now is.0
   over_now (InitialSent numbers) number wait p is = over_sent numbers number wait p is
   over_now (Authenticating numbers) number wait p is = over_sent numbers number wait p is
-  over_now Authenticated number wait p is = over_standing (left (Some number) now p) number is.earliest is.outcome.0
+  over_now Authenticated number wait p is = of_walk (unasked p.allocations) p is (λ (walked : IsWalked (Some number) wait p now (answer.WaitUntil until) new). over_standing (left (Some number) now p) number walked.earliest walked.outcome.0)
   over_now Ended number wait p is = absurd (Prim.cc is.0)
 
   no_longer : (all : List Allocation) (next : ℕ) → answer.WaitUntil until ≡ answer_of all None now next → until ≤ next
@@ -277,7 +285,7 @@ module _ (quiet : AgentsWait) (old new after : Protocol) (now until moment : ℕ
     nothing_begun phase is still within same = same_client ticked same (by_draw ticked after moment sent (agent_quiet within)
         (λ free going. still (begun_by ticked after moment sent phase is (empty_queue within free) going)))
 
-    standing_still : old.phase ≡ Authenticated → IsPolledStanding None (min pause wait) ticked now (answer.WaitUntil until) new → IsStill new sent after
+    standing_still : old.phase ≡ Authenticated → IsWalked None (min pause wait) ticked now (answer.WaitUntil until) new → IsStill new sent after
     unfolding after_time
     standing_still is polling =
         let all : List Allocation = kept None now old.allocations in
@@ -306,7 +314,7 @@ module _ (quiet : AgentsWait) (old new after : Protocol) (now until moment : ℕ
     waiting (Authenticating numbers) is polling =
         let same : until ≡ min pause wait = Prim.cc polling.0 in
         nothing_begun (Authenticating numbers) is (λ still. still) (omega (arith, same)) polling.1
-    waiting Authenticated is polling = standing_still is polling
+    waiting Authenticated is polling = of_walk (unasked ticked.allocations) ticked polling (standing_still is)
     waiting Ended is polling = absurd (Prim.cc polling.0)
 
   by_agent : (ticked : StunAgentPollRet) (agent : agents.Agent) → agents.IsPolled old.agent now ticked agent

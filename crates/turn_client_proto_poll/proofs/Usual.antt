@@ -3,12 +3,14 @@ use Rattle.turn_client_proto_core.specs.Sending.{request_refusal}
 use Rattle.turn_client_proto_core.proofs.Allocation.Changes.{change_first_at, change_first_none, find_is}
 use Rattle.turn_client_proto_core.proofs.Allocation.Prefixes.{front_kept, whole_kept}
 use Rattle.turn_client_proto_core.proofs.Channel.Permission.Fronts.{front_of}
+use Rattle.turn_client_proto_core.proofs.Deleting.{deleted_each}
 use Rattle.turn_client_proto_core.proofs.Numbers.{unused}
 use Rattle.turn_client_proto_core.proofs.Shown.{none_shown}
+use Rattle.turn_client_proto_core.specs.Asking.{asked}
 use Rattle.turn_client_proto_poll.specs.Drawing.{first_allocated, first_bound, first_permitted, first_refreshed, sent_at_once}
-use Rattle.turn_client_proto_poll.specs.Polling.{after_time}
+use Rattle.turn_client_proto_poll.specs.Polling.{after_asking, after_time}
 
-pub ruleset usual = (front_kept, whole_kept, unused, none_shown)
+pub ruleset usual = (front_kept, whole_kept, deleted_each, unused, none_shown)
 
 -- the first allocation that passes, by the place where it is
 pub ruleset by_place = (change_first_at, change_first_none, find_is)
@@ -18,5 +20,5 @@ pub ruleset fronts = (front_kept, whole_kept, front_of)
 
 -- What calls make of a client, to be opened: to unfold this one is to unfold all that its line names.
 unfoldable pub opened : Type 0
-unfolding first_allocated first_bound first_permitted first_refreshed sent_at_once after_time request_refusal
+unfolding asked first_allocated first_bound first_permitted first_refreshed sent_at_once after_asking after_time request_refusal
 opened = Unit {0}

@@ -1,3 +1,4 @@
+pub mod Connecting
 pub mod Drawing
 pub mod OfPeers
 pub mod Payloads
@@ -10,6 +11,7 @@ pub use Rattle.turn_client_proto_core.specs as Core
 pub use Rattle.turn_client_proto_core.specs.Allocation
 pub use Rattle.turn_client_proto_core.specs.Api
 pub use Rattle.turn_client_proto_core.specs.Channel
+pub use Rattle.turn_client_proto_core.specs.Connection
 pub use Rattle.turn_client_proto_core.specs.Permission
 pub use Rattle.turn_client_proto_core.specs.Request
 pub use Rattle.turn_client_proto_core.specs.Response

@@ -1,5 +1,5 @@
 -- What a client does as time goes on (RFC 8489, section 6.2.1; RFC 8656, section 8).
-use Rattle.std.specs.Prelude.{◌≡◌, ◌≢◌, ℕ, min, max, true, List, [], ◌∷◌, ◌++◌, map, Option, Some, None}
+use Rattle.std.specs.Prelude.{◌≡◌, ◌≢◌, ℕ, min, max, true, List, [], ◌∷◌, ◌++◌, map, Option, Some, None, MatchOption}
 use Rattle.std.specs.Bool.{MatchBool}
 use Rattle.turn_client_proto_core.specs.AgentPolls.{StunAgentPollRet, TransactionTimedOut, TransactionCancelled, WaitUntil}
 use Rattle.turn_client_proto_core.specs.Least.{IsLeastOf}
@@ -8,10 +8,12 @@ use Rattle.turn_client_proto_core.specs.State as agents
 use Rattle.turn_client_proto_core.specs.Allocation.Awaited.{is_among}
 use Rattle.turn_client_proto_core.specs.Allocation.Polling.{kept, nexts, polled}
 use Rattle.turn_client_proto_core.specs.Allocation.declared.allocation.Allocation.{Allocation}
+use Rattle.turn_client_proto_core.specs.Allocation.declared.connection.Waiting.{Waiting}
 use Rattle.turn_client_proto_core.specs.Api.declared.answer.TurnPollRet.{TurnPollRet}
 use Rattle.turn_client_proto_core.specs.Api.declared.answer.TurnPollRet.TheVariants as answer
 use Rattle.turn_client_proto_core.specs.Api.declared.event.TurnEvent.{TurnEvent}
 use Rattle.turn_client_proto_core.specs.Channel.Lapsing as channels
+use Rattle.turn_client_proto_core.specs.Connection.Waiting.{all_asked, unasked}
 use Rattle.turn_client_proto_core.specs.Permission.Telling as permissions
 use Rattle.turn_client_proto_core.specs.Ending.{HasFailed, ended}
 use Rattle.turn_client_proto_core.specs.Waiting.{Queued}
@@ -81,8 +83,17 @@ answer_of (a ∷ rest) over now wait = waits_until over now (max wait now)
 abbrev pub left : Option ℕ → ℕ → Protocol → List Allocation
 left over now p = map (polled over) (kept over now p.allocations)
 
--- a client with the allocations that are left, and with their permissions and channels that are, after those that are
--- gone were told
+-- the caller is to open the socket of a connection that waits for one (RFC 6062, section 4.3)
+abbrev pub socket_for : Protocol → Waiting → TurnPollRet
+socket_for p w = answer.AllocateTcpSocket w.connection
+    (record { transport = p.agent.transport; from = p.agent.here; to = p.server }) w.peer
+
+-- a client that has asked for the socket of the first such connection
+unfoldable pub after_asking : Protocol → Protocol
+after_asking p = record p { allocations = all_asked p.allocations }
+
+-- a client with the allocations that are left, and with their permissions, channels and connections that are, after those
+-- that are gone were told
 unfoldable pub after_time : Option ℕ → ℕ → Protocol → Protocol
 after_time over now p = record p {
   allocations = map (telling.polled over now) (left over now p);
@@ -91,7 +102,7 @@ after_time over now p = record p {
 
 -- the earliest moment at which an allocation that is left, or the client, has something to do; then that at which a
 -- permission has, too; and then that at which a channel has, too
-pub record IsPolledStanding (over : Option ℕ) (wait : ℕ) (p : Protocol) (now : ℕ) (ret : TurnPollRet) (new : Protocol)
+pub record IsWalked (over : Option ℕ) (wait : ℕ) (p : Protocol) (now : ℕ) (ret : TurnPollRet) (new : Protocol)
     : Type 0 where
   pub next : ℕ
   pub least : IsLeastOf wait (nexts over (ready_after p.last_send now) now (kept over now p.allocations)) next
@@ -102,6 +113,12 @@ pub record IsPolledStanding (over : Option ℕ) (wait : ℕ) (p : Protocol) (now
   pub least_of_channels : IsLeastOf sooner
       (channels.all_nexts over (ready_after p.last_send now) now (left over now p)) earliest
   pub outcome : Answers (answer_of (left over now p) over now earliest) (after_time over now p) ret new
+
+-- a socket that was not asked for comes before all else
+abbrev pub IsPolledStanding : Option ℕ → ℕ → Protocol → ℕ → TurnPollRet → Protocol → Type 0
+IsPolledStanding over wait p now ret new = MatchOption (unasked p.allocations)
+    (IsWalked over wait p now ret new)
+    (λ w. Answers (socket_for p w) (after_asking p) ret new)
 
 -- by how far the client is
 abbrev pub IsPolledIn : Phase → Option ℕ → ℕ → Protocol → ℕ → TurnPollRet → Protocol → Type 0
@@ -129,12 +146,14 @@ IsPolledBy (e ∷ events) old now ret new = Answers (answer.WaitUntil now) old r
 -- ---- when memory may be refused
 
 -- what is to be told where a transaction may have ended, by how far the client is: that no address is allocated, where
--- it was an ALLOCATE; or that a permission or a channel goes, of an allocation that is left
+-- it was an ALLOCATE; or, where no socket is to be asked for, that a permission, a channel or a connection goes, of an
+-- allocation that is left
 abbrev pub HasToTellIn : Phase → Option ℕ → Protocol → ℕ → Type 0
 HasToTellIn Initial over p now = ⊥
 HasToTellIn (InitialSent numbers) over p now = (is_among over numbers ≡ true) × (p.families ≢ [])
 HasToTellIn (Authenticating numbers) over p now = (is_among over numbers ≡ true) × (p.families ≢ [])
-HasToTellIn Authenticated over p now = telling.all_failures over now (left over now p) ≢ []
+HasToTellIn Authenticated over p now =
+    (unasked p.allocations ≡ None) × (telling.all_failures over now (left over now p) ≢ [])
 HasToTellIn Ended over p now = ⊥
 
 -- the agent is polled, and then something is to be told

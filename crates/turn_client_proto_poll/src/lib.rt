@@ -10,6 +10,8 @@
 //! [`laws`] has what these promise each other and a layer above.
 #![tactic(auto, using(crate::proofs::Usual::usual), unfolding(crate::proofs::Usual::opened))]
 
+pub mod connecting;
+pub mod deleting;
 pub mod drawing;
 pub mod indication;
 pub mod known;
@@ -21,4 +23,4 @@ pub mod telling;
 pub mod wanting;
 
 // What stands above this crate has these through it.
-pub use turn_client_proto_core::{allocation, api, channel, permission, protocol};
+pub use turn_client_proto_core::{allocation, api, channel, connection, permission, protocol};

@@ -1,11 +1,13 @@
 //! What a client does as time goes on.
 
-ghost use Rattle.std.specs.Prelude.{◌≡◌, ◌≢◌, [], IfOk, OnErr, max, min};
+ghost use Rattle.std.specs.Prelude.{◌≡◌, ◌≢◌, [], IfNone, IfOk, IfSome, None, OnErr, max, min, option_map};
+ghost use Rattle.turn_client_proto_core.specs.Connection.Waiting.{unasked};
 ghost use Rattle.turn_client_proto_core.specs.Moments.{moment_after};
 ghost use Rattle.turn_client_proto_core.specs.Ending.{IsUnderWay};
 ghost use Rattle.turn_client_proto_poll.specs.Polling.{HasToTell, HasToTellIn, IsPolled};
 ghost use Rattle.turn_client_proto_poll.specs.Polling.{IsPolledBy, IsPolledIn, IsPolledSent};
-ghost use Rattle.turn_client_proto_poll.specs.Polling.{IsPolledStanding, IsTicked, answer_of};
+ghost use Rattle.turn_client_proto_poll.specs.Polling.{IsPolledStanding, IsTicked, IsWalked};
+ghost use Rattle.turn_client_proto_poll.specs.Polling.{after_asking, answer_of, socket_for};
 ghost use Rattle.turn_client_proto_poll.specs.Polling.{cadence, ended_of, left, longest_pause};
 ghost use Rattle.turn_client_proto_poll.specs.Polling.{ready_after, wait_of};
 ghost use Rattle.turn_client_proto_poll.specs.Polling.{wait_to_send, waits_until};
@@ -19,8 +21,9 @@ use turn_client_proto_core::Instant;
 use turn_client_proto_core::agent::StunAgentPollRet;
 use turn_client_proto_core::allocation::allocation::Allocation;
 use turn_client_proto_core::allocation::numbers::is_among;
-use turn_client_proto_core::api::answer::TurnPollRet;
+use turn_client_proto_core::api::answer::{Socket5Tuple, TurnPollRet};
 use turn_client_proto_core::channel::lapse;
+use turn_client_proto_core::connection::waiting::ask_first;
 use turn_client_proto_core::permission::telling as permissions;
 use turn_client_proto_core::protocol::{Phase, Protocol};
 
@@ -94,15 +97,17 @@ fn answer_of(
 }
 
 /// What is to be done at a moment. Where an event waits, the answer is to wait for that very
-/// moment: `poll_event` gives it. Else a request that has ended without a response is given up, and
-/// allocations, permissions and channels whose time is over go; of the channels of one allocation,
-/// one at each call. The answer is `Closed` where the client has ended or has no allocation left,
-/// and else the moment until which nothing is to be done, at most 9999 seconds from now; it is now
-/// where a request has ended.
+/// moment: `poll_event` gives it. Else a request that has ended without a response is given up. Where
+/// then a connection waits for a socket that was not asked for, the answer is to open it, and nothing
+/// else is done; what the request that ended had asked for stays as it is. Else allocations,
+/// permissions and channels whose time is over go; of the channels of one allocation, one at each
+/// call. The answer is `Closed` where the client has ended or has no allocation left, and else the
+/// moment until which nothing is to be done, at most 9999 seconds from now; it is now where a request
+/// has ended.
 ///
-/// Memory is asked for where no event waits and something is to be told: that an ALLOCATE ended
-/// without a response; or that a permission or a channel did, or has lapsed. Where it is refused,
-/// `NoMemory`, and the client has failed.
+/// Memory is asked for where no event waits, no socket is asked for, and something is to be told: that
+/// an ALLOCATE ended without a response; or that a permission, a channel or a connection did; or that a
+/// permission or a channel has lapsed. Where it is refused, `NoMemory`, and the client has failed.
 pub fn poll(protocol: &mut Protocol, now: Instant) -> TurnPollRet
     ensures { IsPolled protocol.old now result protocol.new }
 {
@@ -177,12 +182,32 @@ fn follow(
             }
             Ok(waits_until(ended, now, wait))
         }
-        Phase::Authenticated => poll_allocations(protocol, ended, wait, now),
+        Phase::Authenticated => poll_standing(protocol, ended, wait, now),
     }
 }
 
-/// Lets time come to a moment for the allocations, their permissions and their channels.
-fn poll_allocations(
+/// Asks for the socket of the first connection that waits for one and for which it was not asked (RFC
+/// 6062, section 4.3).
+fn ask_socket(protocol: &mut Protocol) -> Option<TurnPollRet>
+    ensures given { result
+        ≡ option_map (socket_for protocol.old) (unasked protocol.old.allocations) }
+    ensures after { IfSome result (λ _. protocol.new ≡ after_asking protocol.old) }
+    ensures none { IfNone result (protocol.new ≡ protocol.old) }
+{
+    let first = ask_first(protocol.allocations.as_mut_slice())?;
+    Some(TurnPollRet::AllocateTcpSocket {
+        id: first.connection,
+        socket: Socket5Tuple {
+            transport: protocol.agent.transport(),
+            from: protocol.agent.local_addr(),
+            to: protocol.server,
+        },
+        peer_addr: first.peer,
+    })
+}
+
+/// Asks for a socket where one is to be asked for, and else lets time come to a moment.
+fn poll_standing(
     protocol: &mut Protocol,
     ended: &Option<TransactionId>,
     wait: Instant,
@@ -190,6 +215,26 @@ fn poll_allocations(
 ) -> Result<TurnPollRet, NoMemory>
     ensures ok { IfOk result (λ answer.
         IsPolledStanding ended.now wait protocol.old now answer protocol.new) }
+    ensures named { IfOk result (λ answer. answer ≢ TurnPollRet.NoMemory) }
+    ensures err { OnErr result (IsUnderWay protocol.old protocol.new) }
+    ensures memory { OnErr result ((unasked protocol.old.allocations ≡ None)
+        × (all_failures ended.now now (left ended.now now protocol.old) ≢ [])) }
+{
+    if let Some(answer) = ask_socket(protocol) {
+        return Ok(answer);
+    }
+    walk(protocol, ended, wait, now)
+}
+
+/// Lets time come to a moment for the allocations, their permissions, channels and connections.
+fn walk(
+    protocol: &mut Protocol,
+    ended: &Option<TransactionId>,
+    wait: Instant,
+    now: Instant,
+) -> Result<TurnPollRet, NoMemory>
+    ensures ok { IfOk result (λ answer.
+        IsWalked ended.now wait protocol.old now answer protocol.new) }
     ensures named { IfOk result (λ answer. answer ≢ TurnPollRet.NoMemory) }
     ensures err { OnErr result (IsUnderWay protocol.old protocol.new) }
     ensures memory { OnErr result

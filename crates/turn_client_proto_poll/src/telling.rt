@@ -1,8 +1,8 @@
-//! What becomes of permissions and channels as time goes on (RFC 8656, sections 9 and 12), and what
-//! is told of it.
+//! What becomes of permissions, channels and connections as time goes on (RFC 8656, sections 9 and 12;
+//! RFC 6062, section 4.3), and what is told of it.
 
 ghost use Rattle.std.specs.Prelude.{◌≡◌, ◌≢◌, ◌++◌, [], OnOk, OnErr, length, map, take};
-ghost use Rattle.turn_client_proto_poll.specs.Telling.{all_failures, failures, polled};
+ghost use Rattle.turn_client_proto_poll.specs.Telling.{all_failures, failures, polled, relay_failures};
 
 use stun_types::NoMemory;
 use stun_types::message::TransactionId;
@@ -10,10 +10,33 @@ use turn_client_proto_core::Instant;
 use turn_client_proto_core::allocation::allocation::Allocation;
 use turn_client_proto_core::api::event::TurnEvent;
 use turn_client_proto_core::channel::lapse;
+use turn_client_proto_core::connection::told as connections;
 use turn_client_proto_core::permission::queue::queue::QueueOf;
 use turn_client_proto_core::permission::telling;
 
 /// Tells the permissions and channels of an allocation that go. Where memory is refused,
+/// `NoMemory`, and the events that were there still come first.
+#[tactic(auto, using(crate::proofs::Usual::fronts), unfolding(crate::specs::Telling::relay_failures))]
+fn tell_relays(
+    events: &mut QueueOf<TurnEvent>,
+    a: &Allocation,
+    ended: &Option<TransactionId>,
+    now: Instant,
+) -> Result<(), NoMemory>
+    ensures ok { OnOk result (events.new ≡ events.old ++ relay_failures ended.now now a.now) }
+    ensures err { OnErr result (take (length events.old) events.new ≡ events.old) }
+    ensures told { OnErr result (relay_failures ended.now now a.now ≢ []) }
+{
+    telling::tell_over(events, a.transport, a.pending_permissions.as_slice(), ended)?;
+    lapse::tell_over(events, a.transport, a.pending_channels.as_slice(), ended)?;
+    telling::tell_lapsed(events, a.transport, a.permissions.as_slice(), now)?;
+    if let Some(peer) = lapse::peer_lapsing(a.channels.as_slice(), now) {
+        events.push_back(TurnEvent::ChannelCreateFailed(a.transport, peer))?;
+    }
+    Ok(())
+}
+
+/// Tells the permissions, channels and connections of an allocation that go. Where memory is refused,
 /// `NoMemory`, and the events that were there still come first.
 #[tactic(auto, using(crate::proofs::Usual::fronts), unfolding(crate::specs::Telling::failures))]
 fn tell_of(
@@ -26,17 +49,13 @@ fn tell_of(
     ensures err { OnErr result (take (length events.old) events.new ≡ events.old) }
     ensures told { OnErr result (failures ended.now now a.now ≢ []) }
 {
-    telling::tell_over(events, a.transport, a.pending_permissions.as_slice(), ended)?;
-    lapse::tell_over(events, a.transport, a.pending_channels.as_slice(), ended)?;
-    telling::tell_lapsed(events, a.transport, a.permissions.as_slice(), now)?;
-    if let Some(peer) = lapse::peer_lapsing(a.channels.as_slice(), now) {
-        events.push_back(TurnEvent::ChannelCreateFailed(a.transport, peer))?;
-    }
-    Ok(())
+    tell_relays(events, a, ended, now)?;
+    connections::tell_over(events, a.connecting.as_slice(), ended)
 }
 
 /// Tells what goes, of each allocation: the permissions and then the channels whose request ended
-/// without a response; then the permissions that have lapsed, and the channel that lapses. Where
+/// without a response; then the permissions that have lapsed, and the channel that lapses; and then
+/// the connections whose request ended without a response. Where
 /// memory is refused, `NoMemory`, and the events that were there still come first. It is refused
 /// only where there is something to tell.
 #[tactic(auto, using(crate::proofs::Usual::fronts))]
@@ -58,8 +77,8 @@ pub fn tell_failures(
 }
 
 /// Time has come to a moment, and the transaction of this number has ended. Permissions that have
-/// lapsed go, and so do permissions and channels whose request has ended; those that it was to
-/// renew may be renewed again. In each allocation, of the channels whose time is over the last one
+/// lapsed go, and so do permissions, channels and connections whose request has ended; those that it
+/// was to renew may be renewed again. In each allocation, of the channels whose time is over the last one
 /// lapses, and those that have lapsed go where their protection is over. Where memory is refused,
 /// `NoMemory`. It is refused only where there is something to tell.
 pub fn poll(
@@ -71,5 +90,7 @@ pub fn poll(
     ensures told { OnErr result (all_failures ended.now now allocations.old ≢ []) }
 {
     telling::poll(allocations, ended, now);
-    lapse::poll(allocations, ended, now)
+    lapse::poll(allocations, ended, now)?;
+    connections::give_up(allocations, ended);
+    Ok(())
 }

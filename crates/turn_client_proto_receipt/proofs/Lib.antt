@@ -12,11 +12,13 @@ pub mod Streamed
 pub mod Taking
 pub mod Waiting
 pub mod Order
+pub mod Usual
 -- What stands above this crate has these through it.
 pub use Rattle.turn_client_proto_steps.proofs.Keeps
 pub use Rattle.turn_client_proto_steps.proofs.Request
 pub use Rattle.turn_client_proto_steps.proofs.Safe
 pub use Rattle.turn_client_proto_steps.proofs.Beginning as FirstClient
+pub use Rattle.turn_client_proto_steps.proofs.Connecting
 pub use Rattle.turn_client_proto_steps.proofs.Drawing
 pub use Rattle.turn_client_proto_steps.proofs.Ending
 pub use Rattle.turn_client_proto_steps.proofs.Frames

@@ -15,6 +15,7 @@ pub use Rattle.turn_client_proto_steps.specs.Allocation
 pub use Rattle.turn_client_proto_steps.specs.Api
 pub use Rattle.turn_client_proto_steps.specs.Channel
 pub use Rattle.turn_client_proto_steps.specs.Permission
+pub use Rattle.turn_client_proto_steps.specs.Connecting
 pub use Rattle.turn_client_proto_steps.specs.Drawing
 pub use Rattle.turn_client_proto_steps.specs.Headline
 pub use Rattle.turn_client_proto_steps.specs.Indications

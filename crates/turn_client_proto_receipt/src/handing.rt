@@ -33,7 +33,7 @@ pub enum Taken {
 }
 
 /// Hands in bytes that came from the server at a moment.
-#[tactic(auto, unfolding(turn_client_proto_poll::specs::Payloads::payload_of))]
+#[tactic(auto, unfolding(crate::proofs::Usual::opened))]
 pub fn hand_in(protocol: &mut Protocol, bytes: &[u8], now: Instant) -> Result<Taken, NoMemory>
     ensures ok { IfOk result (λ taken. IsFrameTaken protocol.old bytes.now now taken protocol.new) }
     ensures err { OnErr result ((payload_of protocol.old bytes.now ≡ None)

@@ -9,7 +9,7 @@ use Rattle.stun_types.specs.Attributes.{Attr}
 use Rattle.stun_types.specs.Grammar.{number_at, shown}
 use Rattle.stun_types.specs.Registry.{error_code_kind}
 use Rattle.stun_types.specs.ValueReading.{value_refusal}
-use Rattle.turn_types.specs.TurnRegistry.{lifetime_kind, xor_relayed_address_kind}
+use Rattle.turn_types.specs.TurnRegistry.{connection_id_kind, lifetime_kind, xor_relayed_address_kind}
 use Rattle.turn_types.specs.TurnShows.{address_in, each_shown, first_shown, unless_refused}
 
 -- the lifetime in a LIFETIME, where it is well formed
@@ -19,6 +19,14 @@ lifetime_in a = unless_refused (value_refusal lifetime_kind 4 4 a) (Some (big_nu
 -- the lifetime that it tells, in seconds: the first LIFETIME decides
 abbrev pub lifetime_told : List ℕ → Option ℕ
 lifetime_told bytes = option_and_then lifetime_in (first_shown lifetime_kind bytes)
+
+-- the number in a CONNECTION-ID, where it is well formed
+abbrev pub connection_in : Attr → Option ℕ
+connection_in a = unless_refused (value_refusal connection_id_kind 4 4 a) (Some (big_number 4 a.value))
+
+-- the number of a connection that it tells: the first CONNECTION-ID decides (RFC 6062, section 6.2.1)
+abbrev pub connection_told : List ℕ → Option ℕ
+connection_told bytes = option_and_then connection_in (first_shown connection_id_kind bytes)
 
 -- the code of the first ERROR-CODE, where it is there and well formed
 abbrev pub first_code : List ℕ → Option ℕ

@@ -3,13 +3,13 @@
 ghost use Rattle.std.specs.Prelude.{◌≡◌};
 ghost use Rattle.turn_types.specs.TurnRegistry.{xor_relayed_address_kind};
 ghost use Rattle.turn_types.specs.TurnShows.{address_in};
-ghost use Rattle.turn_client_proto_response.specs.Told.{first_code, lifetime_told};
+ghost use Rattle.turn_client_proto_response.specs.Told.{connection_told, first_code, lifetime_told};
 
 use std::convert::TryFrom;
 use std::net::SocketAddr;
 use stun_types::attribute::{AttributeStaticType, ErrorCode, RawAttribute};
 use stun_types::message::{Message, TransactionId};
-use turn_types::attribute::{Lifetime, XorRelayedAddress};
+use turn_types::attribute::{ConnectionId, Lifetime, XorRelayedAddress};
 
 /// The lifetime that a message tells, in seconds (RFC 8656, section 18.2): the first LIFETIME decides,
 /// and tells none where it is malformed.
@@ -19,6 +19,18 @@ pub fn lifetime_told(message: &Message<'_>) -> Option<u32>
     let raw = message.raw_attribute(Lifetime::TYPE)?;
     match Lifetime::try_from(&raw) {
         Ok(lifetime) => Some(lifetime.seconds()),
+        Err(_) => None,
+    }
+}
+
+/// The number of a connection that a message tells (RFC 6062, section 6.2.1): the first CONNECTION-ID
+/// decides, and tells none where it is malformed.
+pub fn connection_told(message: &Message<'_>) -> Option<u32>
+    ensures { result ≡ connection_told message.now }
+{
+    let raw = message.raw_attribute(ConnectionId::TYPE)?;
+    match ConnectionId::try_from(&raw) {
+        Ok(connection) => Some(connection.id()),
         Err(_) => None,
     }
 }

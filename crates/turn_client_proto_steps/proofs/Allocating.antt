@@ -43,7 +43,7 @@ use Rattle.turn_client_proto_steps.specs.Sound.{AreAllocates, IsOrderly}
 use Rattle.turn_client_proto_steps.proofs.Agents.{has_other, message_shown, outstanding_before}
 use Rattle.turn_client_proto_steps.proofs.Asking.{IsUnderWay}
 use Rattle.turn_client_proto_steps.proofs.Lists.{in_filter, in_map, inside}
-use Rattle.turn_client_proto_steps.proofs.Gaining.{anything, fresh, fresh_distinct, in_firsts, kept_gained, none_asked, none_attempted, none_bound, none_peers, none_pending, none_sent, none_short, none_twice, none_waits, relayed_shown, told_created, told_of}
+use Rattle.turn_client_proto_steps.proofs.Gaining.{anything, fresh, fresh_distinct, in_firsts, kept_gained, none_asked, none_attempted, none_bound, none_connects, none_peers, none_pending, none_sent, none_short, none_twice, none_waits, relayed_shown, told_created, told_of}
 use Rattle.turn_client_proto_steps.proofs.Orderly.{until_all}
 use Rattle.turn_client_proto_steps.proofs.Plain.{counts_none, failures_tell_nothing, held_is_kept, joined, none_told, notices}
 
@@ -197,6 +197,7 @@ module _ (c : Client) (signer : signers.Client) (bytes : List ℕ) (lifetime now
         permissions = λ a listed. none_asked transport number lifetime now all agent a listed;
         channels = λ a listed. none_bound transport number lifetime now all agent a listed;
         peers = λ a listed. none_peers transport number lifetime now all a listed;
+        connects = λ a listed. none_connects transport number lifetime now all agent a listed;
         distinct = fresh_distinct transport number lifetime now all;
       };
       can_ask = until_all (phase_by (map (fresh transport number lifetime now) all)) (record {

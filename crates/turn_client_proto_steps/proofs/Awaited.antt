@@ -2,15 +2,16 @@
 use Rattle.std.proofs.Common.{◌≡◌, ℕ, List, Option, Some, None, refl, sym, ap, ◌∙◌}
 use Rattle.std.specs.List.{find}
 use Rattle.std.specs.Option.{option_and_then, option_map, option_or}
-use Rattle.turn_client_proto_poll.specs.Allocation.Awaited.{asks_for_channel, asks_for_permission, renews_channel, renews_permission}
+use Rattle.turn_client_proto_poll.specs.Allocation.Awaited.{asks_for_channel, asks_for_permission, is_connecting, renews_channel, renews_permission}
 use Rattle.turn_client_proto_poll.specs.Allocation.Refreshing.{lifetime_asked}
 use Rattle.turn_client_proto_poll.specs.Channel.Awaited.{asked_by, asked_of, awaits_reply}
 use Rattle.turn_client_proto_poll.specs.Channel.declared.awaited.Asked.{Asked}
-use Rattle.turn_client_proto_poll.specs.Channel.declared.awaited.Asked.TheVariants.{ChannelRenewal, Lifetime, NewChannel, NewPermission, Renewal}
-use Rattle.turn_client_proto_steps.specs.Held.{Allocation, Channel, PendingChannel, PendingPermission, Permission}
+use Rattle.turn_client_proto_poll.specs.Channel.declared.awaited.Asked.TheVariants.{ChannelRenewal, Lifetime, NewChannel, NewConnection, NewPermission, Renewal}
+use Rattle.turn_client_proto_steps.specs.Held.{Allocation, Channel, Connecting, PendingChannel, PendingPermission, Permission}
 use Rattle.turn_client_proto_steps.proofs.Lists.{inside}
 
--- what is asked for of an allocation: a lifetime; a channel, or that one stands on; a permission, or that one stands on
+-- what is asked for of an allocation: a lifetime; a channel, or that one stands on; a permission, or that one stands on; a
+-- connection
 pub data IsAskedOf (number : ℕ) (a : Allocation) (what : Asked) : Type 0 where
   OfLifetime : (lifetime : ℕ) → lifetime_asked number a.pending_refreshes ≡ Some lifetime → what ≡ Lifetime lifetime
       → IsAskedOf number a what
@@ -22,28 +23,31 @@ pub data IsAskedOf (number : ℕ) (a : Allocation) (what : Asked) : Type 0 where
       → what ≡ NewPermission a.transport p.ip → IsAskedOf number a what
   OfRenewal : (p : Permission) → find (renews_permission number) a.permissions ≡ Some p
       → what ≡ Renewal a.transport p.ip → IsAskedOf number a what
+  OfConnection : (c : Connecting) → find (is_connecting number) a.connecting ≡ Some c → what ≡ NewConnection c.peer → IsAskedOf number a what
 
 pub asked_of_is : (number : ℕ) (a : Allocation) (what : Asked) → asked_of number a ≡ Some what → IsAskedOf number a what
 unfolding asked_of
 asked_of_is number a what is =
     by (lifetime_asked number a.pending_refreshes) (find (asks_for_channel number) a.pending_channels) (find (renews_channel number) a.channels)
-    (find (asks_for_permission number) a.pending_permissions) (find (renews_permission number) a.permissions) refl refl refl refl refl is
+    (find (asks_for_permission number) a.pending_permissions) (find (renews_permission number) a.permissions) (find (is_connecting number) a.connecting) refl refl refl refl refl refl is
   where
-    by : (l : Option ℕ) (b : Option PendingChannel) (s : Option Channel) (n : Option PendingPermission) (r : Option Permission)
+    by : (l : Option ℕ) (b : Option PendingChannel) (s : Option Channel) (n : Option PendingPermission) (r : Option Permission) (k : Option Connecting)
         → lifetime_asked number a.pending_refreshes ≡ l
         → find (asks_for_channel number) a.pending_channels ≡ b
         → find (renews_channel number) a.channels ≡ s
         → find (asks_for_permission number) a.pending_permissions ≡ n
         → find (renews_permission number) a.permissions ≡ r
+        → find (is_connecting number) a.connecting ≡ k
         → option_or (option_map Lifetime l) (option_or (option_map (λ c. NewChannel a.transport c.channel c.peer) b) (option_or (option_map (λ c. ChannelRenewal a.transport c.number c.peer) s)
-        (option_or (option_map (λ p. NewPermission a.transport p.ip) n) (option_map (λ p. Renewal a.transport p.ip) r)))) ≡ Some what
+        (option_or (option_map (λ p. NewPermission a.transport p.ip) n) (option_or (option_map (λ p. Renewal a.transport p.ip) r) (option_map (λ c. NewConnection c.peer) k))))) ≡ Some what
         → IsAskedOf number a what
-    by (Some l) b s n r lifetime channel stands new renewal h = OfLifetime l lifetime (sym (inside h))
-    by None (Some c) s n r lifetime channel stands new renewal h = OfAskedChannel c channel (sym (inside h))
-    by None None (Some c) n r lifetime channel stands new renewal h = OfRenewedChannel c stands (sym (inside h))
-    by None None None (Some p) r lifetime channel stands new renewal h = OfNew p new (sym (inside h))
-    by None None None None (Some p) lifetime channel stands new renewal h = OfRenewal p renewal (sym (inside h))
-    by None None None None None lifetime channel stands new renewal h = absurd (Prim.cc h)
+    by (Some l) b s n r k lifetime channel stands new renewal connection h = OfLifetime l lifetime (sym (inside h))
+    by None (Some c) s n r k lifetime channel stands new renewal connection h = OfAskedChannel c channel (sym (inside h))
+    by None None (Some c) n r k lifetime channel stands new renewal connection h = OfRenewedChannel c stands (sym (inside h))
+    by None None None (Some p) r k lifetime channel stands new renewal connection h = OfNew p new (sym (inside h))
+    by None None None None (Some p) k lifetime channel stands new renewal connection h = OfRenewal p renewal (sym (inside h))
+    by None None None None None (Some c) lifetime channel stands new renewal connection h = OfConnection c connection (sym (inside h))
+    by None None None None None None lifetime channel stands new renewal connection h = absurd (Prim.cc h)
 
 -- the first allocation that awaits the response to a request, and what that asks for
 pub record IsFoundBy (number : ℕ) (all : List Allocation) (what : Asked) : Type 0 where

@@ -15,7 +15,7 @@ use Rattle.turn_client_proto_poll.specs.Channel.declared.awaited.Asked.TheVarian
 use Rattle.turn_client_proto_steps.specs.Held.{Allocation, Channel, PendingChannel, PendingPermission}
 use Rattle.turn_client_proto_steps.specs.RunClient.{Parts}
 use Rattle.turn_client_proto_steps.specs.Sound.{AsksFor, IsOrderly, IsWhole}
-use Rattle.turn_client_proto_steps.proofs.Awaited.{IsAskedOf, IsFoundBy, OfAskedChannel, OfLifetime, OfNew, OfRenewal, OfRenewedChannel}
+use Rattle.turn_client_proto_steps.proofs.Awaited.{IsAskedOf, IsFoundBy, OfAskedChannel, OfConnection, OfLifetime, OfNew, OfRenewal, OfRenewedChannel}
 use Rattle.turn_client_proto_steps.proofs.Lists.{found_in, found_passes, inside}
 use Rattle.turn_client_proto_steps.proofs.Permits.{same_peer}
 use Rattle.turn_client_proto_steps.proofs.Taken.{among}
@@ -71,6 +71,7 @@ module _ (p : Parts) (number : ℕ) (transport : TransportType) (channel : ℕ) 
     asked_of_channel (OfRenewedChannel c at same) = absurd (Prim.cc same)
     asked_of_channel (OfNew q at same) = absurd (Prim.cc same)
     asked_of_channel (OfRenewal q at same) = absurd (Prim.cc same)
+    asked_of_channel (OfConnection k at same) = absurd (Prim.cc same)
 
     renewed_of_channel : IsAskedOf number a (ChannelRenewal transport channel peer) → IsChannelOf p number transport channel peer
     renewed_of_channel (OfLifetime l at same) = absurd (Prim.cc same)
@@ -78,6 +79,7 @@ module _ (p : Parts) (number : ℕ) (transport : TransportType) (channel : ℕ) 
     renewed_of_channel (OfRenewedChannel c at same) = renewed_channel c at (Prim.cc same) (Prim.cc same) (Prim.cc same)
     renewed_of_channel (OfNew q at same) = absurd (Prim.cc same)
     renewed_of_channel (OfRenewal q at same) = absurd (Prim.cc same)
+    renewed_of_channel (OfConnection k at same) = absurd (Prim.cc same)
 
   -- one that was asked for
   pub channel_of : IsFoundBy number p.allocations (NewChannel transport channel peer) → IsChannelOf p number transport channel peer
@@ -105,6 +107,7 @@ module _ (number : ℕ) (a : Allocation) (transport : TransportType) (channel : 
   first_asked (OfRenewedChannel b at same) c found = absurd (Prim.cc same)
   first_asked (OfNew q at same) c found = absurd (Prim.cc same)
   first_asked (OfRenewal q at same) c found = absurd (Prim.cc same)
+  first_asked (OfConnection k at same) c found = absurd (Prim.cc same)
 
   -- and so the first one that it is to renew
   pub first_renewed : IsAskedOf number a (ChannelRenewal transport channel peer) → (c : Channel) → find (renews_channel number) a.channels ≡ Some c → (c.number ≡ channel) × (c.peer ≡ peer)
@@ -113,3 +116,4 @@ module _ (number : ℕ) (a : Allocation) (transport : TransportType) (channel : 
   first_renewed (OfRenewedChannel b at same) c found = let own : c ≡ b = inside (sym found ∙ at) in (ap (λ (x : Channel). x.number) own ∙ Prim.cc same, ap (λ (x : Channel). x.peer) own ∙ Prim.cc same)
   first_renewed (OfNew q at same) c found = absurd (Prim.cc same)
   first_renewed (OfRenewal q at same) c found = absurd (Prim.cc same)
+  first_renewed (OfConnection k at same) c found = absurd (Prim.cc same)

@@ -63,6 +63,7 @@ module _ (transport : TransportType) (here server : SocketAddr) (config : Config
     permissions = λ a h. none_listed a h;
     channels = λ a h. none_listed a h;
     peers = λ a h. none_listed a h;
+    connects = λ a h. none_listed a h;
     distinct = subst AreDistinct (sym is.allocations) none_distinct;
   }
 

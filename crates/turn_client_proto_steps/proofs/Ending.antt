@@ -105,6 +105,7 @@ module _ (c : Client) (new : Protocol) (is : HasFailed c.core new) where
     permissions = λ a h. none_listed a h;
     channels = λ a h. none_listed a h;
     peers = λ a h. none_listed a h;
+    connects = λ a h. none_listed a h;
     distinct = subst AreDistinct (sym is.none_allocated) none_distinct;
   }
 

@@ -79,5 +79,9 @@ module _ (New : Gaining) (Now : Asking) (p : Parts) (new : List Allocation) (are
     permissions = permissions;
     channels = channels;
     peers = peers;
+    connects = λ a listed. let was = are a listed in let asked = is.connects was.before was.listed in record {
+      asked = λ c there. asked.asked c (was.is.connecting c there);
+      whole = λ c there. asked.whole c (was.is.connecting c there);
+    };
     distinct = distinct;
   }

@@ -27,7 +27,7 @@ use Rattle.turn_client_proto_poll.specs.Core.Authenticating.{numbers_sent}
 use Rattle.turn_client_proto_poll.specs.Core.Waiting.{Queued}
 use Rattle.turn_client_proto_steps.specs.ClientWords.{Has, HasItself, HasPermission, HasChannel, HasConnection, IsAttempted, IsWaiting, IsAnswered as HasAnswered, IsKept, IsPending, OfPermission, OfChannel, OfNewPermission, OfNewChannel, OfRefresh, OfConnect, OfAttempt, OfBinding, Knows, ByWaiting, ByConnection, Waits}
 use Rattle.turn_client_proto_steps.specs.Held.{Allocation}
-use Rattle.turn_client_proto_steps.specs.Sound.{AreAsked, AreBinding, AreShort, AreWhole, BeforeAllocated}
+use Rattle.turn_client_proto_steps.specs.Sound.{AreAsked, AreBinding, AreConnecting, AreShort, AreWhole, BeforeAllocated}
 use Rattle.turn_client_proto_poll.specs.Channel.Numbers.{AreDistinct, uses}
 use Rattle.turn_client_proto_steps.proofs.Lists.{in_filter, in_map}
 use Rattle.turn_client_proto_steps.proofs.Plain.{notices}
@@ -206,6 +206,14 @@ module _ (transport : TransportType) (number lifetime now : ℕ) where
         record {
           asked = λ c there. absurd (subst (λ (x : Allocation). IsIn c x.pending_channels) image.is there);
           renewed = λ c there. absurd (subst (λ (x : Allocation). IsIn c x.channels) image.is there);
+        }
+
+    pub none_connects : (agent : Agent) (a : Allocation) → IsIn a (map fresh all) → AreConnecting agent a
+    none_connects agent a listed =
+        let image = in_map fresh a all listed in
+        record {
+          asked = λ c there. absurd (subst (λ (x : Allocation). IsIn c x.connecting) image.is there);
+          whole = λ c there. absurd (subst (λ (x : Allocation). IsIn c x.connecting) image.is there);
         }
 
     pub none_peers : (a : Allocation) → IsIn a (map fresh all) → AreWhole a

@@ -42,7 +42,7 @@ use Rattle.turn_client_proto_steps.proofs.Permitting.{ArePermitting, Gaining, at
 use Rattle.turn_client_proto_steps.proofs.Agents.{has_other, message_shown, outstanding_before}
 use Rattle.turn_client_proto_steps.proofs.Allocating.{IsOwn}
 use Rattle.turn_client_proto_steps.proofs.Asking.{IsUnderWay}
-use Rattle.turn_client_proto_steps.proofs.Awaited.{IsAskedOf, IsFoundBy, OfAskedChannel, OfLifetime, OfNew, OfRenewal, OfRenewedChannel, found_by}
+use Rattle.turn_client_proto_steps.proofs.Awaited.{IsAskedOf, IsFoundBy, OfAskedChannel, OfConnection, OfLifetime, OfNew, OfRenewal, OfRenewedChannel, found_by}
 use Rattle.turn_client_proto_steps.proofs.Lists.{found_in, found_passes, inside}
 use Rattle.turn_client_proto_steps.proofs.Orderly.{until_all}
 use Rattle.turn_client_proto_steps.proofs.Plain.{counts_none, held_is_kept, joined, notices}
@@ -68,6 +68,7 @@ asked_in number transport ip all h = by (found_by number all (NewPermission tran
     of a there (OfAskedChannel c at same) = absurd (Prim.cc same)
     of a there (OfRenewedChannel c at same) = absurd (Prim.cc same)
     of a there (OfRenewal p at same) = absurd (Prim.cc same)
+    of a there (OfConnection c at same) = absurd (Prim.cc same)
     of a there (OfNew p at same) = record {
       allocation = a;
       found = there;

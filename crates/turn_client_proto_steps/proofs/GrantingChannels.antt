@@ -21,7 +21,7 @@ use Rattle.turn_client_proto_poll.specs.Members.{IsIn, NoneTwice}
 use Rattle.turn_client_proto_poll.specs.Messages as run
 use Rattle.turn_client_proto_poll.specs.Steps.{Told, WasKnown, told_for}
 use Rattle.turn_client_proto_poll.specs.StunWire.{told_by}
-use Rattle.turn_client_proto_poll.specs.Allocation.Awaited.{asks_for_channel, asks_for_permission, renews_channel, renews_permission}
+use Rattle.turn_client_proto_poll.specs.Allocation.Awaited.{asks_for_channel, asks_for_permission, is_connecting, renews_channel, renews_permission}
 use Rattle.turn_client_proto_poll.specs.Allocation.Changes.{change_first}
 use Rattle.turn_client_proto_poll.specs.Allocation.Refreshing.{lifetime_asked}
 use Rattle.turn_client_proto_poll.specs.Api.declared.event.TurnEvent.{TurnEvent}
@@ -31,13 +31,13 @@ use Rattle.turn_client_proto_poll.specs.Channel.Granted as channels
 use Rattle.turn_client_proto_poll.specs.Channel.Granted.{all_bound, permission_asked}
 use Rattle.turn_client_proto_poll.specs.Channel.Numbers.{AreDistinct}
 use Rattle.turn_client_proto_poll.specs.Channel.declared.awaited.Asked.{Asked}
-use Rattle.turn_client_proto_poll.specs.Channel.declared.awaited.Asked.TheVariants.{ChannelRenewal, Lifetime, NewChannel, NewPermission, Renewal}
+use Rattle.turn_client_proto_poll.specs.Channel.declared.awaited.Asked.TheVariants.{ChannelRenewal, Lifetime, NewChannel, NewConnection, NewPermission, Renewal}
 use Rattle.turn_client_proto_poll.specs.Permission.Granted.{permitted}
 use Rattle.turn_client_proto_poll.specs.Core.Binding.{bound, permission_with, permitted_with, told_with}
 use Rattle.turn_client_proto_poll.specs.Core.Responding.{accepted, judged}
 use Rattle.turn_client_proto_poll.proofs.Channel.Distinct.{bound_stay_distinct}
 use Rattle.turn_client_proto_steps.specs.ClientWords.{client_words}
-use Rattle.turn_client_proto_steps.specs.Held.{Allocation, Channel, PendingChannel, PendingPermission, Permission}
+use Rattle.turn_client_proto_steps.specs.Held.{Allocation, Channel, Connecting, PendingChannel, PendingPermission, Permission}
 use Rattle.turn_client_proto_steps.specs.RunClient.{Client, parts_of}
 use Rattle.turn_client_proto_steps.specs.RunSteps.{IsRunStep}
 use Rattle.turn_client_proto_steps.specs.Sound.{IsOrderly, IsWhole}
@@ -81,19 +81,20 @@ module _ (transport : TransportType) (channel : ℕ) (peer : SocketAddr) (ip : I
   unfolding asked_of
   same_of a is =
       by (lifetime_asked number a.pending_refreshes) (find (asks_for_channel number) a.pending_channels) (find (renews_channel number) a.channels) (find (asks_for_permission number) a.pending_permissions)
-      (find (renews_permission number) a.permissions) _ is
+      (find (renews_permission number) a.permissions) (find (is_connecting number) a.connecting) _ is
     where
-      by : (l : Option ℕ) (b : Option PendingChannel) (s : Option Channel) (n : Option PendingPermission) (r : Option Permission) (others : Option Asked)
+      by : (l : Option ℕ) (b : Option PendingChannel) (s : Option Channel) (n : Option PendingPermission) (r : Option Permission) (k : Option Connecting) (others : Option Asked)
           → option_or (option_map Lifetime l) (option_or (option_map (λ (c : PendingChannel). NewChannel a.transport c.channel c.peer) b)
           (option_or (option_map (λ (c : Channel). ChannelRenewal a.transport c.number c.peer) s)
-          (option_or (option_map (λ (p : PendingPermission). NewPermission a.transport p.ip) n) (option_map (λ (p : Permission). Renewal a.transport p.ip) r)))) ≡ Some (NewChannel transport channel peer)
+          (option_or (option_map (λ (p : PendingPermission). NewPermission a.transport p.ip) n) (option_or (option_map (λ (p : Permission). Renewal a.transport p.ip) r) (option_map (λ (c : Connecting). NewConnection c.peer) k))))) ≡ Some (NewChannel transport channel peer)
           → option_or (option_map Lifetime l) (option_or (option_map (λ (c : PendingChannel). NewChannel a.transport c.channel c.peer) b) others) ≡ Some (NewChannel transport channel peer)
-      by (Some l) b s n r others h = absurd (Prim.cc h)
-      by None (Some c) s n r others h = h
-      by None None (Some c) n r others h = absurd (Prim.cc h)
-      by None None None (Some p) r others h = absurd (Prim.cc h)
-      by None None None None (Some p) others h = absurd (Prim.cc h)
-      by None None None None None others h = absurd (Prim.cc h)
+      by (Some l) b s n r k others h = absurd (Prim.cc h)
+      by None (Some c) s n r k others h = h
+      by None None (Some c) n r k others h = absurd (Prim.cc h)
+      by None None None (Some p) r k others h = absurd (Prim.cc h)
+      by None None None None (Some p) k others h = absurd (Prim.cc h)
+      by None None None None None (Some c) others h = absurd (Prim.cc h)
+      by None None None None None None others h = absurd (Prim.cc h)
 
   pub still_asked : (all : List Allocation) → asked_by number all ≡ Some (NewChannel transport channel peer)
       → asked_by number (change_first (awaits_reply number) (permitted ip number now) all) ≡ Some (NewChannel transport channel peer)

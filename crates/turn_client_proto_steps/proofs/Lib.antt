@@ -8,6 +8,7 @@ pub mod Beginning
 pub mod Binding
 pub mod Chaining
 pub mod Channels
+pub mod Connecting
 pub mod Drawing
 pub mod Ending
 pub mod Fitting
@@ -17,6 +18,8 @@ pub mod Giving
 pub mod Granting
 pub mod GrantingChannels
 pub mod Hearing
+pub mod Joined
+pub mod Joining
 pub mod Leaving
 pub mod Lessening
 pub mod Lists

@@ -4,6 +4,7 @@ pub mod Allocating
 pub mod Binding
 pub mod Calling
 pub mod Channels
+pub mod Connecting
 pub mod Drawing
 pub mod Hearing
 pub mod Judging

@@ -1,5 +1,5 @@
 -- What stays true of the parts of a client that a run tells of.
-use Rattle.std.proofs.Common.{◌≡◌, ℕ, true, List, [], ◌∷◌, ◌++◌, Some, None, sym, ap, ◌∙◌, subst, inl, inr}
+use Rattle.std.proofs.Common.{◌≡◌, ℕ, true, List, [], ◌∷◌, ◌++◌, Some, None, refl, sym, ap, ◌∙◌, subst, inl, inr}
 use Rattle.std.specs.declared.net.socket_addr.SocketAddr.{SocketAddr}
 use Rattle.stun_types.specs.Grammar.{number_at, refusal}
 use Rattle.stun_types.specs.declared.transport.TransportType.{TransportType}
@@ -10,15 +10,15 @@ use Rattle.stun_proto_agent.proofs.Numbers.{sent, sent_shows, still_shows}
 use Rattle.turn_types.specs.TurnRegistry.{allocate_method}
 use Rattle.turn_client_proto_poll.specs.Members.{IsIn}
 use Rattle.turn_client_proto_poll.specs.Channel.Numbers.{AreDistinct}
-use Rattle.turn_client_proto_poll.specs.Messages.{Asks, Held, Holds, Permission, Channel}
+use Rattle.turn_client_proto_poll.specs.Messages.{Asks, Gain, Held, Holds, Knows, Permission, Channel}
 use Rattle.turn_client_proto_poll.specs.StunWire.{told_by}
 use Rattle.turn_client_proto_poll.specs.Core.Waiting.{Queued}
 use Rattle.turn_client_proto_poll.specs.Core.declared.protocol.Phase.{Phase}
 use Rattle.turn_client_proto_poll.specs.Core.declared.protocol.Phase.TheVariants.{Initial, InitialSent, Authenticating, Authenticated, Ended}
-use Rattle.turn_client_proto_steps.specs.ClientWords.{IsPending, OfChannel, OfNewChannel, OfNewPermission}
+use Rattle.turn_client_proto_steps.specs.ClientWords.{IsPending, OfChannel, OfConnect, OfNewChannel, OfNewPermission}
 use Rattle.turn_client_proto_steps.specs.Held.{Allocation, PendingRefresh}
 use Rattle.turn_client_proto_steps.specs.RunClient.{Parts}
-use Rattle.turn_client_proto_steps.specs.Sound.{AreAllocates, AreShort, AsksFor, BeforeAllocated, IsOrderly, UntilEnded}
+use Rattle.turn_client_proto_steps.specs.Sound.{AreAllocates, AreShort, AsksFor, AsksOf, BeforeAllocated, IsOrderly, UntilEnded}
 use Rattle.turn_client_proto_steps.proofs.Adding.{AreLess}
 use Rattle.turn_client_proto_steps.proofs.Agents.{allocates_sent, messages_sent, still_allocates, still_messages}
 use Rattle.turn_client_proto_steps.proofs.Lessening.{still_short}
@@ -63,10 +63,10 @@ until_map Ended f is = tt
 
 -- ---- the parts
 
-pub still_asks : (old new : Agent) → NothingNew old new → (held : Held) (n : ℕ) → AsksFor old held n → AsksFor new held n
-still_asks old new none held n asks t outstanding =
+pub still_asks : (old new : Agent) → NothingNew old new → (gain : Gain) (n : ℕ) → AsksOf old gain n → AsksOf new gain n
+still_asks old new none gain n asks t outstanding =
     let was = none n t outstanding in
-    subst (λ (b : List ℕ). Asks (told_by b) (Holds held)) (sym was.same_bytes) (asks was.before was.there)
+    subst (λ (b : List ℕ). Asks (told_by b) gain) (sym was.same_bytes) (asks was.before was.there)
 
 pub agent_orderly : (p : Parts) (agent : Agent) → NothingNew p.agent agent → IsOrderly p → IsOrderly (record p { agent = agent })
 agent_orderly p agent none is = record {
@@ -81,11 +81,15 @@ agent_orderly p agent none is = record {
     renewed = λ c there n has. asks_still (Channel c.number c.peer) n (asked.renewed c there n has);
   };
   peers = is.peers;
+  connects = λ a listed. let asked = is.connects a listed in record {
+    asked = λ c there. still_asks p.agent agent none (Knows 0 c.peer) c.number (asked.asked c there);
+    whole = asked.whole;
+  };
   distinct = is.distinct;
 }
   where
     asks_still : (held : Held) (n : ℕ) → AsksFor p.agent held n → AsksFor agent held n
-    asks_still held n asks = still_asks p.agent agent none held n asks
+    asks_still held n asks = still_asks p.agent agent none (Holds held) n asks
 
 -- a number that no allocation awaits
 abbrev pub IsFree : Parts → ℕ → Type 0
@@ -103,18 +107,22 @@ request_orderly p bytes to now message free allocate is = record {
   allocates = before_both p.phase (λ (own : IsAllocate p bytes) h. allocates_sent p.agent bytes to now p.allocates own.0 own.1 h) allocate is.allocates;
   queued = is.queued;
   lifetimes = is.lifetimes;
-  permissions = λ a listed pending there n has. asks_yet a listed (Permission a.transport pending.ip) n (OfNewPermission pending there has) (is.permissions a listed pending there n has);
+  permissions = λ a listed pending there n has. asks_yet a listed (Holds (Permission a.transport pending.ip)) n (OfNewPermission pending there has) (is.permissions a listed pending there n has);
   channels = λ a listed. let asked = is.channels a listed in record {
-    asked = λ c there n has. asks_yet a listed (Channel c.channel c.peer) n (OfNewChannel c there has) (asked.asked c there n has);
-    renewed = λ c there n has. asks_yet a listed (Channel c.number c.peer) n (OfChannel c there has) (asked.renewed c there n has);
+    asked = λ c there n has. asks_yet a listed (Holds (Channel c.channel c.peer)) n (OfNewChannel c there has) (asked.asked c there n has);
+    renewed = λ c there n has. asks_yet a listed (Holds (Channel c.number c.peer)) n (OfChannel c there has) (asked.renewed c there n has);
   };
   peers = is.peers;
+  connects = λ a listed. let asked = is.connects a listed in record {
+    asked = λ c there. asks_yet a listed (Knows 0 c.peer) c.number (OfConnect c there refl) (asked.asked c there);
+    whole = asked.whole;
+  };
   distinct = is.distinct;
 }
   where
     -- what is awaited under a number is not what is sent
-    asks_yet : (a : Allocation) → IsIn a p.allocations → (held : Held) (n : ℕ) → IsPending n a → AsksFor p.agent held n → AsksFor (with_request p.agent bytes to now) held n
-    asks_yet a listed held n pending asks t outstanding = elim (sent p.agent bytes to now n t outstanding) [
+    asks_yet : (a : Allocation) → IsIn a p.allocations → (gain : Gain) (n : ℕ) → IsPending n a → AsksOf p.agent gain n → AsksOf (with_request p.agent bytes to now) gain n
+    asks_yet a listed gain n pending asks t outstanding = elim (sent p.agent bytes to now n t outstanding) [
       | inl before ↦ asks t before
       | inr own ↦ absurd (free a listed (subst (λ (k : ℕ). IsPending k a) own.0 pending))
     ]
@@ -132,6 +140,7 @@ queue_orderly p q request is = record {
   permissions = is.permissions;
   channels = is.channels;
   peers = is.peers;
+  connects = is.connects;
   distinct = is.distinct;
 }
 
@@ -145,6 +154,7 @@ drawn_orderly p q rest same is = record {
   permissions = is.permissions;
   channels = is.channels;
   peers = is.peers;
+  connects = is.connects;
   distinct = is.distinct;
 }
 
@@ -158,6 +168,7 @@ phase_orderly p phase allocates is = record {
   permissions = is.permissions;
   channels = is.channels;
   peers = is.peers;
+  connects = is.connects;
   distinct = is.distinct;
 }
 
@@ -179,6 +190,10 @@ allocations_orderly more p new less short distinct is = record {
   peers = λ a listed. let was = less a listed in let whole = is.peers was.before was.listed in record {
     asked = λ c there. whole.asked c (was.less.new_channels c there);
     standing = λ c there. whole.standing c (was.less.channels c there);
+  };
+  connects = λ a listed. let was = less a listed in let asked = is.connects was.before was.listed in record {
+    asked = λ c there. asked.asked c (was.less.connecting c there);
+    whole = λ c there. asked.whole c (was.less.connecting c there);
   };
   distinct = distinct;
 }

@@ -1,5 +1,5 @@
 -- A poll is a step of a run.
-use Rattle.std.proofs.Common.{◌≡◌, ℕ, Bool, true, false, List, [], ◌∷◌, ◌++◌, map, Option, None, refl, sym, ◌∙◌, subst, arith}
+use Rattle.std.proofs.Common.{◌≡◌, ℕ, Bool, true, false, List, [], ◌∷◌, ◌++◌, map, Option, Some, None, MatchOption, refl, sym, ap, ◌∙◌, subst, arith}
 use Rattle.std.specs.Bool.{MatchBool}
 use Rattle.stun_proto.specs.AgentPolls.{StunAgentPollRet}
 use Rattle.stun_proto.specs.State as agents
@@ -12,16 +12,18 @@ use Rattle.turn_client_proto_poll.specs.Channel.Lapsing as channels
 use Rattle.turn_client_proto_poll.specs.Permission.Telling as permissions
 use Rattle.turn_client_proto_poll.specs.Telling as telling
 use Rattle.turn_client_proto_poll.proofs.Channel.Distinct.{alike_uses_less, each_stay_distinct, polled_uses_less}
-use Rattle.turn_client_proto_poll.specs.Api.declared.event.TurnEvent.TheVariants.{ChannelCreateFailed, PermissionCreateFailed}
+use Rattle.turn_client_proto_poll.specs.Api.declared.event.TurnEvent.TheVariants.{ChannelCreateFailed, PermissionCreateFailed, TcpConnectFailed}
 use Rattle.turn_client_proto_poll.specs.Api.declared.answer.TurnPollRet.{TurnPollRet}
 use Rattle.turn_client_proto_poll.specs.Api.declared.answer.TurnPollRet.TheVariants as answer
 use Rattle.turn_client_proto_poll.specs.Api.declared.event.TurnEvent.{TurnEvent}
 use Rattle.turn_client_proto_poll.specs.Core.Ending.{ended}
-use Rattle.turn_client_proto_poll.specs.Polling.{IsPolled, IsPolledBy, IsPolledIn, IsPolledSent, after_time, left, waits_until}
+use Rattle.turn_client_proto_poll.specs.Connection.Told as connections
+use Rattle.turn_client_proto_poll.specs.Connection.Waiting.{asked_in, has_unasked, unasked}
+use Rattle.turn_client_proto_poll.specs.Polling.{IsPolled, IsPolledBy, IsPolledIn, IsPolledSent, IsWalked, after_asking, after_time, left, socket_for, waits_until}
 use Rattle.turn_client_proto_poll.specs.Core.declared.protocol.Phase.{Phase}
 use Rattle.turn_client_proto_poll.specs.Core.declared.protocol.Phase.TheVariants.{Initial, InitialSent, Authenticating, Authenticated, Ended}
 use Rattle.turn_client_proto_poll.specs.Core.declared.protocol.Protocol.{Protocol}
-use Rattle.turn_client_proto_steps.specs.Held.{Allocation}
+use Rattle.turn_client_proto_steps.specs.Held.{Allocation, Waiting}
 use Rattle.turn_client_proto_steps.specs.RunClient.{Client, Parts, parts_of}
 use Rattle.turn_client_proto_steps.specs.RunSteps.{IsRunStep}
 use Rattle.turn_client_proto_steps.specs.Sound.{IsOrderly, IsSound}
@@ -29,7 +31,9 @@ use Rattle.turn_client_proto_steps.proofs.Adding.{Adds, adds_both, agent_less, a
 use Rattle.turn_client_proto_steps.proofs.Binding as binding
 use Rattle.turn_client_proto_steps.proofs.Chaining.{both_permitting}
 use Rattle.turn_client_proto_steps.proofs.Ending.{ends, failed_step, still, still_can}
-use Rattle.turn_client_proto_steps.proofs.Lessening.{IsAlike, all_polled, polled_distinct}
+use Rattle.turn_client_proto_steps.proofs.Joining.{AreJoining, allocations_joining, each_joining, first_joining, joining_orderly, none_connects, none_learnt}
+use Rattle.turn_client_proto_steps.proofs.Joined.{asked_joining, given_up_distinct, given_up_joining}
+use Rattle.turn_client_proto_steps.proofs.Lessening.{IsAlike, all_polled, polled_distinct, same_first_distinct}
 use Rattle.turn_client_proto_steps.proofs.Orderly.{agent_orderly, allocations_orderly, until_map}
 use Rattle.turn_client_proto_steps.proofs.Permissions.{polled_permitting}
 use Rattle.turn_client_proto_steps.proofs.Fitting.{none_fit, permitting_orderly}
@@ -57,9 +61,13 @@ none_bound transport (peer ∷ all) = none_bound transport all
 neither_told : (events more : List TurnEvent) → notices events ≡ [] → notices more ≡ [] → notices (events ++ more) ≡ []
 neither_told events more one other = none_told events more other ∙ one
 
-of_one : (over : Option ℕ) (now : ℕ) (a : Allocation) → notices (telling.failures over now a) ≡ []
-unfolding telling.failures
-of_one over now a =
+none_connected : (all : List SocketAddr) → notices (map TcpConnectFailed all) ≡ []
+none_connected [] = refl
+none_connected (peer ∷ all) = none_connected all
+
+of_relays : (over : Option ℕ) (now : ℕ) (a : Allocation) → notices (telling.relay_failures over now a) ≡ []
+unfolding telling.relay_failures
+of_relays over now a =
     let ips = permissions.addresses_over over a.pending_permissions in
     let peers = channels.peers_over over a.pending_channels in
     let lapsed = permissions.addresses_lapsed now a.permissions in
@@ -68,16 +76,30 @@ of_one over now a =
     (neither_told (map (ChannelCreateFailed a.transport) peers) _ (none_bound a.transport peers)
     (neither_told (map (PermissionCreateFailed a.transport) lapsed) _ (none_created a.transport lapsed) (none_bound a.transport lapsing)))
 
+of_one : (over : Option ℕ) (now : ℕ) (a : Allocation) → notices (telling.failures over now a) ≡ []
+unfolding telling.failures
+of_one over now a =
+    let peers = connections.peers_over over a.connecting in
+    neither_told (telling.relay_failures over now a) (map TcpConnectFailed peers) (of_relays over now a) (none_connected peers)
+
 ends_tell_nothing : (over : Option ℕ) (now : ℕ) (all : List Allocation) → notices (telling.all_failures over now all) ≡ []
 ends_tell_nothing over now [] = refl
 ends_tell_nothing over now (a ∷ rest) = neither_told (telling.failures over now a) (telling.all_failures over now rest) (of_one over now a) (ends_tell_nothing over now rest)
 
 -- ---- what becomes of an allocation
 
--- its permissions first, and then its channels
-both_polled : (over : Option ℕ) (now : ℕ) (a : Allocation) → IsPermitting none_gained none_asks a (telling.polled over now a)
+-- its permissions first, then its channels, and then its connections
+abbrev relays_polled : Option ℕ → ℕ → Allocation → Allocation
+relays_polled over now a = channels.polled over now (permissions.polled over now a)
+
+both_polled : (over : Option ℕ) (now : ℕ) (a : Allocation) → IsPermitting none_gained none_asks a (relays_polled over now a)
 both_polled over now a =
-    both_permitting none_gained none_asks a (permissions.polled over now a) (telling.polled over now a) (polled_permitting over now a) (binding.polled_permitting over now (permissions.polled over now a))
+    both_permitting none_gained none_asks a (permissions.polled over now a) (relays_polled over now a) (polled_permitting over now a) (binding.polled_permitting over now (permissions.polled over now a))
+
+-- both changes of each
+one_after_another : (over : Option ℕ) (now : ℕ) (all : List Allocation) → map (connections.given_up over) (map (relays_polled over now) all) ≡ map (telling.polled over now) all
+one_after_another over now [] = refl
+one_after_another over now (a ∷ rest) = ap (λ (l : List Allocation). telling.polled over now a ∷ l) (one_after_another over now rest)
 
 -- ---- the agent was polled
 
@@ -86,8 +108,8 @@ unfolding permissions.polled
 polled_permissions_alike over now a = (refl, refl)
 
 -- numbers of channels stay distinct
-both_distinct : (over : Option ℕ) (now : ℕ) (all : List Allocation) → AreDistinct all → AreDistinct (map (telling.polled over now) all)
-both_distinct over now all distinct = each_stay_distinct all (telling.polled over now) (λ a number.
+both_distinct : (over : Option ℕ) (now : ℕ) (all : List Allocation) → AreDistinct all → AreDistinct (map (relays_polled over now) all)
+both_distinct over now all distinct = each_stay_distinct all (relays_polled over now) (λ a number.
     let one = alike_uses_less a (permissions.polled over now a) (polled_permissions_alike over now a).0 (polled_permissions_alike over now a).1 number in
     let other = polled_uses_less over now (permissions.polled over now a) number in
     omega (arith, one, other)) distinct
@@ -119,28 +141,56 @@ module _ (c : Client) (sound : IsSound c) (now : ℕ) (ticked : StunAgentPollRet
   unfolding after_time
   stands over new same =
       let renewed : List Allocation = left over now mid in
+      let relays : List Allocation = map (relays_polled over now) renewed in
       let last : List Allocation = map (telling.polled over now) renewed in
       let core : Protocol = after_time over now mid in
       let less = all_polled over now c.core.allocations in
       let kept : AreDistinct renewed = polled_distinct over now c.core.allocations sound.orderly.distinct in
       let between : Parts = record (parts_of mid) { allocations = renewed } in
-      let are = each_permitting none_gained none_asks (telling.polled over now) (both_polled over now) renewed in
+      let are = each_permitting none_gained none_asks (relays_polled over now) (both_polled over now) renewed in
+      let behind : Parts = record (parts_of mid) { allocations = relays } in
+      let fewer : AreJoining none_connects none_learnt relays last =
+      subst (λ (l : List Allocation). AreJoining none_connects none_learnt relays l) (one_after_another over now renewed)
+      (each_joining none_connects none_learnt (connections.given_up over) (given_up_joining over) relays) in
       let adds = adds_both [] (parts_of c.core) (parts_of mid) (parts_of core) mid_adds
       (adds_both [] (parts_of mid) between (parts_of core) (allocations_less [] [] (parts_of mid) renewed less (λ r h. absurd h))
-      (allocations_permitting [] none_asks between last are (λ held n h. absurd h))) in
+      (adds_both [] between behind (parts_of core) (allocations_permitting [] none_asks between relays are (λ held n h. absurd h))
+      (allocations_joining [] none_connects behind last fewer (λ k h. absurd h)))) in
       subst (λ (p : Protocol). IsRunStep c [] None [] p) (sym same)
       (run_step [] [] None [] c c.drawn core
       (quiet None [] c c.drawn core (counts_none c core refl) adds (nothing_drawn [] c) (none_told c.core.events (telling.all_failures over now renewed) (ends_tell_nothing over now renewed)))
-      (permitting_orderly none_gained none_asks between last are (none_fit agent)
+      (joining_orderly none_connects none_learnt behind last fewer (λ k h. absurd h) (λ k h. absurd h)
+      (subst AreDistinct (one_after_another over now renewed) (given_up_distinct over relays (both_distinct over now renewed kept)))
+      (permitting_orderly none_gained none_asks between relays are (none_fit agent)
       (allocations_orderly [] (parts_of mid) renewed less (λ r h. absurd h) kept mid_orderly)
-      (both_distinct over now renewed kept))
+      (both_distinct over now renewed kept)))
       (until_map c.core.phase (still_can c core refl refl refl) sound.can_ask))
+
+  -- a socket is asked for
+  asks_socket : (new : Protocol) → new ≡ after_asking mid → IsRunStep c [] None [] new
+  unfolding after_asking
+  asks_socket new same =
+      let core : Protocol = after_asking mid in
+      let are = first_joining none_connects none_learnt has_unasked asked_in c.core.allocations (λ a found. asked_joining a) in
+      subst (λ (p : Protocol). IsRunStep c [] None [] p) (sym same)
+      (run_step [] [] None [] c c.drawn core
+      (quiet None [] c c.drawn core (counts_none c core refl)
+      (adds_both [] (parts_of c.core) (parts_of mid) (parts_of core) mid_adds (allocations_joining [] none_connects (parts_of mid) core.allocations are (λ k h. absurd h)))
+      (nothing_drawn [] c) refl)
+      (joining_orderly none_connects none_learnt (parts_of mid) core.allocations are (λ k h. absurd h) (λ k h. absurd h)
+      (same_first_distinct has_unasked asked_in (λ a. (refl, refl)) c.core.allocations sound.orderly.distinct) mid_orderly)
+      (until_map c.core.phase (still_can c core refl refl refl) sound.can_ask))
+
+  standing_in : (found : Option Waiting) (over : Option ℕ) (wait : ℕ) (ret : TurnPollRet) (new : Protocol)
+      → MatchOption found (IsWalked over wait mid now ret new) (λ w. (ret ≡ socket_for mid w) × (new ≡ after_asking mid)) → IsRunStep c [] None [] new
+  standing_in None over wait ret new h = stands over new h.outcome.1
+  standing_in (Some w) over wait ret new h = asks_socket new h.1
 
   ticked_in : (phase : Phase) (over : Option ℕ) (wait : ℕ) (ret : TurnPollRet) (new : Protocol) → IsPolledIn phase over wait mid now ret new → IsRunStep c [] None [] new
   ticked_in Initial over wait ret new h = ticks new h.1
   ticked_in (InitialSent numbers) over wait ret new h = sent_ticks numbers over wait ret new h
   ticked_in (Authenticating numbers) over wait ret new h = sent_ticks numbers over wait ret new h
-  ticked_in Authenticated over wait ret new h = stands over new h.outcome.1
+  ticked_in Authenticated over wait ret new h = standing_in (unasked c.core.allocations) over wait ret new h
   ticked_in Ended over wait ret new h = ticks new h.1
 
 polled_by : (c : Client) (events : List TurnEvent) (now : ℕ) (ret : TurnPollRet) (new : Protocol) → IsSound c → IsPolledBy events c.core now ret new → IsRunStep c [] None [] new

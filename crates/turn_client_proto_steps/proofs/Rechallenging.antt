@@ -5,6 +5,7 @@ use Rattle.std.specs.List.{find}
 use Rattle.std.specs.Option.{option_map}
 use Rattle.std.specs.Prelude.{is_some}
 use Rattle.std.specs.declared.net.ip_addr.IpAddr.{IpAddr}
+use Rattle.std.specs.declared.net.socket_addr.SocketAddr.{SocketAddr}
 use Rattle.stun_types.specs.Grammar.{number_at}
 use Rattle.stun_proto.specs.Agents.{Transaction}
 use Rattle.stun_proto.specs.Handling.{after_message, is_awaited}
@@ -19,10 +20,10 @@ use Rattle.turn_client_proto_poll.specs.Allocation.Awaited.{is_refresh}
 use Rattle.turn_client_proto_poll.specs.Channel.Awaited.{all_asked_too, asked_by, asked_too, awaits_reply}
 use Rattle.turn_client_proto_poll.specs.Channel.Numbers.{AreDistinct}
 use Rattle.turn_client_proto_poll.specs.Channel.declared.awaited.Asked.{Asked}
-use Rattle.turn_client_proto_poll.specs.Channel.declared.awaited.Asked.TheVariants.{ChannelRenewal, Lifetime, NewChannel, NewPermission, Renewal}
+use Rattle.turn_client_proto_poll.specs.Channel.declared.awaited.Asked.TheVariants.{ChannelRenewal, Lifetime, NewChannel, NewConnection, NewPermission, Renewal}
 use Rattle.turn_client_proto_poll.specs.Request.Requests.{request_text}
 use Rattle.turn_client_proto_poll.specs.Request.declared.request.TurnRequest.{TurnRequest}
-use Rattle.turn_client_proto_poll.specs.Request.declared.request.TurnRequest.TheVariants.{ChannelBind, CreatePermission, Refresh}
+use Rattle.turn_client_proto_poll.specs.Request.declared.request.TurnRequest.TheVariants.{ChannelBind, Connect, CreatePermission, Refresh}
 use Rattle.turn_client_proto_poll.specs.Core.Asking.{asked}
 use Rattle.turn_client_proto_poll.specs.Core.Ending.{ended}
 use Rattle.turn_client_proto_poll.specs.Core.Numbering.{after_number}
@@ -35,13 +36,16 @@ use Rattle.turn_client_proto_poll.proofs.Request.Peers.{peer_read}
 use Rattle.turn_client_proto_steps.specs.Held.{Allocation, PendingRefresh}
 use Rattle.turn_client_proto_steps.specs.RunClient.{Client, Parts, parts_of}
 use Rattle.turn_client_proto_steps.specs.RunSteps.{IsRunStep}
-use Rattle.turn_client_proto_steps.specs.Sound.{AreShort}
+use Rattle.turn_client_proto_steps.specs.Sound.{AreShort, IsWhole}
 use Rattle.turn_client_proto_steps.proofs.Adding.{AreLess, adds_both, agent_less, allocations_less}
 use Rattle.turn_client_proto_steps.proofs.Asking.{IsMade, IsUnderWay, asked_adds, asked_orderly, asks, made}
-use Rattle.turn_client_proto_steps.proofs.Awaited.{IsAskedOf, IsFoundBy, OfAskedChannel, OfLifetime, OfNew, OfRenewal, OfRenewedChannel, found_by}
+use Rattle.turn_client_proto_steps.proofs.Awaited.{IsAskedOf, IsFoundBy, OfAskedChannel, OfConnection, OfLifetime, OfNew, OfRenewal, OfRenewedChannel, found_by}
 use Rattle.turn_client_proto_steps.proofs.AwaitedChannels.{channel_of, first_asked, first_renewed, permission_of, renewal_of}
 use Rattle.turn_client_proto_steps.proofs.Binding.{asked_too_permitting, renewed_too_permitting}
+use Rattle.turn_client_proto_steps.proofs.Connecting.{IsConnectFound, asks_connect, connect_found, connect_number, found_whole, whole_to}
 use Rattle.turn_client_proto_steps.proofs.Hearing.{done, over}
+use Rattle.turn_client_proto_steps.proofs.Joined.{again_joining, asks_to}
+use Rattle.turn_client_proto_steps.proofs.Joining.{AreJoining, IsJoining, allocations_joining, first_joining, joining_orderly, none_learnt}
 use Rattle.turn_client_proto_steps.proofs.Lessening.{first_less, one_awaited, same_first_distinct}
 use Rattle.turn_client_proto_steps.proofs.Lists.{found_in, inside}
 use Rattle.turn_client_proto_steps.proofs.Orderly.{agent_orderly, allocations_orderly}
@@ -110,6 +114,34 @@ module _ (c : Client) (mid : Protocol) (bytes : List ℕ) (now : ℕ) (under_way
       (asked_orderly mid request number now is (allocated _ mid.phase stands) under_way.orderly) distinct) in
       asks c mid request number under_way is (bytes ∷ []) None core adds orderly refl under_way.can_ask.families refl refl (nothing_drawn begun c)
 
+  -- a CONNECT once more
+  connects : (number : ℕ) (peer : SocketAddr) → IsWhole peer → IsMade mid (Connect peer) number
+      → AreJoining (asks_to peer number) none_learnt mid.allocations (all_asked_too (NewConnection peer) (number_at bytes) number mid.allocations) → IsRunStep c (bytes ∷ []) None [] (again (NewConnection peer) number)
+  unfolding challenged asks_again asked
+  connects number peer whole is are =
+      let begun : List run.Message = told_by (request_text mid.auth (Connect peer) number) ∷ [] in
+      let made_it : Parts = parts_of (asked (after_number mid) (Connect peer) number now) in
+      let left : List Allocation = all_asked_too (NewConnection peer) (number_at bytes) number mid.allocations in
+      let listed : Parts = record made_it { allocations = left } in
+      let agent : Agent = after_message made_it.agent bytes mid.server in
+      let none : NothingNew made_it.agent agent = handled_new made_it.agent bytes mid.server in
+      let core : Protocol = again (NewConnection peer) number in
+      let distinct : AreDistinct left = first_stay_distinct mid.allocations (awaits_reply (number_at bytes)) (asked_too (NewConnection peer) (number_at bytes) number) (λ a found. asked_too_uses_less (NewConnection peer) (number_at bytes) number a) under_way.orderly.distinct in
+      let adds = adds_both begun (parts_of mid) made_it (parts_of core) (asked_adds mid (Connect peer) number now)
+      (adds_both begun made_it listed (parts_of core) (allocations_joining begun (asks_to peer number) made_it left are (connect_number mid peer number now is)) (agent_less begun listed agent none)) in
+      let orderly = agent_orderly listed agent none (joining_orderly (asks_to peer number) none_learnt made_it left are (asks_connect mid peer number now is) (whole_to peer number whole) distinct
+      (asked_orderly mid (Connect peer) number now is (allocated _ mid.phase stands) under_way.orderly)) in
+      asks c mid (Connect peer) number under_way is (bytes ∷ []) None core adds orderly refl under_way.can_ask.families refl refl (nothing_drawn begun c)
+
+  -- the first allocation that awaits the response asks by it in place of the old one
+  connects_first : (number : ℕ) (peer : SocketAddr) → IsConnectFound (number_at bytes) peer mid.allocations
+      → AreJoining (asks_to peer number) none_learnt mid.allocations (all_asked_too (NewConnection peer) (number_at bytes) number mid.allocations)
+  connects_first number peer is =
+      first_joining (asks_to peer number) none_learnt (awaits_reply (number_at bytes)) (asked_too (NewConnection peer) (number_at bytes) number) mid.allocations (λ a found.
+      subst (λ (x : Allocation). IsJoining (asks_to peer number) none_learnt x (asked_too (NewConnection peer) (number_at bytes) number x)) (inside (sym is.found ∙ found))
+      (subst (λ (x : SocketAddr). IsJoining (asks_to x number) none_learnt is.allocation (asked_too (NewConnection peer) (number_at bytes) number is.allocation)) is.is_peer
+      (again_joining (number_at bytes) number is.allocation is.connection is.at)))
+
   -- what is asked for by the first allocation that awaits a response
   of_first : (what : Asked) (first : IsFoundBy (number_at bytes) mid.allocations what) (a : Allocation) → find (awaits_reply (number_at bytes)) mid.allocations ≡ Some a → IsAskedOf (number_at bytes) a what
   of_first what first a found = subst (λ (x : Allocation). IsAskedOf (number_at bytes) x what) (inside (sym first.found ∙ found)) first.is
@@ -127,6 +159,7 @@ module _ (c : Client) (mid : Protocol) (bytes : List ℕ) (now : ℕ) (under_way
       by (OfRenewedChannel b at same) = absurd (Prim.cc same)
       by (OfNew p at same) = absurd (Prim.cc same)
       by (OfRenewal p at same) = absurd (Prim.cc same)
+      by (OfConnection k at same) = absurd (Prim.cc same)
 
       small : lifetime < 2 ^ 32
       small = by first.is
@@ -160,6 +193,7 @@ module _ (c : Client) (mid : Protocol) (bytes : List ℕ) (now : ℕ) (under_way
       one a (OfAskedChannel b at same) = absurd (Prim.cc same)
       one a (OfRenewedChannel b at same) = absurd (Prim.cc same)
       one a (OfRenewal p at same) = absurd (Prim.cc same)
+      one a (OfConnection k at same) = absurd (Prim.cc same)
       one a (OfNew p at same) =
           subst (λ (x : IpAddr). IsPermitting none_gained (asks_by (CreatePermission x) h.number) a (asked_too (NewPermission transport x) (number_at bytes) h.number a)) (Prim.cc same)
           (asking_again_permitting transport (number_at bytes) h.number a p at)
@@ -169,6 +203,11 @@ module _ (c : Client) (mid : Protocol) (bytes : List ℕ) (now : ℕ) (under_way
       (anew (Renewal transport ip) h.number made_it (permission_fit mid ip h.number now made_it)
       (first_permitting none_gained (asks_by (CreatePermission ip) h.number) (awaits_reply (number_at bytes)) (asked_too (Renewal transport ip) (number_at bytes) h.number) mid.allocations
       (λ a found. renewing_again_permitting transport ip (number_at bytes) h.number a)))
+  sent_again (NewConnection peer) handled new t there first h =
+      let is = connect_found (number_at bytes) peer mid.allocations first in
+      let whole = found_whole (parts_of mid) (number_at bytes) peer under_way.orderly is in
+      let made_it = made c mid (Connect peer) h.number under_way h.lawful (peer_read h.number peer whole.own whole.flow whole.scope) h.is_next in
+      subst (λ (p : Protocol). IsRunStep c (bytes ∷ []) None [] p) (sym h.outcome.1) (connects h.number peer whole made_it (connects_first h.number peer is))
 
   asked_again : (outstanding : Option Transaction) (what : Option Asked) (handled : Bool) (new : Protocol) → finite.get mid.agent.outstanding (number_at bytes) ≡ outstanding → is_some outstanding ≡ true
       → asked_by (number_at bytes) mid.allocations ≡ what → IsAskedAgain what mid bytes now handled new → IsRunStep c (bytes ∷ []) None [] new

@@ -16,12 +16,12 @@ use Rattle.stun_proto.specs.Client as signers
 use Rattle.stun_proto.specs.ClientAuthErrors.{LongTermClientAuthError, Unauthorized, IntegrityFailed, UnsupportedFeature, NoMemory}
 use Rattle.stun_proto.specs.ClientValidations.{LongTermClientValidation, ResendRequest, Validated}
 use Rattle.stun_proto.specs.Handling.{is_awaited, is_response}
-use Rattle.turn_types.specs.TurnRegistry.{channel_bind_method, create_permission_method, refresh_method}
+use Rattle.turn_types.specs.TurnRegistry.{channel_bind_method, connect_method, create_permission_method, refresh_method}
 use Rattle.turn_client_proto_poll.specs.Allocation.Refreshing.{ends_by, renewed}
 use Rattle.turn_client_proto_poll.specs.Api.declared.event.TurnEvent.TheVariants.{PermissionCreateFailed}
 use Rattle.turn_client_proto_poll.specs.Channel.Awaited.{asked_by}
 use Rattle.turn_client_proto_poll.specs.Channel.declared.awaited.Asked.{Asked}
-use Rattle.turn_client_proto_poll.specs.Channel.declared.awaited.Asked.TheVariants.{ChannelRenewal, Lifetime, NewChannel, NewPermission, Renewal}
+use Rattle.turn_client_proto_poll.specs.Channel.declared.awaited.Asked.TheVariants.{ChannelRenewal, Lifetime, NewChannel, NewConnection, NewPermission, Renewal}
 use Rattle.turn_client_proto_poll.specs.Permission.Granted as granted_again
 use Rattle.turn_client_proto_poll.specs.Permission.Granted.{turned_down}
 use Rattle.turn_client_proto_poll.specs.Request.Judging.{IsJudged}
@@ -39,6 +39,8 @@ use Rattle.turn_client_proto_steps.specs.Sound.{CanAsk, IsOrderly}
 use Rattle.turn_client_proto_steps.proofs.Adding.{AreLess, adds_both, allocations_less, phase_moved}
 use Rattle.turn_client_proto_steps.proofs.Allocating.{IsOwn, validated_own}
 use Rattle.turn_client_proto_steps.proofs.Asking.{IsUnderWay, once_accepted, once_judged}
+use Rattle.turn_client_proto_steps.proofs.Awaited.{found_by}
+use Rattle.turn_client_proto_steps.proofs.Connecting.{KnowsOne, connect_found, connect_responded, known_step}
 use Rattle.turn_client_proto_steps.proofs.Granting.{asked_in, granted_step}
 use Rattle.turn_client_proto_steps.proofs.GrantingChannels.{bound_step}
 use Rattle.turn_client_proto_steps.proofs.Hearing.{done}
@@ -118,6 +120,7 @@ module _ (c : Client) (mid : Protocol) (bytes : List ℕ) (now : ℕ) (under_way
   refused_for : (what : Option Asked) (handled : Bool) (new : Protocol) → IsRefusedFor what mid (number_at bytes) handled new → IsRunStep c (bytes ∷ []) None [] new
   refused_for None handled new h = done c (bytes ∷ []) mid new under_way h.1
   refused_for (Some (Lifetime lifetime)) handled new h = done c (bytes ∷ []) mid new under_way h.1
+  refused_for (Some (NewConnection to)) handled new h = done c (bytes ∷ []) mid new under_way h.1
   refused_for (Some (NewChannel transport channel peer)) handled new h = done c (bytes ∷ []) mid new under_way h.1
   refused_for (Some (ChannelRenewal transport channel peer)) handled new h = done c (bytes ∷ []) mid new under_way h.1
   refused_for (Some (NewPermission transport ip)) handled new h = refused_step transport ip new h.1
@@ -132,6 +135,7 @@ module _ (c : Client) (mid : Protocol) (bytes : List ℕ) (now : ℕ) (under_way
       → IsGrantedFor what mid (number_at bytes) now handled new → IsRunStep c (bytes ∷ []) None [] new
   granted_for grants None handled new at ok h = done c (bytes ∷ []) mid new under_way h.1
   granted_for grants (Some (Lifetime lifetime)) handled new at ok h = done c (bytes ∷ []) mid new under_way h.1
+  granted_for grants (Some (NewConnection to)) handled new at ok h = done c (bytes ∷ []) mid new under_way h.1
   granted_for grants (Some (NewChannel transport channel peer)) handled new at ok h = done c (bytes ∷ []) mid new under_way h.1
   granted_for grants (Some (ChannelRenewal transport channel peer)) handled new at ok h = done c (bytes ∷ []) mid new under_way h.1
   granted_for grants (Some (NewPermission transport ip)) handled new at ok h = subst (λ (p : Protocol). IsRunStep c (bytes ∷ []) None [] p) (sym h.1) (grants transport ip at ok)
@@ -143,15 +147,17 @@ module _ (c : Client) (mid : Protocol) (bytes : List ℕ) (now : ℕ) (under_way
       (λ (_ : is_error_class (class_of (kind_at bytes)) ≡ true) one. refused_for (asked_by (number_at bytes) mid.allocations) handled new one)
       (λ (ok : is_error_class (class_of (kind_at bytes)) ≡ false) one. granted_for grants (asked_by (number_at bytes) mid.allocations) handled new refl ok one) h
 
-  request_answered : GrantsOne → BindsOne c mid bytes now under_way → (handled : Bool) (new : Protocol) → IsRequestAnswered mid bytes now handled new → IsRunStep c (bytes ∷ []) None [] new
-  request_answered grants binds handled new h =
+  request_answered : GrantsOne → BindsOne c mid bytes now under_way → KnowsOne c mid bytes under_way → (handled : Bool) (new : Protocol) → IsRequestAnswered mid bytes now handled new → IsRunStep c (bytes ∷ []) None [] new
+  request_answered grants binds knows handled new h =
       by_test (method_of (kind_at bytes) == refresh_method)
       (λ (_ : (method_of (kind_at bytes) == refresh_method) ≡ true) (o : (handled ≡ true) × (new ≡ after_refresh bytes now mid)). subst (λ (p : Protocol). IsRunStep c (bytes ∷ []) None [] p) (sym o.1) granted)
       (λ (_ : (method_of (kind_at bytes) == refresh_method) ≡ false) one. by_test (method_of (kind_at bytes) == create_permission_method)
       (λ (_ : (method_of (kind_at bytes) == create_permission_method) ≡ true) two. permission_responded grants handled new two)
       (λ (_ : (method_of (kind_at bytes) == create_permission_method) ≡ false) two. by_test (method_of (kind_at bytes) == channel_bind_method)
       (λ (_ : (method_of (kind_at bytes) == channel_bind_method) ≡ true) three. bind_responded c mid bytes now under_way binds handled new three)
-      (λ (_ : (method_of (kind_at bytes) == channel_bind_method) ≡ false) (o : (handled ≡ false) × (new ≡ mid)). done c (bytes ∷ []) mid new under_way o.1) two) one) h
+      (λ (_ : (method_of (kind_at bytes) == channel_bind_method) ≡ false) three. by_test (method_of (kind_at bytes) == connect_method)
+      (λ (_ : (method_of (kind_at bytes) == connect_method) ≡ true) four. connect_responded c mid bytes under_way knows handled new four)
+      (λ (_ : (method_of (kind_at bytes) == connect_method) ≡ false) (o : (handled ≡ false) × (new ≡ mid)). done c (bytes ∷ []) mid new under_way o.1) three) two) one) h
 
 -- ---- by the verdict
 
@@ -188,6 +194,13 @@ module _ (c : Client) (bytes : List ℕ) (now : ℕ) (orderly : IsOrderly (parts
     binds_one (Some t) there some transport channel peer at ok =
         bound_step c signer bytes now message (succeeds ok) taken own transport channel peer at t there orderly under_way
 
+    knows_one : (found : Option Transaction) → finite.get c.core.agent.outstanding (number_at bytes) ≡ found → is_some found ≡ true → KnowsOne c (accepted bytes (judged signer c.core)) bytes under_way
+    unfolding accepted
+    knows_one None there some peer connection at told = absurd (Prim.cc some)
+    knows_one (Some t) there some peer connection at told =
+        known_step c signer bytes message (both_of (is_response bytes) (is_awaited c.core.agent bytes) taken).0 own peer connection told
+        (connect_found (number_at bytes) peer c.core.allocations (found_by (number_at bytes) c.core.allocations (NewConnection peer) at)) t there orderly under_way
+
   taken_up : (algorithm : IntegrityAlgorithm) (signer : signers.Client) (handled : Bool) (new : Protocol) → IsJudged c.core.auth bytes (Ok (Validated algorithm)) signer
       → IsTakenUp (judged signer c.core) bytes now handled new → IsRunStep c (bytes ∷ []) None [] new
   taken_up algorithm signer handled new is h =
@@ -198,7 +211,7 @@ module _ (c : Client) (bytes : List ℕ) (now : ℕ) (orderly : IsOrderly (parts
       let found = finite.get c.core.agent.outstanding (number_at bytes) in
       let some = (both_of (is_response bytes) (is_awaited c.core.agent bytes) taken).1 in
       request_answered c (accepted bytes (judged signer c.core)) bytes now accepts
-      (grants_one algorithm signer is taken accepts found refl some) (binds_one algorithm signer is taken accepts found refl some) handled new one)
+      (grants_one algorithm signer is taken accepts found refl some) (binds_one algorithm signer is taken accepts found refl some) (knows_one algorithm signer is taken accepts found refl some) handled new one)
       (λ (_ : (is_response bytes && is_awaited c.core.agent bytes) ≡ false) (o : (handled ≡ false) × (new ≡ judged signer c.core)). done c (bytes ∷ []) (judged signer c.core) new under_way o.1) h
 
   pub standing_judged : (verdict : Result LongTermClientValidation LongTermClientAuthError) (signer : signers.Client) (handled : Bool) (new : Protocol) → IsJudged c.core.auth bytes verdict signer

@@ -11,7 +11,7 @@ use Rattle.turn_client_proto_poll.specs.Channel.Awaited.{asked_by}
 use Rattle.turn_client_proto_poll.specs.Channel.Granted as channels
 use Rattle.turn_client_proto_poll.specs.Channel.Numbers.{AreDistinct}
 use Rattle.turn_client_proto_poll.specs.Channel.declared.awaited.Asked.{Asked}
-use Rattle.turn_client_proto_poll.specs.Channel.declared.awaited.Asked.TheVariants.{ChannelRenewal, Lifetime, NewChannel, NewPermission, Renewal}
+use Rattle.turn_client_proto_poll.specs.Channel.declared.awaited.Asked.TheVariants.{ChannelRenewal, Lifetime, NewChannel, NewConnection, NewPermission, Renewal}
 use Rattle.turn_client_proto_poll.specs.Permission.Granted as permissions
 use Rattle.turn_client_proto_poll.specs.Core.Binding.{IsBindResponded, IsBoundFor, IsUnboundFor, bound, lets_lapse, permission_with, renews_channels, told_with, turned_down_with, unbound}
 use Rattle.turn_client_proto_poll.specs.Core.Responding.{is_error_class}
@@ -78,6 +78,7 @@ module _ (c : Client) (mid : Protocol) (bytes : List ℕ) (now : ℕ) (under_way
   unbound_for : (what : Option Asked) (handled : Bool) (new : Protocol) → IsUnboundFor what mid number handled new → IsRunStep c (bytes ∷ []) None [] new
   unbound_for None handled new h = done c (bytes ∷ []) mid new under_way h.1
   unbound_for (Some (Lifetime lifetime)) handled new h = done c (bytes ∷ []) mid new under_way h.1
+  unbound_for (Some (NewConnection to)) handled new h = done c (bytes ∷ []) mid new under_way h.1
   unbound_for (Some (NewChannel transport channel peer)) handled new h =
       subst (λ (p : Protocol). IsRunStep c (bytes ∷ []) None [] p) (sym h.1) (unbound_step transport peer (permission_with number mid.allocations))
   unbound_for (Some (ChannelRenewal transport channel peer)) handled new h = subst (λ (p : Protocol). IsRunStep c (bytes ∷ []) None [] p) (sym h.1) (lapses_step transport peer)
@@ -102,6 +103,7 @@ module _ (c : Client) (mid : Protocol) (bytes : List ℕ) (now : ℕ) (under_way
       → IsBoundFor what mid number now handled new → IsRunStep c (bytes ∷ []) None [] new
   bound_for binds None handled new at ok h = done c (bytes ∷ []) mid new under_way h.1
   bound_for binds (Some (Lifetime lifetime)) handled new at ok h = done c (bytes ∷ []) mid new under_way h.1
+  bound_for binds (Some (NewConnection to)) handled new at ok h = done c (bytes ∷ []) mid new under_way h.1
   bound_for binds (Some (NewChannel transport channel peer)) handled new at ok h = subst (λ (p : Protocol). IsRunStep c (bytes ∷ []) None [] p) (sym h.1) (binds transport channel peer at ok)
   bound_for binds (Some (ChannelRenewal transport channel peer)) handled new at ok h = subst (λ (p : Protocol). IsRunStep c (bytes ∷ []) None [] p) (sym h.1) renews_step
   bound_for binds (Some (NewPermission transport ip)) handled new at ok h = done c (bytes ∷ []) mid new under_way h.1

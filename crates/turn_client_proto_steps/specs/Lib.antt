@@ -11,6 +11,7 @@ pub use Rattle.turn_client_proto_poll.specs.Allocation
 pub use Rattle.turn_client_proto_poll.specs.Api
 pub use Rattle.turn_client_proto_poll.specs.Channel
 pub use Rattle.turn_client_proto_poll.specs.Permission
+pub use Rattle.turn_client_proto_poll.specs.Connecting
 pub use Rattle.turn_client_proto_poll.specs.Drawing
 pub use Rattle.turn_client_proto_poll.specs.Headline
 pub use Rattle.turn_client_proto_poll.specs.Indications

@@ -1,4 +1,4 @@
--- What is always true of a client (RFC 8489, sections 5, 6 and 9.2; RFC 8656, sections 7, 8, 10 and 12).
+-- What is always true of a client (RFC 8489, sections 5, 6 and 9.2; RFC 8656, sections 7, 8, 10 and 12; RFC 6062, section 4).
 use Rattle.std.specs.Prelude.{◌≡◌, ℕ, ◌*◌, ◌<◌, ◌≤◌, ◌^◌, List, true, length, Some, None}
 use Rattle.std.specs.FinMap as map
 use Rattle.rand_chacha.specs.ChaCha.{ChaCha, next_word}
@@ -16,13 +16,13 @@ use Rattle.turn_client_proto_poll.specs.Members.{IsIn}
 use Rattle.std.specs.Net.Socket.{IsSocketAddr, socket_flowinfo, socket_scope_id}
 use Rattle.std.specs.declared.net.socket_addr.SocketAddr.{SocketAddr}
 use Rattle.turn_client_proto_poll.specs.Channel.Numbers.{AreDistinct}
-use Rattle.turn_client_proto_poll.specs.Messages.{Asks, Held, Holds, Permission, Channel as ChannelHeld}
+use Rattle.turn_client_proto_poll.specs.Messages.{Asks, Gain, Held, Holds, Knows, Permission, Channel as ChannelHeld}
 use Rattle.turn_client_proto_poll.specs.StunWire.{told_by}
 use Rattle.turn_client_proto_poll.specs.Core.Waiting.{Queued}
 use Rattle.turn_client_proto_poll.specs.Core.declared.protocol.Phase.{Phase}
 use Rattle.turn_client_proto_poll.specs.Core.declared.protocol.Phase.TheVariants.{Initial, InitialSent, Authenticating, Authenticated, Ended}
 use Rattle.turn_client_proto_poll.specs.Request.ShortTexts.{HasShortTexts}
-use Rattle.turn_client_proto_steps.specs.Held.{Allocation, Channel, PendingChannel, PendingPermission, PendingRefresh}
+use Rattle.turn_client_proto_steps.specs.Held.{Allocation, Channel, Connecting, PendingChannel, PendingPermission, PendingRefresh}
 use Rattle.turn_client_proto_steps.specs.RunClient.{Client, Parts, parts_of}
 
 -- ---- what is outstanding
@@ -51,9 +51,11 @@ AreShort refreshes = (r : PendingRefresh) → IsIn r refreshes → r.lifetime < 
 -- ---- what is asked for
 
 -- what is outstanding under a number, if anything is, asks for this
+abbrev pub AsksOf : Agent → Gain → ℕ → Type 0
+AsksOf agent gain number = (t : Transaction) → map.get agent.outstanding number ≡ Some t → Asks (told_by t.bytes) gain
+
 abbrev pub AsksFor : Agent → Held → ℕ → Type 0
-AsksFor agent held number = (t : Transaction) → map.get agent.outstanding number ≡ Some t
-    → Asks (told_by t.bytes) (Holds held)
+AsksFor agent held number = AsksOf agent (Holds held) number
 
 -- an outstanding request under a number of a permission that was asked for asks for that very permission
 abbrev pub AreAsked : Agent → Allocation → Type 0
@@ -78,6 +80,12 @@ pub record AreWhole (a : Allocation) : Type 0 where
   pub asked : (c : PendingChannel) → IsIn c a.pending_channels → IsWhole c.peer
   pub standing : (c : Channel) → IsIn c a.channels → IsWhole c.peer
 
+-- an outstanding request under the number of a connection that was asked for asks for one to that very peer, of whatever
+-- number the server knows it by; and the peer can be named in it
+pub record AreConnecting (agent : Agent) (a : Allocation) : Type 0 where
+  pub asked : (c : Connecting) → IsIn c a.connecting → AsksOf agent (Knows 0 c.peer) c.number
+  pub whole : (c : Connecting) → IsIn c a.connecting → IsWhole c.peer
+
 -- each outstanding request is a message, kept under its own number; until the server has allocated it is an
 -- ALLOCATE for the client's transport; what waits to be sent is requests; what allocations await was asked for; the
 -- peers of channels can be named in requests; and no two channels have one number
@@ -90,6 +98,7 @@ pub record IsOrderly (p : Parts) : Type 0 where
   pub permissions : (a : Allocation) → IsIn a p.allocations → AreAsked p.agent a
   pub channels : (a : Allocation) → IsIn a p.allocations → AreBinding p.agent a
   pub peers : (a : Allocation) → IsIn a p.allocations → AreWhole a
+  pub connects : (a : Allocation) → IsIn a p.allocations → AreConnecting p.agent a
   pub distinct : AreDistinct p.allocations
 
 -- ---- what a client needs to ask for something

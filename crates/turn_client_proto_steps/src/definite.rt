@@ -18,6 +18,9 @@ ghost use Rattle.turn_client_proto_poll.specs.Api.declared.error.CreatePermissio
 ghost use Rattle.turn_client_proto_poll.specs.Api.declared.error.DeleteError.{DeleteError};
 ghost use Rattle.turn_client_proto_poll.specs.Api.declared.error.DeleteError.TheVariants as deletion;
 ghost use Rattle.turn_client_proto_poll.specs.Api.declared.error.SendError.{SendError};
+ghost use Rattle.turn_client_proto_poll.specs.Api.declared.error.TcpConnectError.{TcpConnectError};
+ghost use Rattle.turn_client_proto_poll.specs.Api.declared.error.TcpConnectError.TheVariants as connection;
+ghost use Rattle.turn_client_proto_poll.specs.Connecting.{IsConnectAnswered};
 ghost use Rattle.turn_client_proto_poll.specs.Core.Binding.{IsBindAnswered};
 ghost use Rattle.turn_client_proto_poll.specs.Core.Deleting.{IsDeleteAnswered};
 ghost use Rattle.turn_client_proto_poll.specs.Core.Permitting.{IsPermissionAnswered};
@@ -97,5 +100,17 @@ pub fn binding_is_definite()
         → again ≢ Err channel.NoMemory
         → IsBindAnswered old transport peer now answer one
         → IsBindAnswered old transport peer now again other
+        → (answer ≡ again) × (one ≡ other) }
+{}
+
+/// One peer at one moment: what `tcp_connect` answers, and what the client is then, are one, unless
+/// memory was refused.
+pub fn connecting_is_definite()
+    ensures { (old one other : Protocol) (peer : SocketAddr) (now : ℕ)
+        (answer again : Result (Unit {0}) TcpConnectError)
+        → answer ≢ Err connection.NoMemory
+        → again ≢ Err connection.NoMemory
+        → IsConnectAnswered old peer now answer one
+        → IsConnectAnswered old peer now again other
         → (answer ≡ again) × (one ≡ other) }
 {}

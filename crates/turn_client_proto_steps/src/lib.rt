@@ -46,6 +46,8 @@ ghost use Rattle.turn_client_proto_poll.specs.Core.Permitting.{IsPermissionAnswe
 ghost use Rattle.turn_client_proto_poll.specs.Api.declared.error.SendError.{SendError};
 ghost use Rattle.turn_client_proto_poll.specs.Api.declared.event.TurnEvent.{TurnEvent};
 ghost use Rattle.turn_client_proto_poll.specs.Core.Deleting.{IsDeleteAnswered};
+ghost use Rattle.turn_client_proto_poll.specs.Api.declared.error.TcpConnectError.{TcpConnectError};
+ghost use Rattle.turn_client_proto_poll.specs.Connecting.{IsConnectAnswered};
 ghost use Rattle.turn_client_proto_poll.specs.Drawing.{IsDrawn, Sent};
 ghost use Rattle.turn_client_proto_poll.specs.Core.Ending.{HasFailed, ended};
 ghost use Rattle.turn_client_proto_poll.specs.OfPeers.{told_of};
@@ -179,6 +181,18 @@ pub fn bindings_are_steps()
         → IsSilent c new }
 {}
 
+/// `tcp_connect` to a peer without flow information and scope is a step in which a CONNECT is made, where
+/// it is answered so. Refused it changes nothing but that an allocation may be marked as expired; where
+/// memory is refused, the number that was drawn counts, and nothing else changes (RFC 6062, section 4.3).
+pub fn connects_are_steps()
+    ensures { (c : Client) (peer : SocketAddr) (now : ℕ)
+        (answer : Result (Unit {0}) TcpConnectError) (new : Protocol)
+        → IsSound c
+        → IsWhole peer
+        → IsConnectAnswered c.core peer now answer new
+        → IsSilent c new }
+{}
+
 /// `send_to` is a step in which nothing is asked for, drawn or gained: what carries bytes to a peer is
 /// written for the user. The number of a SEND indication counts as drawn (RFC 8656, section 11.1).
 pub fn sends_are_steps()
@@ -190,7 +204,7 @@ pub fn sends_are_steps()
 {}
 
 /// `poll` is a step in which nothing is asked for and nothing gained: requests and allocations may
-/// go.
+/// go, and a socket may be asked for.
 pub fn polls_are_steps()
     ensures { (c : Client) (now : ℕ) (answer : TurnPollRet) (new : Protocol)
         → IsSound c
@@ -210,8 +224,9 @@ pub fn draws_are_steps()
 /// A message that came is a step. What the client then holds in addition was brought by that
 /// message: it validates under a key of the client's, answers an ALLOCATE that was outstanding, or a
 /// CREATE_PERMISSION for that very address, or a CHANNEL_BIND of that very number to that very peer,
-/// and that is outstanding no more (RFC 8656, sections 7.3, 10.3 and 12.3). A challenge may make a
-/// request (RFC 8489, section 9.2.5).
+/// and that is outstanding no more (RFC 8656, sections 7.3, 10.3 and 12.3). The number of a connection to a
+/// peer that it then knows was brought so, too, by the answer to a CONNECT to that very peer (RFC 6062,
+/// section 4.3). A challenge may make a request (RFC 8489, section 9.2.5).
 pub fn messages_are_steps()
     ensures { (c : Client) (bytes : List ℕ) (now : ℕ) (handled : Bool) (new : Protocol)
         → IsSound c

@@ -7,7 +7,7 @@ use turn_client_proto_api::Instant;
 use turn_client_proto_api::answer::Socket5Tuple;
 use turn_client_proto_api::data::TurnPeerData;
 use turn_client_proto_api::error::{
-    BindChannelError, CreatePermissionError, DeleteError, SendError,
+    BindChannelError, CreatePermissionError, DeleteError, SendError, TcpConnectError,
 };
 use turn_client_proto_api::event::TurnEvent;
 
@@ -20,6 +20,8 @@ pub enum Refusal {
     CreatePermission(CreatePermissionError),
     /// Why no channel is asked for.
     BindChannel(BindChannelError),
+    /// Why no connection is asked for.
+    TcpConnect(TcpConnectError),
     /// Why nothing is sent to a peer.
     Send(SendError),
 }

@@ -24,6 +24,8 @@ pub enum ClientCall {
     BindChannel(TransportType, SocketAddr),
     /// `channels`.
     Channels,
+    /// `tcp_connect` to the peer.
+    TcpConnect(SocketAddr),
     /// `send_to` the peer, over this transport between the server and the peers, of these bytes.
     SendTo(TransportType, SocketAddr, Vec<u8>),
     /// `poll_recv`.

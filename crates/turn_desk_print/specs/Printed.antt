@@ -13,6 +13,8 @@ use Rattle.stun_types.specs.declared.transport.TransportType.{TransportType}
 use Rattle.stun_types.specs.declared.transport.TransportType.TheVariants.{Udp, Tcp}
 use Rattle.turn_desk_event.specs.declared.error.BindChannelError.{BindChannelError}
 use Rattle.turn_desk_event.specs.declared.error.BindChannelError.TheVariants as Binds
+use Rattle.turn_desk_event.specs.declared.error.TcpConnectError.{TcpConnectError}
+use Rattle.turn_desk_event.specs.declared.error.TcpConnectError.TheVariants as Connects
 use Rattle.turn_desk_event.specs.declared.error.CreatePermissionError.{CreatePermissionError}
 use Rattle.turn_desk_event.specs.declared.error.CreatePermissionError.TheVariants as Permits
 use Rattle.turn_desk_event.specs.declared.error.DeleteError.{DeleteError}
@@ -24,7 +26,7 @@ use Rattle.turn_desk_event.specs.declared.api_event.TurnEvent.TheVariants as Eve
 use Rattle.turn_desk_event.specs.declared.answer.Answer.{Answer}
 use Rattle.turn_desk_event.specs.declared.answer.Answer.TheVariants as Answers
 use Rattle.turn_desk_event.specs.declared.answer.Refusal.{Refusal}
-use Rattle.turn_desk_event.specs.declared.answer.Refusal.TheVariants.{BindChannel, CreatePermission, Delete, Send}
+use Rattle.turn_desk_event.specs.declared.answer.Refusal.TheVariants.{BindChannel, CreatePermission, Delete, Send, TcpConnect}
 
 -- the word for a transport
 abbrev pub transport_word : TransportType → List ℕ
@@ -70,6 +72,13 @@ bind_error_text Binds.NoAllocation = codes "NoAllocation"
 bind_error_text Binds.NoChannel = codes "NoChannel"
 bind_error_text Binds.NoMemory = codes "NoMemory"
 
+-- why no connection is asked for
+abbrev pub connect_error_text : TcpConnectError → List ℕ
+connect_error_text Connects.AlreadyExists = codes "AlreadyExists"
+connect_error_text Connects.NoAllocation = codes "NoAllocation"
+connect_error_text Connects.NoPermission = codes "NoPermission"
+connect_error_text Connects.NoMemory = codes "NoMemory"
+
 -- why nothing is sent to a peer
 abbrev pub send_error_text : SendError → List ℕ
 send_error_text Sends.NoAllocation = codes "NoAllocation"
@@ -83,6 +92,7 @@ abbrev pub refusal_text : Refusal → List ℕ
 refusal_text (Delete error) = delete_error_text error
 refusal_text (CreatePermission error) = permission_error_text error
 refusal_text (BindChannel error) = bind_error_text error
+refusal_text (TcpConnect error) = connect_error_text error
 refusal_text (Send error) = send_error_text error
 
 -- whether a permission stands

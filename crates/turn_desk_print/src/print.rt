@@ -4,7 +4,7 @@ ghost use Rattle.std.specs.Prelude.{◌≡◌, ◌++◌, IfOk, OnOk, codes, deci
 ghost use Rattle.std.specs.List.{flat_map};
 ghost use Rattle.std.specs.Net.Text.{socket_text};
 ghost use Rattle.program_lines.specs.LowerHex.{hex_text};
-ghost use Rattle.turn_desk_print.specs.Printed.{answer_text, answer_words, between_text, bind_error_text, channel_text, delete_error_text, event_text, family_word, have_text, icmp_text, permission_error_text, permitted_text, placed_text, refusal_text, relayed_text, send_error_text, transport_word};
+ghost use Rattle.turn_desk_print.specs.Printed.{answer_text, answer_words, between_text, bind_error_text, channel_text, delete_error_text, event_text, family_word, have_text, icmp_text, permission_error_text, permitted_text, placed_text, refusal_text, relayed_text, send_error_text, transport_word, connect_error_text};
 
 use program_lines::lower_hex::write_hex;
 use std::alloc::{AllocError, Global};
@@ -13,7 +13,9 @@ use stun_types::{AddressFamily, TransportType};
 use turn_desk_event::answer::{Answer, Refusal};
 use turn_desk_event::api_answer::Socket5Tuple;
 use turn_desk_event::api_event::TurnEvent;
-use turn_desk_event::error::{BindChannelError, CreatePermissionError, DeleteError, SendError};
+use turn_desk_event::error::{
+    BindChannelError, CreatePermissionError, DeleteError, SendError, TcpConnectError,
+};
 
 /// The line that an answer is printed as, with its line feed. Where memory is refused,
 /// `AllocError`.
@@ -255,7 +257,20 @@ fn print_refusal(alloc: Global, refusal: Refusal) -> Result<String, AllocError>
             format!(in alloc; "refused {}", name_of_permission_error(error))
         }
         Refusal::BindChannel(error) => print_bind_refusal(alloc, error),
+        Refusal::TcpConnect(error) => format!(in alloc; "refused {}", name_of_connect_error(error)),
         Refusal::Send(error) => format!(in alloc; "refused {}", name_of_send_error(error)),
+    }
+}
+
+/// The name of the reason for which no connection is asked for.
+fn name_of_connect_error(error: TcpConnectError) -> &'static str
+    ensures { result.now ≡ connect_error_text error }
+{
+    match error {
+        TcpConnectError::AlreadyExists => "AlreadyExists",
+        TcpConnectError::NoAllocation => "NoAllocation",
+        TcpConnectError::NoPermission => "NoPermission",
+        _ => "NoMemory",
     }
 }
 

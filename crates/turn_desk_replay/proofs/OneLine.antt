@@ -11,7 +11,7 @@ use Rattle.turn_desk_trace.specs.declared.line.Line.TheVariants.{Setup, Event}
 use Rattle.turn_desk_trace.specs.declared.setup.Setup.{Setup as SettingUp}
 use Rattle.turn_desk_trace.specs.declared.setup.Setup.TheVariants.{Desk, User, Rto, Client}
 use Rattle.turn_desk_world.specs.declared.event.ClientCall.{ClientCall}
-use Rattle.turn_desk_world.specs.declared.event.ClientCall.TheVariants.{Poll, PollEvent, Delete, CreatePermission, HavePermission, Permissions, BindChannel, Channels, SendTo, PollRecv, ProtocolError, RelayedAddresses}
+use Rattle.turn_desk_world.specs.declared.event.ClientCall.TheVariants.{Poll, PollEvent, Delete, CreatePermission, HavePermission, Permissions, BindChannel, Channels, SendTo, PollRecv, ProtocolError, RelayedAddresses, TcpConnect}
 use Rattle.turn_desk_world.specs.declared.event.Event.{Event as Happening}
 use Rattle.turn_desk_world.specs.declared.event.Event.TheVariants.{Call, Draw, ToClient, ToDesk}
 use Rattle.turn_desk_world.specs.Model.{World}
@@ -51,6 +51,7 @@ call_name name rest (CreatePermission transport ip) moment is = (ap sets_up is.0
 call_name name rest (HavePermission transport ip) moment is = (ap sets_up is.0, ap is_client is.0)
 call_name name rest (Permissions transport socket) moment is = (ap sets_up is.0, ap is_client is.0)
 call_name name rest (BindChannel transport peer) moment is = (ap sets_up is.0, ap is_client is.0)
+call_name name rest (TcpConnect peer) moment is = (ap sets_up is.0, ap is_client is.0)
 call_name name rest Channels moment is = (ap sets_up is.0, ap is_client is.0)
 call_name name rest (SendTo transport to bytes) moment is = absurd is
 call_name name rest PollRecv moment is = (ap sets_up is.0, ap is_client is.0)

@@ -5,7 +5,7 @@ use Rattle.std.specs.declared.net.ip_addr.IpAddr.{IpAddr}
 use Rattle.std.specs.declared.net.socket_addr.SocketAddr.{SocketAddr}
 use Rattle.stun_types.specs.declared.transport.TransportType.{TransportType}
 use Rattle.turn_desk_event.specs.declared.event.ClientCall.{ClientCall}
-use Rattle.turn_desk_event.specs.declared.event.ClientCall.TheVariants.{Poll, PollEvent, Delete, CreatePermission, HavePermission, Permissions, BindChannel, Channels, SendTo, PollRecv, ProtocolError, RelayedAddresses}
+use Rattle.turn_desk_event.specs.declared.event.ClientCall.TheVariants.{Poll, PollEvent, Delete, CreatePermission, HavePermission, Permissions, BindChannel, Channels, SendTo, PollRecv, ProtocolError, RelayedAddresses, TcpConnect}
 use Rattle.turn_desk_event.specs.declared.event.Event.{Event}
 use Rattle.turn_desk_event.specs.declared.event.Event.TheVariants.{Call, Draw, ToClient, ToDesk}
 use Rattle.turn_desk_print.specs.Printed.{transport_word}
@@ -50,6 +50,13 @@ abbrev pub IsBind : List (List ℕ) → TransportType → SocketAddr → ℕ →
 IsBind [] transport peer moment = ⊥
 IsBind (now ∷ rest) transport peer moment = (number now ≡ Some moment) × IsPlacedSocket rest transport peer
 
+-- the words behind `connect` spell a moment and this transport address
+abbrev pub IsConnect : List (List ℕ) → SocketAddr → ℕ → Type 0
+IsConnect [] peer moment = ⊥
+IsConnect (now ∷ []) peer moment = ⊥
+IsConnect (now ∷ address ∷ []) peer moment = (number now ≡ Some moment) × IsSocketText address peer
+IsConnect (now ∷ address ∷ more ∷ rest) peer moment = ⊥
+
 -- a name and the words behind it spell a call of the client at a moment; one that sends bytes is spelled below
 abbrev pub IsCall : List ℕ → List (List ℕ) → ClientCall → ℕ → Type 0
 IsCall name rest Poll moment = (name ≡ codes "poll") × IsMoment rest moment
@@ -63,6 +70,7 @@ IsCall name rest (Permissions transport socket) moment =
     (name ≡ codes "permissions") × IsPlacedSocket rest transport socket × (moment ≡ 0)
 IsCall name rest (BindChannel transport peer) moment =
     (name ≡ codes "bind") × IsBind rest transport peer moment
+IsCall name rest (TcpConnect peer) moment = (name ≡ codes "connect") × IsConnect rest peer moment
 IsCall name rest Channels moment = (name ≡ codes "channels") × IsNoMoment rest moment
 IsCall name rest (SendTo transport to bytes) moment = ⊥
 IsCall name rest PollRecv moment = (name ≡ codes "recv") × IsMoment rest moment

@@ -6,7 +6,7 @@ ghost use Rattle.std.specs.declared.net.socket_addr.SocketAddr.{SocketAddr};
 ghost use Rattle.stun_types.specs.declared.transport.TransportType.{TransportType};
 ghost use Rattle.turn_desk_event.specs.declared.event.ClientCall.{ClientCall};
 ghost use Rattle.turn_desk_event.specs.declared.event.Event.{Event};
-ghost use Rattle.turn_desk_trace.specs.Event.{IsBind, IsCall, IsEvent, IsMoment, IsNoMoment, IsPermission, IsPlacedIp, IsPlacedSocket, IsSend, IsToClient, IsToClientFrom, IsToClientOf, IsToDesk, IsToDeskFrom, IsToDeskOf};
+ghost use Rattle.turn_desk_trace.specs.Event.{IsBind, IsCall, IsEvent, IsMoment, IsNoMoment, IsPermission, IsPlacedIp, IsPlacedSocket, IsSend, IsToClient, IsToClientFrom, IsToClientOf, IsToDesk, IsToDeskFrom, IsToDeskOf, IsConnect};
 
 use crate::address::{read_address, read_ip, read_transport};
 use crate::bytes::read_bytes;
@@ -252,6 +252,10 @@ fn read_call(name: &str, words: &[&str]) -> Option<(ClientCall, Instant)>
             Some((ClientCall::BindChannel(transport, peer), now))
         }
         "channels" => Some((ClientCall::Channels, read_no_moment(words)?)),
+        "connect" => {
+            let (peer, now) = read_connect(words)?;
+            Some((ClientCall::TcpConnect(peer), now))
+        }
         "recv" => Some((ClientCall::PollRecv, read_moment(words)?)),
         "error" => Some((ClientCall::ProtocolError, read_no_moment(words)?)),
         "relayed" => Some((ClientCall::RelayedAddresses, read_no_moment(words)?)),
@@ -312,6 +316,21 @@ fn read_bind(words: &[&str]) -> Option<(TransportType, SocketAddr, Instant)>
             (Some(now), Some((transport, peer))) => {
                 Some((transport, peer, Instant::from_nanos(now)))
             }
+            _ => None,
+        },
+        _ => None,
+    }
+}
+
+/// The transport address and the moment of a line that begins with `connect`, from the words behind it.
+fn read_connect(words: &[&str]) -> Option<(SocketAddr, Instant)>
+    ensures { MatchOption result ((peer : SocketAddr) (moment : ℕ)
+        → ¬ (IsConnect (map (λ x. x.now) words.now) peer moment))
+        (λ read. IsConnect (map (λ x. x.now) words.now) read.0 read.1) }
+{
+    match words {
+        [now, peer] => match (read_u64(now), read_address(peer)) {
+            (Some(now), Some(peer)) => Some((peer, Instant::from_nanos(now))),
             _ => None,
         },
         _ => None,

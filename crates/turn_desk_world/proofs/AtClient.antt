@@ -38,15 +38,16 @@ use Rattle.turn_client_proto.proofs.Receiving.{receive_step}
 use Rattle.turn_client_proto.proofs.Refreshing.{delete_step}
 use Rattle.turn_client_proto.proofs.Requesting.{permission_step}
 use Rattle.turn_client_proto.proofs.RequestingChannels.{bind_step}
+use Rattle.turn_client_proto.proofs.Connecting.{connect_step}
 use Rattle.turn_client_proto.proofs.Sending.{send_step}
 use Rattle.turn_desk_event.specs.declared.answer.Answer.{Answer}
 use Rattle.turn_desk_event.specs.declared.answer.Answer.TheVariants as answer
-use Rattle.turn_desk_event.specs.declared.answer.Refusal.TheVariants.{BindChannel as BindRefused, CreatePermission as PermissionRefused, Delete as DeleteRefused, Send as SendRefused}
+use Rattle.turn_desk_event.specs.declared.answer.Refusal.TheVariants.{BindChannel as BindRefused, CreatePermission as PermissionRefused, Delete as DeleteRefused, Send as SendRefused, TcpConnect as ConnectRefused}
 use Rattle.turn_desk_event.specs.declared.event.ClientCall.{ClientCall}
 use Rattle.turn_desk_event.specs.declared.event.ClientCall.TheVariants as call
 use Rattle.turn_desk_event.specs.declared.event.Event.{Event}
 use Rattle.turn_desk_event.specs.declared.event.Event.TheVariants as event
-use Rattle.turn_desk_world.specs.Calls.{AreChannelsTold, ArePermissionsTold, IsBindTold, IsCalled, IsDeleteTold, IsDrawnAs, IsEndTold, IsEventTold, IsFed, IsHaveTold, IsPermissionTold, IsPolledAs, IsRelayedTold, IsSendTold, IsTold}
+use Rattle.turn_desk_world.specs.Calls.{AreChannelsTold, ArePermissionsTold, IsBindTold, IsCalled, IsDeleteTold, IsDrawnAs, IsEndTold, IsEventTold, IsFed, IsHaveTold, IsPermissionTold, IsPolledAs, IsRelayedTold, IsSendTold, IsTold, IsConnectTold}
 use Rattle.turn_desk_world.specs.Told.{IsFairEvent, arriving, bytes_drawn, data_of, given_by, given_of, notices_in, payloads_in}
 use Rattle.turn_desk_world.proofs.Handed.{handed_over}
 use Rattle.turn_desk_world.proofs.Shown.{AreHeld, channels_held, had_is_held, permissions_held, relayed_held}
@@ -102,6 +103,11 @@ module _ (what : ClientCall) (c : Client) (sound : IsSound c) (now : ℕ) (new :
   bind_told transport peer whole (answer.Refused (BindRefused error)) is = by_call (answer.Refused (BindRefused error)) (bind_step c transport peer now whole (Err error) new sound is.0) (λ h i. absurd i)
   bind_told transport peer whole _ is = absurd is
 
+  connect_told : (peer : SocketAddr) → IsWhole peer → (ret : Answer) → IsConnectTold ret peer c.core now new → IsAnswered happening c ret new
+  connect_told peer whole answer.Done is = by_call answer.Done (connect_step c peer now whole (Ok tt) new sound is) (λ h i. absurd i)
+  connect_told peer whole (answer.Refused (ConnectRefused error)) is = by_call (answer.Refused (ConnectRefused error)) (connect_step c peer now whole (Err error) new sound is.0) (λ h i. absurd i)
+  connect_told peer whole _ is = absurd is
+
   channels_told : (ret : Answer) → AreChannelsTold ret c.core new → IsAnswered happening c ret new
   channels_told (answer.Channels list) is =
       by_call (answer.Channels list) (still c [] new sound is.1) (channels_held new list.items (is.0 ∙ ap (λ (p : Protocol). channels_shown p.allocations) (sym is.1)))
@@ -151,6 +157,7 @@ module _ (c : Client) (sound : IsSound c) (now : ℕ) (new : Protocol) where
   called (call.HavePermission transport ip) ret fair is = have_told transport ip ret is
   called (call.Permissions transport relayed) ret fair is = permissions_told transport relayed ret is
   called (call.BindChannel transport peer) ret fair is = bind_told (call.BindChannel transport peer) c sound now new transport peer fair ret is
+  called (call.TcpConnect peer) ret fair is = connect_told (call.TcpConnect peer) c sound now new peer fair ret is
   called call.Channels ret fair is = channels_told call.Channels c sound now new ret is
   called (call.SendTo transport to bytes) ret fair is = send_told (call.SendTo transport to bytes) c sound now new transport to bytes.items ret is
   called call.PollRecv ret fair is = absurd is

@@ -11,6 +11,8 @@ use Rattle.turn_client_proto.specs.Api.declared.answer.TurnPollRet.TheVariants a
 use Rattle.turn_client_proto.specs.Api.declared.answer.TurnRecvRet.{TurnRecvRet}
 use Rattle.turn_client_proto.specs.Api.declared.answer.TurnRecvRet.TheVariants as recv
 use Rattle.turn_client_proto.specs.Api.declared.error.BindChannelError.{BindChannelError}
+use Rattle.turn_client_proto.specs.Api.declared.error.TcpConnectError.{TcpConnectError}
+use Rattle.turn_client_proto.specs.Api.declared.error.TcpConnectError.TheVariants as not_connected
 use Rattle.turn_client_proto.specs.Api.declared.error.BindChannelError.TheVariants as not_bound
 use Rattle.turn_client_proto.specs.Api.declared.error.CreatePermissionError.{CreatePermissionError}
 use Rattle.turn_client_proto.specs.Api.declared.error.CreatePermissionError.TheVariants as not_permitted
@@ -19,6 +21,7 @@ use Rattle.turn_client_proto.specs.Api.declared.error.DeleteError.TheVariants as
 use Rattle.turn_client_proto.specs.Api.declared.error.SendError.{SendError}
 use Rattle.turn_client_proto.specs.Api.declared.event.TurnEvent.{TurnEvent}
 use Rattle.turn_client_proto.specs.Binding.{IsBindAnswered}
+use Rattle.turn_client_proto.specs.Connecting.{IsConnectAnswered}
 use Rattle.turn_client_proto.specs.Deleting.{IsDeleteAnswered}
 use Rattle.turn_client_proto.specs.Drawing.{sent_of}
 use Rattle.turn_client_proto.specs.Api.Payloads.{PeerPayload}
@@ -33,16 +36,17 @@ use Rattle.turn_desk_world.specs.Copies.{AreAlike, BothData, BothGivenBack, Both
 use Rattle.turn_client_proto.proofs.Lists.{inside}
 use Rattle.turn_client_proto.proofs.Once.Calling.{delete_same, permission_same}
 use Rattle.turn_client_proto.proofs.Once.Channels.{bind_same}
+use Rattle.turn_client_proto.proofs.Once.Connecting.{connect_same}
 use Rattle.turn_client_proto.proofs.Once.Drawing.{draw_same}
 use Rattle.turn_client_proto.proofs.Once.Polling.{poll_same}
 use Rattle.turn_client_proto.proofs.Once.Sending.{send_same}
 use Rattle.turn_desk_world.proofs.Receiving.{kept_same, received_same}
 use Rattle.turn_desk_event.specs.declared.answer.Answer.{Answer}
 use Rattle.turn_desk_event.specs.declared.answer.Answer.TheVariants as answer
-use Rattle.turn_desk_event.specs.declared.answer.Refusal.TheVariants.{BindChannel as BindRefused, CreatePermission as PermissionRefused, Delete as DeleteRefused, Send as SendRefused}
+use Rattle.turn_desk_event.specs.declared.answer.Refusal.TheVariants.{BindChannel as BindRefused, CreatePermission as PermissionRefused, Delete as DeleteRefused, Send as SendRefused, TcpConnect as ConnectRefused}
 use Rattle.turn_desk_event.specs.declared.event.ClientCall.{ClientCall}
 use Rattle.turn_desk_event.specs.declared.event.ClientCall.TheVariants as call
-use Rattle.turn_desk_world.specs.Calls.{AreChannelsTold, ArePermissionsTold, IsBindTold, IsCallTold, IsCalled, IsDeleteTold, IsDrawnAs, IsEndTold, IsEventTold, IsFed, IsHaveTold, IsPermissionTold, IsPolledAs, IsRelayedTold, IsSendTold, IsTold, IsWaitingTold}
+use Rattle.turn_desk_world.specs.Calls.{AreChannelsTold, ArePermissionsTold, IsBindTold, IsCallTold, IsCalled, IsDeleteTold, IsDrawnAs, IsEndTold, IsEventTold, IsFed, IsHaveTold, IsPermissionTold, IsPolledAs, IsRelayedTold, IsSendTold, IsTold, IsWaitingTold, IsConnectTold}
 use Rattle.turn_desk_world.specs.Determined.{IsSame}
 use Rattle.turn_desk_world.specs.Runs.{IsAtClient, IsInRange, is_in_range}
 
@@ -110,7 +114,7 @@ module _ (old : Protocol) (now : ℕ) where
   polled : (ret again : Answer) (new other : Protocol) → IsPolledAs ret old now new → IsPolledAs again old now other → AreOne ret again new other
   polled ret again new other a b = by_definite answer_of_poll Polls polls ret again new other (by_poll ret new a) (by_poll again other b)
 
--- ---- `delete`, `create_permission`, `bind_channel`
+-- ---- `delete`, `create_permission`, `bind_channel`, `tcp_connect`
 
 abbrev answer_of_deletion : Result (Unit {0}) DeleteError → Answer
 answer_of_deletion (Ok x) = answer.Done
@@ -123,6 +127,10 @@ answer_of_permission (Err error) = answer.Refused (PermissionRefused error)
 abbrev answer_of_binding : Result (Unit {0}) BindChannelError → Answer
 answer_of_binding (Ok x) = answer.Done
 answer_of_binding (Err error) = answer.Refused (BindRefused error)
+
+abbrev answer_of_connecting : Result (Unit {0}) TcpConnectError → Answer
+answer_of_connecting (Ok x) = answer.Done
+answer_of_connecting (Err error) = answer.Refused (ConnectRefused error)
 
 inside_err : {E : Type 0} (a b : E) (p q : Result (Unit {0}) E) → p ≡ Err a → q ≡ Err b → p ≡ q → a ≡ b
 inside_err a b p q at here same = Prim.cc (sym at ∙ same ∙ here)
@@ -165,6 +173,19 @@ module _ (old : Protocol) (now : ℕ) where
     binds : IsDefinite Binds
     unfolding IsDefinite
     binds one other new left a b = bind_same old transport peer now one other new left a.0 b.0 a.1 b.1
+
+  module _ (peer : SocketAddr) where
+    abbrev Connects : Result (Unit {0}) TcpConnectError → Protocol → Type 0
+    Connects ret new = (ret ≢ Err not_connected.NoMemory) × IsConnectAnswered old peer now ret new
+
+    by_connecting : (ret : Answer) (new : Protocol) → IsConnectTold ret peer old now new → IsBy answer_of_connecting Connects ret new
+    by_connecting answer.Done new is = record { given = Ok tt; gives = ((λ e. Prim.cc e), is); told = refl }
+    by_connecting (answer.Refused (ConnectRefused error)) new is = record { given = Err error; gives = ((λ e. is.1 (inside_err error not_connected.NoMemory (Err error) (Err not_connected.NoMemory) refl refl e)), is.0); told = refl }
+    by_connecting _ new is = absurd is
+
+    connects : IsDefinite Connects
+    unfolding IsDefinite
+    connects one other new left a b = connect_same old peer now one other new left a.0 b.0 a.1 b.1
 
 -- ---- `send_to`
 
@@ -237,6 +258,8 @@ called (call.HavePermission transport ip) old now ret again new other a b = have
 called (call.Permissions transport relayed) old now ret again new other a b = permissions_told transport relayed old ret again new other a b
 called (call.BindChannel transport peer) old now ret again new other a b =
     by_definite answer_of_binding (Binds old now transport peer) (binds old now transport peer) ret again new other (by_binding old now transport peer ret new a) (by_binding old now transport peer again other b)
+called (call.TcpConnect peer) old now ret again new other a b =
+    by_definite answer_of_connecting (Connects old now peer) (connects old now peer) ret again new other (by_connecting old now peer ret new a) (by_connecting old now peer again other b)
 called call.Channels old now ret again new other a b = channels_told old ret again new other a b
 called (call.SendTo transport to bytes) old now ret again new other a b = sent_same transport to bytes.items old now ret again new other a b
 called call.PollRecv old now ret again new other a b = absurd a
@@ -288,6 +311,7 @@ called_once (call.CreatePermission transport ip) old now ret again new other a b
 called_once (call.HavePermission transport ip) old now ret again new other a b = left_once (call.HavePermission transport ip) old now ret again new other a b
 called_once (call.Permissions transport relayed) old now ret again new other a b = left_once (call.Permissions transport relayed) old now ret again new other a b
 called_once (call.BindChannel transport peer) old now ret again new other a b = left_once (call.BindChannel transport peer) old now ret again new other a b
+called_once (call.TcpConnect peer) old now ret again new other a b = left_once (call.TcpConnect peer) old now ret again new other a b
 called_once call.Channels old now ret again new other a b = left_once call.Channels old now ret again new other a b
 called_once (call.SendTo transport to bytes) old now ret again new other a b = left_once (call.SendTo transport to bytes) old now ret again new other a b
 called_once call.ProtocolError old now ret again new other a b = left_once call.ProtocolError old now ret again new other a b

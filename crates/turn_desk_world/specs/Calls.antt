@@ -13,6 +13,8 @@ use Rattle.turn_client_proto.specs.Api.declared.error.BindChannelError.TheVarian
 use Rattle.turn_client_proto.specs.Api.declared.error.CreatePermissionError.TheVariants as not_permitted
 use Rattle.turn_client_proto.specs.Api.declared.error.DeleteError.TheVariants as not_deleted
 use Rattle.turn_client_proto.specs.Api.declared.error.SendError.TheVariants as not_sent
+use Rattle.turn_client_proto.specs.Api.declared.error.TcpConnectError.TheVariants as not_connected
+use Rattle.turn_client_proto.specs.Connecting.{IsConnectAnswered}
 use Rattle.turn_client_proto.specs.Getters.{channels_of, has_permission, permissions_of, relayed_of}
 use Rattle.turn_client_proto.specs.Receipts.{IsReceived, IsWaitingGiven}
 use Rattle.turn_client_proto.specs.Binding.{IsBindAnswered}
@@ -25,9 +27,9 @@ use Rattle.turn_client_proto.specs.Kept.{Kept, Leaves, Protocol}
 use Rattle.turn_client_proto.specs.Sending.{IsSendAnswered}
 use Rattle.turn_desk_event.specs.declared.answer.Answer.{Answer}
 use Rattle.turn_desk_event.specs.declared.answer.Answer.TheVariants as answer
-use Rattle.turn_desk_event.specs.declared.answer.Refusal.TheVariants.{BindChannel as BindRefused, CreatePermission as PermissionRefused, Delete as DeleteRefused, Send as SendRefused}
+use Rattle.turn_desk_event.specs.declared.answer.Refusal.TheVariants.{BindChannel as BindRefused, CreatePermission as PermissionRefused, Delete as DeleteRefused, Send as SendRefused, TcpConnect as ConnectRefused}
 use Rattle.turn_desk_event.specs.declared.event.ClientCall.{ClientCall}
-use Rattle.turn_desk_event.specs.declared.event.ClientCall.TheVariants.{Poll, PollEvent, Delete, CreatePermission, HavePermission, Permissions, BindChannel, Channels, SendTo, PollRecv, ProtocolError, RelayedAddresses}
+use Rattle.turn_desk_event.specs.declared.event.ClientCall.TheVariants.{Poll, PollEvent, Delete, CreatePermission, HavePermission, Permissions, BindChannel, Channels, SendTo, PollRecv, ProtocolError, RelayedAddresses, TcpConnect}
 
 -- ---- calls
 
@@ -78,6 +80,13 @@ IsBindTold (answer.Refused (BindRefused error)) transport peer old now new =
     IsBindAnswered old transport peer now (Err error) new × (error ≢ not_bound.NoMemory)
 IsBindTold _ transport peer old now new = ⊥
 
+-- `tcp_connect`; want of memory is no answer
+abbrev pub IsConnectTold : Answer → SocketAddr → Protocol → ℕ → Protocol → Type 0
+IsConnectTold answer.Done peer old now new = IsConnectAnswered old peer now (Ok tt) new
+IsConnectTold (answer.Refused (ConnectRefused error)) peer old now new =
+    IsConnectAnswered old peer now (Err error) new × (error ≢ not_connected.NoMemory)
+IsConnectTold _ peer old now new = ⊥
+
 -- `channels`
 abbrev pub AreChannelsTold : Answer → Protocol → Protocol → Type 0
 AreChannelsTold (answer.Channels list) old new = (list.items ≡ channels_of old) × (new ≡ old)
@@ -110,6 +119,7 @@ IsCalled (CreatePermission transport ip) answer old now new = IsPermissionTold a
 IsCalled (HavePermission transport ip) answer old now new = IsHaveTold answer transport ip old new
 IsCalled (Permissions transport relayed) answer old now new = ArePermissionsTold answer transport relayed old new
 IsCalled (BindChannel transport peer) answer old now new = IsBindTold answer transport peer old now new
+IsCalled (TcpConnect peer) answer old now new = IsConnectTold answer peer old now new
 IsCalled Channels answer old now new = AreChannelsTold answer old new
 IsCalled (SendTo transport to bytes) answer old now new = IsSendTold answer transport to bytes.items old now new
 IsCalled PollRecv answer old now new = ⊥

@@ -292,12 +292,13 @@ peer_attribute number peer = record { kind = xor_peer_address_kind; value = xore
 abbrev pub IsReadBack : ℕ → SocketAddr → Type 0
 IsReadBack number peer = peer_in number (peer_attribute number peer) ≡ Some peer
 
--- the relayed addresses that are decided have no flow information and no scope; nor has a peer that is to be bound: it
--- is asked to be such an address, since the client keeps it as its caller gave it, and the desk grants the one that it
--- reads in the request, which carries neither (RFC 8656, sections 18.3 and 18.5)
+-- the relayed addresses that are decided have no flow information and no scope; nor has a peer that is to be bound, or to
+-- be connected to: it is asked to be such an address, since the client keeps it as its caller gave it, and the desk grants
+-- the one that it reads in the request, which carries neither (RFC 8656, sections 18.3 and 18.5)
 abbrev pub IsFairEvent : Event → Type 0
 IsFairEvent (event.ToDesk bytes from now decision seed) = AreToldWhole (number_at bytes.items) decision
 IsFairEvent (event.Call (call.BindChannel transport peer) now) = IsWhole peer
+IsFairEvent (event.Call (call.TcpConnect peer) now) = IsWhole peer
 IsFairEvent _ = Unit {0}
 
 abbrev pub IsFair : Event × Answer → Type 0

@@ -3,7 +3,7 @@
 ghost use Rattle.std.specs.Prelude.{◌≡◌, IfOk};
 ghost use Rattle.turn_client_proto.specs.Clients.{kept_of};
 ghost use Rattle.turn_client_proto.specs.Kept.{Leaves};
-ghost use Rattle.turn_desk_world.specs.Calls.{AreChannelsTold, ArePermissionsTold, IsBindTold, IsCallTold, IsDeleteTold, IsDrawnAs, IsEventTold, IsFed, IsPermissionTold, IsPolledAs, IsRelayedTold, IsSendTold, IsWaitingTold};
+ghost use Rattle.turn_desk_world.specs.Calls.{AreChannelsTold, ArePermissionsTold, IsBindTold, IsCallTold, IsDeleteTold, IsDrawnAs, IsEventTold, IsFed, IsPermissionTold, IsPolledAs, IsRelayedTold, IsSendTold, IsWaitingTold, IsConnectTold};
 ghost use Rattle.turn_desk_world.specs.Runs.{IsAtClient, IsInRange, is_in_range};
 
 use crate::typed::are_bytes;
@@ -14,8 +14,8 @@ use stun_proto::Instant;
 use stun_types::data::{Data, DataOwned};
 use stun_types::{NoMemory, Transmit, TransportType};
 use turn_client_proto::api::{
-    BindChannelError, CLIENT_END, CreatePermissionError, DeleteError, SendError, TurnPollRet,
-    TurnRecvRet,
+    BindChannelError, CLIENT_END, CreatePermissionError, DeleteError, SendError, TcpConnectError,
+    TurnPollRet, TurnRecvRet,
 };
 use turn_client_proto::client::TurnClient;
 use turn_client_proto::prelude::TurnClientApi;
@@ -48,6 +48,7 @@ fn call(
         }
         ClientCall::BindChannel(transport, peer) => bind_channel(client, *transport, *peer, now),
         ClientCall::Channels => channels(alloc, client),
+        ClientCall::TcpConnect(peer) => tcp_connect(client, *peer, now),
         ClientCall::SendTo(transport, peer, bytes) => {
             send_to(alloc, client, *transport, *peer, bytes.as_slice(), now)
         }
@@ -160,6 +161,18 @@ fn bind_channel(
         Ok(()) => Ok(Answer::Done),
         Err(BindChannelError::NoMemory) => Err(NoMemory),
         Err(error) => Ok(Answer::Refused(Refusal::BindChannel(error))),
+    }
+}
+
+/// The client is to ask for a connection.
+fn tcp_connect(client: &mut TurnClient, peer: SocketAddr, now: Instant) -> Result<Answer, NoMemory>
+    ensures { IfOk result (λ answer. Leaves (λ p q. IsConnectTold answer peer p now q)
+        (kept_of client.old) (kept_of client.new)) }
+{
+    match client.tcp_connect(peer, now) {
+        Ok(()) => Ok(Answer::Done),
+        Err(TcpConnectError::NoMemory) => Err(NoMemory),
+        Err(error) => Ok(Answer::Refused(Refusal::TcpConnect(error))),
     }
 }
 

@@ -5,7 +5,7 @@ use Rattle.stun_types.specs.Grammar.{number_at}
 use Rattle.stun_types.specs.Types.{class_of}
 use Rattle.turn_client_proto_poll.specs.Channel.Awaited.{asked_by}
 use Rattle.turn_client_proto_poll.specs.Channel.declared.awaited.Asked.{Asked}
-use Rattle.turn_client_proto_poll.specs.Channel.declared.awaited.Asked.TheVariants.{ChannelRenewal, Lifetime, NewChannel, NewPermission, Renewal}
+use Rattle.turn_client_proto_poll.specs.Channel.declared.awaited.Asked.TheVariants.{ChannelRenewal, Lifetime, NewChannel, NewConnection, NewPermission, Renewal}
 use Rattle.turn_client_proto_poll.specs.Core.Binding.{IsBindResponded, IsBoundFor, IsUnboundFor, bound, lets_lapse, permission_with, renews_channels, unbound}
 use Rattle.turn_client_proto_poll.specs.Core.Responding.{is_error_class}
 use Rattle.turn_client_proto_poll.specs.Core.declared.protocol.Protocol.{Protocol}
@@ -15,6 +15,7 @@ module _ (p : Protocol) (now number : ℕ) where
   bound_definite : (what : Option Asked) → IsDefinite (IsBoundFor what p number now)
   bound_definite None = ignored p
   bound_definite (Some (Lifetime lifetime)) = ignored p
+  bound_definite (Some (NewConnection to)) = ignored p
   bound_definite (Some (NewChannel transport channel peer)) = handled (bound transport channel peer (permission_with number p.allocations) number now p)
   bound_definite (Some (ChannelRenewal transport channel peer)) = handled (renews_channels number now p)
   bound_definite (Some (NewPermission transport ip)) = ignored p
@@ -23,6 +24,7 @@ module _ (p : Protocol) (now number : ℕ) where
   unbound_definite : (what : Option Asked) → IsDefinite (IsUnboundFor what p number)
   unbound_definite None = ignored p
   unbound_definite (Some (Lifetime lifetime)) = ignored p
+  unbound_definite (Some (NewConnection to)) = ignored p
   unbound_definite (Some (NewChannel transport channel peer)) = handled (unbound transport peer (permission_with number p.allocations) number p)
   unbound_definite (Some (ChannelRenewal transport channel peer)) = handled (lets_lapse transport peer number p)
   unbound_definite (Some (NewPermission transport ip)) = ignored p

@@ -5,7 +5,7 @@ use Rattle.stun_types.specs.Grammar.{number_at}
 use Rattle.stun_types.specs.Types.{class_of}
 use Rattle.turn_client_proto_poll.specs.Channel.Awaited.{asked_by}
 use Rattle.turn_client_proto_poll.specs.Channel.declared.awaited.Asked.{Asked}
-use Rattle.turn_client_proto_poll.specs.Channel.declared.awaited.Asked.TheVariants.{ChannelRenewal, Lifetime, NewChannel, NewPermission, Renewal}
+use Rattle.turn_client_proto_poll.specs.Channel.declared.awaited.Asked.TheVariants.{ChannelRenewal, Lifetime, NewChannel, NewConnection, NewPermission, Renewal}
 use Rattle.turn_client_proto_poll.specs.Core.Permitting.{IsGrantedFor, IsPermissionResponded, IsRefusedFor, granted, refused, renews}
 use Rattle.turn_client_proto_poll.specs.Core.Responding.{is_error_class}
 use Rattle.turn_client_proto_poll.specs.Core.declared.protocol.Protocol.{Protocol}
@@ -15,6 +15,7 @@ module _ (p : Protocol) (now number : ℕ) where
   granted_definite : (what : Option Asked) → IsDefinite (IsGrantedFor what p number now)
   granted_definite None = ignored p
   granted_definite (Some (Lifetime lifetime)) = ignored p
+  granted_definite (Some (NewConnection to)) = ignored p
   granted_definite (Some (NewChannel transport channel peer)) = ignored p
   granted_definite (Some (ChannelRenewal transport channel peer)) = ignored p
   granted_definite (Some (NewPermission transport ip)) = handled (granted transport ip number now p)
@@ -23,6 +24,7 @@ module _ (p : Protocol) (now number : ℕ) where
   refused_definite : (what : Option Asked) → IsDefinite (IsRefusedFor what p number)
   refused_definite None = ignored p
   refused_definite (Some (Lifetime lifetime)) = ignored p
+  refused_definite (Some (NewConnection to)) = ignored p
   refused_definite (Some (NewChannel transport channel peer)) = ignored p
   refused_definite (Some (ChannelRenewal transport channel peer)) = ignored p
   refused_definite (Some (NewPermission transport ip)) = handled (refused transport ip number p)

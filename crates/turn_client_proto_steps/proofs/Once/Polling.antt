@@ -1,5 +1,5 @@
 -- What a client answers when it is polled, and what it is then, are one, but for want of memory.
-use Rattle.std.proofs.Common.{◌≡◌, ◌≢◌, ℕ, List, [], ◌∷◌, Option, refl, sym, ap, ◌∙◌, subst}
+use Rattle.std.proofs.Common.{◌≡◌, ◌≢◌, ℕ, List, [], ◌∷◌, Option, Some, None, MatchOption, refl, sym, ap, ◌∙◌, subst}
 use Rattle.stun_proto.specs.AgentPolls.{StunAgentPollRet}
 use Rattle.stun_proto.specs.Least.{IsLeastOf}
 use Rattle.stun_proto.specs.Moments.{moment_after}
@@ -11,8 +11,10 @@ use Rattle.turn_client_proto_poll.specs.Api.declared.answer.TurnPollRet.TheVaria
 use Rattle.turn_client_proto_poll.specs.Api.declared.event.TurnEvent.{TurnEvent}
 use Rattle.turn_client_proto_poll.specs.Channel.Lapsing as channels
 use Rattle.turn_client_proto_poll.specs.Permission.Telling as permissions
+use Rattle.turn_client_proto_poll.specs.Connection.Waiting.{unasked}
 use Rattle.turn_client_proto_poll.specs.Core.Ending.{ended}
-use Rattle.turn_client_proto_poll.specs.Polling.{IsPolled, IsPolledBy, IsPolledIn, IsPolledSent, IsPolledStanding, IsTicked, answer_of, ended_of, left, longest_pause, ready_after, wait_of, wait_to_send, waits_until}
+use Rattle.turn_client_proto_steps.specs.Held.{Waiting}
+use Rattle.turn_client_proto_poll.specs.Polling.{IsPolled, IsPolledBy, IsPolledIn, IsPolledSent, IsPolledStanding, IsTicked, IsWalked, after_asking, answer_of, ended_of, left, longest_pause, ready_after, socket_for, wait_of, wait_to_send, waits_until}
 use Rattle.turn_client_proto_poll.specs.Core.declared.protocol.Phase.{Phase}
 use Rattle.turn_client_proto_poll.specs.Core.declared.protocol.Phase.TheVariants.{Initial, InitialSent, Authenticating, Authenticated, Ended}
 use Rattle.turn_client_proto_poll.specs.Core.declared.protocol.Protocol.{Protocol}
@@ -24,8 +26,8 @@ module _ (over : Option ℕ) (wait : ℕ) (p : Protocol) (now : ℕ) where
   sent_definite : (numbers : List ℕ) → IsDefinite (IsPolledSent numbers over wait p now)
   sent_definite numbers = tested (is_among over numbers) (only answer.Closed (ended p)) (only (waits_until over now wait) p)
 
-  standing_definite : IsDefinite (IsPolledStanding over wait p now)
-  standing_definite = record {
+  walked_definite : IsDefinite (IsWalked over wait p now)
+  walked_definite = record {
     same = λ ret again one other a b.
         let next : a.next ≡ b.next = least_of_same wait (nexts over (ready_after p.last_send now) now (kept over now p.allocations)) a.next b.next a.least b.least in
         let all : List ℕ = permissions.all_nexts over (ready_after p.last_send now) now (left over now p) in
@@ -36,6 +38,14 @@ module _ (over : Option ℕ) (wait : ℕ) (p : Protocol) (now : ℕ) where
         let earliest : a.earliest ≡ b.earliest = least_of_same b.sooner each a.earliest b.earliest again_moved b.least_of_channels in
         (a.outcome.0 ∙ ap (answer_of (left over now p) over now) earliest ∙ sym b.outcome.0, a.outcome.1 ∙ sym b.outcome.1);
   }
+
+  -- a socket is asked for, or time goes on
+  asked_definite : (found : Option Waiting) → IsDefinite (λ (ret : TurnPollRet) (new : Protocol). MatchOption found (IsWalked over wait p now ret new) (λ w. (ret ≡ socket_for p w) × (new ≡ after_asking p)))
+  asked_definite None = record { same = walked_definite.same }
+  asked_definite (Some w) = record { same = (only (socket_for p w) (after_asking p)).same }
+
+  standing_definite : IsDefinite (IsPolledStanding over wait p now)
+  standing_definite = record { same = (asked_definite (unasked p.allocations)).same }
 
   in_definite : (phase : Phase) → IsDefinite (IsPolledIn phase over wait p now)
   in_definite Initial = only (answer.WaitUntil now) p

@@ -6,14 +6,15 @@ use Rattle.stun_types.specs.Types.{method_of}
 use Rattle.stun_proto.specs.ClientAuthErrors.{Unauthorized, IntegrityFailed, UnsupportedFeature, NoMemory}
 use Rattle.stun_proto.specs.ClientValidations.{ResendRequest, Validated}
 use Rattle.stun_proto.specs.Handling.{is_awaited, is_response}
-use Rattle.turn_types.specs.TurnRegistry.{channel_bind_method, create_permission_method, refresh_method}
+use Rattle.turn_types.specs.TurnRegistry.{channel_bind_method, connect_method, create_permission_method, refresh_method}
 use Rattle.turn_client_proto_poll.specs.Channel.Awaited.{asked_by}
 use Rattle.turn_client_proto_poll.specs.Channel.declared.awaited.Asked.{Asked}
+use Rattle.turn_client_proto_poll.specs.Connection.Told.{is_connect}
 use Rattle.turn_client_proto_poll.specs.Core.Ending.{ended}
 use Rattle.turn_client_proto_poll.specs.Core.Responding.{accepted, challenged, is_tired}
-use Rattle.turn_client_proto_poll.specs.Core.Standing.{IsAskedAgain, IsJudgedStanding, IsRechallenged, IsRequestAnswered, IsSentAgain, IsTakenUp, after_refresh, asks_again}
+use Rattle.turn_client_proto_poll.specs.Core.Standing.{IsAskedAgain, IsJudgedStanding, IsRechallenged, IsRequestAnswered, IsSentAgain, IsTakenUp, after_connect, after_refresh, asks_again}
 use Rattle.turn_client_proto_poll.specs.Core.declared.protocol.Protocol.{Protocol}
-use Rattle.turn_client_proto_steps.proofs.Once.Outcomes.{IsDefinite, handled, ignored, never, tested}
+use Rattle.turn_client_proto_steps.proofs.Once.Outcomes.{IsDefinite, handled, ignored, never, only, tested}
 use Rattle.turn_client_proto_steps.proofs.Once.Judging.{Verdict}
 use Rattle.turn_client_proto_steps.proofs.Once.Numbering.{numbered}
 use Rattle.turn_client_proto_steps.proofs.Once.Binding as binding
@@ -37,7 +38,8 @@ module _ (bytes : List ℕ) (now : ℕ) where
   request_definite : (p : Protocol) → IsDefinite (IsRequestAnswered p bytes now)
   request_definite p = tested (method_of (kind_at bytes) == refresh_method) (handled (after_refresh bytes now p))
       (tested (method_of (kind_at bytes) == create_permission_method) (permitting.responded_definite p bytes now)
-      (tested (method_of (kind_at bytes) == channel_bind_method) (binding.responded_definite p bytes now) (ignored p)))
+      (tested (method_of (kind_at bytes) == channel_bind_method) (binding.responded_definite p bytes now)
+      (tested (method_of (kind_at bytes) == connect_method) (only (is_connect (asked_by (number_at bytes) p.allocations)) (after_connect bytes p)) (ignored p))))
 
   taken_definite : (p : Protocol) → IsDefinite (IsTakenUp p bytes now)
   taken_definite p = tested (is_response bytes && is_awaited p.agent bytes) (request_definite (accepted bytes p)) (ignored p)

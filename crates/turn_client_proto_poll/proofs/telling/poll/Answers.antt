@@ -1,7 +1,8 @@
-use Rattle.std.proofs.Common.{map, ap, ◌∙◌}
-use Rattle.turn_client_proto_core.proofs.Allocation.Changes.{on_ok}
-use Rattle.turn_client_proto_core.proofs.Results.{if_err}
+use Rattle.std.proofs.Common.{[], map, ap, subst, ◌∙◌}
+use Rattle.std.specs.Prelude.{◌≢◌, OnErr}
+use Rattle.turn_client_proto_core.proofs.Channel.Permission.Told.{always_told}
 use Rattle.turn_client_proto_core.specs.Channel.Lapsing as channels
+use Rattle.turn_client_proto_core.specs.Connection.Told as connections
 use Rattle.turn_client_proto_core.specs.Permission.Telling as permissions
 use Rattle.turn_client_proto_poll.proofs.Lapses.{lapsing_told}
 use Rattle.turn_client_proto_poll.proofs.Tells.{each_changed}
@@ -11,8 +12,10 @@ pub returns-clause-ok : goal.returns-clause-ok
 returns-clause-ok c =
     let ended = c.args.ended.now in
     let now = c.args.now in
-    on_ok c.poll-2.result (λ is. is ∙ ap (map (channels.polled ended now)) c.poll.ensures ∙ each_changed (channels.polled ended now) (permissions.polled ended now) c.args.allocations.now) c.poll-2.ensures.ok
+    let relays = c.in_ok-poll.ensures.ok ∙ ap (map (channels.polled ended now)) c.poll.ensures ∙ each_changed (channels.polled ended now) (permissions.polled ended now) c.args.allocations.now in
+    c.give_up.ensures ∙ ap (map (connections.given_up ended)) relays ∙ each_changed (connections.given_up ended) (λ a. channels.polled ended now (permissions.polled ended now a)) c.args.allocations.now
 
-pub returns-clause-told : goal.returns-clause-told
-returns-clause-told c =
-    if_err c.poll-2.result (lapsing_told c.args.ended.now c.args.now c.args.allocations.now c.poll.new.allocations c.poll.ensures) c.poll-2.ensures.told
+pub returns-in_err-poll-clause-told : goal.returns-in_err-poll-clause-told
+returns-in_err-poll-clause-told c =
+    let told = subst (λ r. OnErr r (channels.all_lapsing c.args.now c.poll.new.allocations ≢ [])) c.in_err-poll.was c.poll-2.ensures.told in
+    always_told c.from_residual.result (lapsing_told c.args.ended.now c.args.now c.args.allocations.now c.poll.new.allocations c.poll.ensures told)
