@@ -1,3 +1,6 @@
 pub mod Answering
 pub mod Unasked
 pub mod Usual
+-- What stands above this crate has these through it.
+pub use Rattle.turn_client_proto_allocation.proofs as Allocation
+pub use Rattle.turn_client_proto_channel.proofs as Channel

@@ -2,4 +2,5 @@ pub mod Asking
 pub mod Told
 pub mod Waiting
 -- What stands above this crate has these through it.
+pub use Rattle.turn_client_proto_allocation.specs as Allocation
 pub use Rattle.turn_client_proto_channel.specs as Channel

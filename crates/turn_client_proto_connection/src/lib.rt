@@ -8,4 +8,5 @@ pub mod told;
 pub mod waiting;
 
 // What stands above this crate has these through it.
+pub use turn_client_proto_allocation as allocation;
 pub use turn_client_proto_channel as channel;

@@ -7,16 +7,16 @@ use Rattle.std.specs.declared.net.ip_addr.IpAddr.{IpAddr}
 use Rattle.std.specs.declared.net.socket_addr.SocketAddr.{SocketAddr}
 use Rattle.stun_types.specs.Family.{family_of_socket}
 use Rattle.stun_types.specs.declared.transport.TransportType.{TransportType}
-use Rattle.turn_client_proto_allocation.proofs.Changes.{change_first_at}
-use Rattle.turn_client_proto_allocation.specs.declared.allocation.Allocation.{Allocation}
-use Rattle.turn_client_proto_allocation.specs.declared.channel.PendingChannel.{PendingChannel}
+use Rattle.turn_client_proto_connection.proofs.Allocation.Changes.{change_first_at}
+use Rattle.turn_client_proto_connection.specs.Allocation.declared.allocation.Allocation.{Allocation}
+use Rattle.turn_client_proto_connection.specs.Allocation.declared.channel.PendingChannel.{PendingChannel}
 use Rattle.turn_client_proto_api.specs.declared.error.BindChannelError.{BindChannelError}
 use Rattle.turn_client_proto_api.specs.declared.error.BindChannelError.TheVariants.{NoAllocation, NoChannel, NoMemory}
-use Rattle.turn_client_proto_channel.proofs.Permission.Undoing.{set_again}
-use Rattle.turn_client_proto_channel.specs.Binding.{asking, barring}
-use Rattle.turn_client_proto_channel.specs.Numbers.{IsLeastFree}
-use Rattle.turn_client_proto_channel.specs.Permission.Asking.{is_of, is_past, knows}
-use Rattle.turn_client_proto_channel.specs.Permission.Asking as permissions
+use Rattle.turn_client_proto_connection.proofs.Channel.Permission.Undoing.{set_again}
+use Rattle.turn_client_proto_connection.specs.Channel.Binding.{asking, barring}
+use Rattle.turn_client_proto_connection.specs.Channel.Numbers.{IsLeastFree}
+use Rattle.turn_client_proto_connection.specs.Channel.Permission.Asking.{is_of, is_past, knows}
+use Rattle.turn_client_proto_connection.specs.Channel.Permission.Asking as permissions
 use Rattle.turn_client_proto_request.specs.ToldRequests.{IsLawfulRequest}
 use Rattle.turn_client_proto_request.specs.declared.request.TurnRequest.{TurnRequest}
 use Rattle.turn_client_proto_request.specs.declared.request.TurnRequest.TheVariants.{ChannelBind}

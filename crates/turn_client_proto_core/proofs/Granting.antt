@@ -3,11 +3,11 @@ use Rattle.std.proofs.Common.{◌≡◌, ℕ, true, false, List, [], ◌∷◌, 
 use Rattle.std.specs.Prelude.{IfNone, IfSome, MatchResult}
 use Rattle.std.specs.declared.net.ip_addr.IpAddr.{IpAddr}
 use Rattle.stun_types.specs.declared.transport.TransportType.{TransportType}
-use Rattle.turn_client_proto_allocation.proofs.Changes.{change_first_at}
-use Rattle.turn_client_proto_allocation.specs.declared.allocation.Allocation.{Allocation}
+use Rattle.turn_client_proto_connection.proofs.Allocation.Changes.{change_first_at}
+use Rattle.turn_client_proto_connection.specs.Allocation.declared.allocation.Allocation.{Allocation}
 use Rattle.turn_client_proto_api.specs.declared.error.CreatePermissionError.{CreatePermissionError}
 use Rattle.turn_client_proto_api.specs.declared.error.CreatePermissionError.TheVariants.{AlreadyExists, NoAllocation, NoMemory}
-use Rattle.turn_client_proto_channel.specs.Permission.Asking.{asking, is_of, is_past, knows}
+use Rattle.turn_client_proto_connection.specs.Channel.Permission.Asking.{asking, is_of, is_past, knows}
 use Rattle.turn_client_proto_request.specs.ToldRequests.{IsLawfulRequest}
 use Rattle.turn_client_proto_request.specs.declared.request.TurnRequest.TheVariants.{CreatePermission}
 use Rattle.turn_client_proto_core.specs.Asking.{asked}

@@ -10,8 +10,8 @@ pub mod Shown
 pub mod UnderWay
 pub mod Usual
 -- What stands above this crate has these through it.
-pub use Rattle.turn_client_proto_allocation.proofs as Allocation
-pub use Rattle.turn_client_proto_channel.proofs as Channel
+pub use Rattle.turn_client_proto_connection.proofs.Allocation
+pub use Rattle.turn_client_proto_connection.proofs.Channel
 pub use Rattle.turn_client_proto_connection.proofs as Connection
 pub use Rattle.turn_client_proto_request.proofs as Request
 pub use Rattle.turn_client_proto_request.proofs.Keeps

@@ -7,7 +7,7 @@ use Rattle.turn_client_proto_api.specs.Sending.{IsAfterTransmit}
 use Rattle.turn_client_proto_core.specs.Ending.{HasFailed, IsUnderWay, failed}
 use Rattle.turn_client_proto_core.specs.Numbering.{HasDrawn}
 use Rattle.turn_client_proto_core.specs.declared.protocol.Protocol.{Protocol}
-use Rattle.turn_client_proto_allocation.proofs.Prefixes.{whole_kept}
+use Rattle.turn_client_proto_connection.proofs.Allocation.Prefixes.{whole_kept}
 
 -- an agent that was asked for what is due has its transport and its address still
 same_transport : (old new : Agent) (now : ℕ) → IsAfterTransmit old now new → new.transport ≡ old.transport

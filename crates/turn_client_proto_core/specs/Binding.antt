@@ -10,22 +10,22 @@ use Rattle.stun_types.specs.Family.{family_of_socket}
 use Rattle.stun_types.specs.Grammar.{number_at}
 use Rattle.stun_types.specs.Types.{class_of}
 use Rattle.stun_types.specs.declared.transport.TransportType.{TransportType}
-use Rattle.turn_client_proto_allocation.specs.Changes.{change_first}
-use Rattle.turn_client_proto_allocation.specs.declared.allocation.Allocation.{Allocation}
+use Rattle.turn_client_proto_connection.specs.Allocation.Changes.{change_first}
+use Rattle.turn_client_proto_connection.specs.Allocation.declared.allocation.Allocation.{Allocation}
 use Rattle.turn_client_proto_api.specs.declared.error.BindChannelError.{BindChannelError}
 use Rattle.turn_client_proto_api.specs.declared.error.BindChannelError.TheVariants.{NoAllocation, NoChannel, NoMemory}
 use Rattle.turn_client_proto_api.specs.declared.event.TurnEvent.{TurnEvent}
 use Rattle.turn_client_proto_api.specs.declared.event.TurnEvent.TheVariants.{ChannelCreated, ChannelCreateFailed, PermissionCreated, PermissionCreateFailed}
-use Rattle.turn_client_proto_channel.specs.Permission.Asking.{is_of, is_past, knows, marked}
-use Rattle.turn_client_proto_channel.specs.Permission.Asking as permissions
-use Rattle.turn_client_proto_channel.specs.Permission.Granted as permitted
-use Rattle.turn_client_proto_channel.specs.Awaited.{asked_by, awaits_reply}
-use Rattle.turn_client_proto_channel.specs.Binding.{barring}
-use Rattle.turn_client_proto_channel.specs.Binding as channels
-use Rattle.turn_client_proto_channel.specs.Granted.{all_bound, all_permitted, let_lapse, permission_asked, renewed, turned_down}
-use Rattle.turn_client_proto_channel.specs.Numbers.{IsLeastFree}
-use Rattle.turn_client_proto_channel.specs.declared.awaited.Asked.{Asked}
-use Rattle.turn_client_proto_channel.specs.declared.awaited.Asked.TheVariants.{ChannelRenewal, Lifetime, NewChannel, NewConnection, NewPermission, Renewal}
+use Rattle.turn_client_proto_connection.specs.Channel.Permission.Asking.{is_of, is_past, knows, marked}
+use Rattle.turn_client_proto_connection.specs.Channel.Permission.Asking as permissions
+use Rattle.turn_client_proto_connection.specs.Channel.Permission.Granted as permitted
+use Rattle.turn_client_proto_connection.specs.Channel.Awaited.{asked_by, awaits_reply}
+use Rattle.turn_client_proto_connection.specs.Channel.Binding.{barring}
+use Rattle.turn_client_proto_connection.specs.Channel.Binding as channels
+use Rattle.turn_client_proto_connection.specs.Channel.Granted.{all_bound, all_permitted, let_lapse, permission_asked, renewed, turned_down}
+use Rattle.turn_client_proto_connection.specs.Channel.Numbers.{IsLeastFree}
+use Rattle.turn_client_proto_connection.specs.Channel.declared.awaited.Asked.{Asked}
+use Rattle.turn_client_proto_connection.specs.Channel.declared.awaited.Asked.TheVariants.{ChannelRenewal, Lifetime, NewChannel, NewConnection, NewPermission, Renewal}
 use Rattle.turn_client_proto_request.specs.ToldRequests.{IsLawfulRequest}
 use Rattle.turn_client_proto_request.specs.declared.request.TurnRequest.TheVariants.{ChannelBind}
 use Rattle.turn_client_proto_core.specs.Asking.{asked}

@@ -13,11 +13,11 @@ pub mod Responding
 pub mod Standing
 pub mod Waiting
 -- What stands above this crate has these through it.
-pub use Rattle.turn_client_proto_allocation.specs as Allocation
+pub use Rattle.turn_client_proto_connection.specs.Allocation
 pub use Rattle.turn_client_proto_api.specs as Api
-pub use Rattle.turn_client_proto_channel.specs as Channel
+pub use Rattle.turn_client_proto_connection.specs.Channel
 pub use Rattle.turn_client_proto_connection.specs as Connection
-pub use Rattle.turn_client_proto_channel.specs.Permission
+pub use Rattle.turn_client_proto_connection.specs.Channel.Permission
 pub use Rattle.turn_client_proto_request.specs as Request
 pub use Rattle.turn_client_proto_response.specs as Response
 pub use Rattle.turn_client_proto_api.specs.AgentPolls

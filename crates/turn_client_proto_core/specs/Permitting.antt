@@ -7,17 +7,17 @@ use Rattle.stun_types.specs.Grammar.{number_at}
 pub use Rattle.stun_types.specs.Family.{family_of_ip}
 use Rattle.stun_types.specs.Types.{class_of}
 use Rattle.stun_types.specs.declared.transport.TransportType.{TransportType}
-use Rattle.turn_client_proto_allocation.specs.Changes.{change_first}
-use Rattle.turn_client_proto_allocation.specs.declared.allocation.Allocation.{Allocation}
+use Rattle.turn_client_proto_connection.specs.Allocation.Changes.{change_first}
+use Rattle.turn_client_proto_connection.specs.Allocation.declared.allocation.Allocation.{Allocation}
 use Rattle.turn_client_proto_api.specs.declared.error.CreatePermissionError.{CreatePermissionError}
 use Rattle.turn_client_proto_api.specs.declared.error.CreatePermissionError.TheVariants.{AlreadyExists, NoAllocation, NoMemory}
 use Rattle.turn_client_proto_api.specs.declared.event.TurnEvent.TheVariants.{PermissionCreated, PermissionCreateFailed}
-use Rattle.turn_client_proto_channel.specs.Permission.Asking.{asking, is_of, is_past, knows, marked}
-use Rattle.turn_client_proto_channel.specs.Awaited.{asked_by}
-use Rattle.turn_client_proto_channel.specs.Granted.{all_permitted}
-use Rattle.turn_client_proto_channel.specs.Permission.Granted.{renewed, turned_down}
-use Rattle.turn_client_proto_channel.specs.declared.awaited.Asked.{Asked}
-use Rattle.turn_client_proto_channel.specs.declared.awaited.Asked.TheVariants.{ChannelRenewal, Lifetime, NewChannel, NewConnection, NewPermission, Renewal}
+use Rattle.turn_client_proto_connection.specs.Channel.Permission.Asking.{asking, is_of, is_past, knows, marked}
+use Rattle.turn_client_proto_connection.specs.Channel.Awaited.{asked_by}
+use Rattle.turn_client_proto_connection.specs.Channel.Granted.{all_permitted}
+use Rattle.turn_client_proto_connection.specs.Channel.Permission.Granted.{renewed, turned_down}
+use Rattle.turn_client_proto_connection.specs.Channel.declared.awaited.Asked.{Asked}
+use Rattle.turn_client_proto_connection.specs.Channel.declared.awaited.Asked.TheVariants.{ChannelRenewal, Lifetime, NewChannel, NewConnection, NewPermission, Renewal}
 use Rattle.turn_client_proto_request.specs.ToldRequests.{IsLawfulRequest}
 use Rattle.turn_client_proto_request.specs.declared.request.TurnRequest.TheVariants.{CreatePermission}
 use Rattle.turn_client_proto_core.specs.Asking.{asked}

@@ -8,7 +8,7 @@ use Rattle.turn_client_proto_api.specs.Handling.{is_awaited, is_response}
 use Rattle.stun_types.specs.Attributes.{kind_at}
 use Rattle.stun_types.specs.Grammar.{number_at}
 use Rattle.stun_types.specs.Types.{class_of}
-use Rattle.turn_client_proto_allocation.specs.Awaited.{has_number}
+use Rattle.turn_client_proto_connection.specs.Allocation.Awaited.{has_number}
 use Rattle.turn_client_proto_core.specs.Authenticating.{IsFirstJudged, IsSignedJudged}
 use Rattle.turn_client_proto_request.specs.Indications.{is_indication}
 use Rattle.turn_client_proto_request.specs.Judging.{IsJudged}

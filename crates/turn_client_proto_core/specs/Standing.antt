@@ -10,10 +10,10 @@ use Rattle.stun_types.specs.Grammar.{number_at}
 use Rattle.stun_types.specs.Registry.{allocation_mismatch_code}
 use Rattle.stun_types.specs.Types.{class_of, method_of}
 use Rattle.turn_types.specs.TurnRegistry.{channel_bind_method, connect_method, create_permission_method, refresh_method}
-use Rattle.turn_client_proto_allocation.specs.Refreshing.{ends_by, renewed}
-use Rattle.turn_client_proto_channel.specs.Awaited.{all_asked_too, asked_by}
-use Rattle.turn_client_proto_channel.specs.declared.awaited.Asked.{Asked}
-use Rattle.turn_client_proto_channel.specs.declared.awaited.Asked.TheVariants.{ChannelRenewal, Lifetime, NewChannel, NewConnection, NewPermission, Renewal}
+use Rattle.turn_client_proto_connection.specs.Allocation.Refreshing.{ends_by, renewed}
+use Rattle.turn_client_proto_connection.specs.Channel.Awaited.{all_asked_too, asked_by}
+use Rattle.turn_client_proto_connection.specs.Channel.declared.awaited.Asked.{Asked}
+use Rattle.turn_client_proto_connection.specs.Channel.declared.awaited.Asked.TheVariants.{ChannelRenewal, Lifetime, NewChannel, NewConnection, NewPermission, Renewal}
 use Rattle.turn_client_proto_request.specs.ToldRequests.{IsLawfulRequest}
 use Rattle.turn_client_proto_request.specs.declared.request.TurnRequest.{TurnRequest}
 use Rattle.turn_client_proto_request.specs.declared.request.TurnRequest.TheVariants.{ChannelBind, Connect, CreatePermission, Refresh}

@@ -18,10 +18,9 @@ pub mod standing;
 pub mod transactions;
 
 // What stands above this crate has these through it.
-pub use turn_client_proto_allocation as allocation;
 pub use turn_client_proto_api as api;
 pub use turn_client_proto_api::{Instant, agent, laws};
-pub use turn_client_proto_channel as channel;
-pub use turn_client_proto_channel::permission;
 pub use turn_client_proto_connection as connection;
+pub use turn_client_proto_connection::channel::permission;
+pub use turn_client_proto_connection::{allocation, channel};
 pub use turn_client_proto_request as request;

@@ -2,7 +2,7 @@
 
 ghost use Rattle.std.specs.Prelude.{◌≡◌, ◌+◌, ◌%◌, ◌^◌, IfOk, OnErr};
 ghost use Rattle.std.specs.FinMap as finite;
-ghost use Rattle.turn_client_proto_allocation.specs.Awaited.{has_number};
+ghost use Rattle.turn_client_proto_connection.specs.Allocation.Awaited.{has_number};
 ghost use Rattle.turn_client_proto_core.specs.Numbering.{AreAllTaken, IsFirstFree, IsNextNumber, after_draw, after_number, behind, drawn, is_taken};
 
 use crate::protocol::Protocol;

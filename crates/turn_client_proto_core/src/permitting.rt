@@ -2,8 +2,8 @@
 //! section 10).
 
 ghost use Rattle.std.specs.Prelude.{◌≡◌, ◌<◌, ℕ, ◌∷◌, [], List, IfOk, IfSome, OnErr, OnOk, length, slice_get, slice_set};
-ghost use Rattle.turn_client_proto_channel.specs.Permission.Asking.{asking};
-ghost use Rattle.turn_client_proto_channel.specs.Awaited.{asked_by};
+ghost use Rattle.turn_client_proto_connection.specs.Channel.Permission.Asking.{asking};
+ghost use Rattle.turn_client_proto_connection.specs.Channel.Awaited.{asked_by};
 ghost use Rattle.turn_client_proto_request.specs.ToldRequests.{IsLawfulRequest};
 ghost use Rattle.turn_client_proto_request.specs.declared.request.TurnRequest.TheVariants.{CreatePermission};
 ghost use Rattle.turn_client_proto_core.specs.Asking.{asked};
@@ -15,13 +15,13 @@ use crate::protocol::Protocol;
 use std::net::IpAddr;
 use stun_types::message::{Message, MessageClass, TransactionId};
 use stun_types::{AddressFamily, NoMemory, TransportType};
-use turn_client_proto_allocation::permission::PendingPermission;
 use turn_client_proto_api::Instant;
 use turn_client_proto_api::error::CreatePermissionError;
 use turn_client_proto_api::event::TurnEvent;
-use turn_client_proto_channel::awaited::{Asked, asked_by};
-use turn_client_proto_channel::granted::permit;
-use turn_client_proto_channel::permission::{asking, granted, one};
+use turn_client_proto_connection::allocation::permission::PendingPermission;
+use turn_client_proto_connection::channel::awaited::{Asked, asked_by};
+use turn_client_proto_connection::channel::granted::permit;
+use turn_client_proto_connection::channel::permission::{asking, granted, one};
 use turn_client_proto_request::laws::requests_are_lawful;
 use turn_client_proto_request::request::TurnRequest;
 

@@ -1,7 +1,7 @@
 //! What a TURN client keeps.
 
 ghost use Rattle.std.specs.Prelude.{◌≡◌};
-ghost use Rattle.turn_client_proto_allocation.specs.Awaited.{has_number};
+ghost use Rattle.turn_client_proto_connection.specs.Allocation.Awaited.{has_number};
 ghost use Rattle.turn_client_proto_core.specs.Numbering.{awaits};
 
 use rand_chacha::ChaCha20Rng;
@@ -10,12 +10,12 @@ use std::marker::Model;
 use std::net::SocketAddr;
 use stun_types::message::TransactionId;
 use stun_types::{ListOf, TransportType};
-use turn_client_proto_allocation::listed::Allocations;
-use turn_client_proto_allocation::numbers::has_number;
 use turn_client_proto_api::Instant;
 use turn_client_proto_api::agent::StunAgent;
 use turn_client_proto_api::event::TurnEvent;
 use turn_client_proto_api::families::RequestedFamilies;
+use turn_client_proto_connection::allocation::listed::Allocations;
+use turn_client_proto_connection::allocation::numbers::has_number;
 use turn_client_proto_queue::queue::QueueOf;
 use turn_client_proto_request::signer::Signer;
 

@@ -7,7 +7,7 @@ ghost use Rattle.turn_client_proto_core.specs.Ending.{IsUnderWay};
 ghost use Rattle.turn_client_proto_core.specs.Numbering.{IsNextNumber};
 ghost use Rattle.turn_client_proto_core.specs.Receiving.{GrowsBy, GrowsStanding, IsFollowed};
 ghost use Rattle.turn_client_proto_core.specs.Standing.{IsConnectResponded, IsJudgedStanding, IsRechallenged, IsTakenUp, after_refresh, asks_again, deallocated, is_refreshed, refreshed, request_for};
-ghost use Rattle.turn_client_proto_channel.specs.Awaited.{awaits_reply};
+ghost use Rattle.turn_client_proto_connection.specs.Channel.Awaited.{awaits_reply};
 ghost use Rattle.turn_client_proto_request.specs.ToldRequests.{IsLawfulRequest};
 
 use crate::protocol::{Phase, Protocol};
@@ -16,7 +16,7 @@ use stun_types::message::{Message, MessageClass, TransactionId};
 use stun_types::registry::ALLOCATION_MISMATCH;
 use turn_client_proto_api::Instant;
 use turn_client_proto_api::auth::{LongTermClientAuthError, LongTermClientValidation};
-use turn_client_proto_channel::awaited::{Asked, ask_too, asked_by};
+use turn_client_proto_connection::channel::awaited::{Asked, ask_too, asked_by};
 use turn_client_proto_connection::told::answer;
 use turn_client_proto_request::laws::requests_are_lawful;
 use turn_client_proto_request::request::TurnRequest;

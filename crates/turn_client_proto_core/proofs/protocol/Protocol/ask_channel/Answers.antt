@@ -1,5 +1,5 @@
 use Rattle.std.proofs.Common.{◌<◌, ap, length, refl, slice_get, subst, sym, ◌∙◌}
-use Rattle.turn_client_proto_channel.specs.Binding.{asking}
+use Rattle.turn_client_proto_connection.specs.Channel.Binding.{asking}
 use Rattle.turn_client_proto_request.specs.ToldRequests.{IsLawfulRequest}
 use Rattle.turn_client_proto_request.specs.declared.request.TurnRequest.TheVariants.{ChannelBind}
 use Rattle.turn_client_proto_core.specs.Numbering.{after_number}
