@@ -8,7 +8,7 @@ from permissions import DUE, NAMED_ANEW, OTHER_NONCE, PEER_3, PEER_6
 from streams import of_tcp
 from streams_base import LONGEST, over
 from traces import (
-    CLIENT, ERROR, HASHED, MS, PEER, RELAYED, SECOND, SERVER, SHA1, code, create_permission, error, lifetime,
+    CLIENT, ERROR, HASHED, MS, PEER, SECOND, SERVER, SHA1, code, create_permission, error, lifetime,
     message, number, refresh, success, unsigned, xored, CREATE_PERMISSION, REFRESH,
 )
 
@@ -186,7 +186,7 @@ def of_another_kind():
     t.pieces(150 * MS, success(CONNECT, 3, named(7)))
     t.poll(150 * MS, DUE)
     asks(t, 150 * MS, AT, "refused AlreadyExists")
-    return "A success of another method has the number of a CONNECT: its transaction ends, and it is answered no more", t
+    return "A success of another method has the number of a CONNECT, whose transaction ends: no answer counts then", t
 
 
 def stale():
