@@ -165,7 +165,8 @@ pub trait TurnClientApi: Debug + Send {
         local_addr: Option<SocketAddr>,
         now: Instant,
     ) -> Result<(), TcpAllocateError>
-        ensures { IsTurnedDown result TcpAllocateError.NoAllocation (kept self.old) (kept self.new) };
+        ensures { IsTurnedDown result TcpAllocateError.NoAllocation (kept self.old)
+            (kept self.new) };
 
     /// Tells that a connection has ended. A client over UDP has none: nothing changes.
     fn tcp_closed(
@@ -207,7 +208,8 @@ pub trait TurnClientApi: Debug + Send {
     /// Where memory is refused, `NoMemory`, and the client has failed: it is asked for where a message
     /// makes the client grow, and for the data that is answered.
     fn poll_recv(&mut self, now: Instant) -> Result<Option<TurnPeerData<Vec<u8>>>, NoMemory>
-        ensures ok { IfOk result (λ given. IsWaitingGiven (kept self.old) now given (kept self.new)) }
+        ensures ok { IfOk result (λ given.
+            IsWaitingGiven (kept self.old) now given (kept self.new)) }
         ensures err { OnErr result (IsWaitingLost (kept self.old) now (kept self.new)) };
 
     /// Hands in what came at a moment: over UDP a datagram, over TCP a piece of the stream. What didn't
@@ -250,7 +252,8 @@ pub trait TurnClientApi: Debug + Send {
     /// refused, `NoMemory`, and the client has failed: it is asked for where no event waits and one is
     /// to be told.
     fn poll(&mut self, now: Instant) -> TurnPollRet
-        ensures { Leaves (λ old new. IsPolled old now result new) (kept self.old) (kept self.new) };
+        ensures { Leaves (λ old new. IsPolled old now result new) (kept self.old)
+            (kept self.new) };
 
     /// What is to be sent at a moment: `poll_transmit` of `turn_client_proto_poll` has it. Where memory
     /// is refused, `NoMemory`, and the client has failed: it is asked for where a request is sent again,

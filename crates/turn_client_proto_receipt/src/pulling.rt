@@ -71,7 +71,8 @@ fn take_up<R: AsSlice<u8> + Debug + Drop>(
 ) -> Result<Option<TurnPeerData<R>>, NoMemory>
     ensures ok { IfOk result (λ given.
         IsFrameHandled now protocol.old frame.now given protocol.new) }
-    ensures err { OnErr result (Needs protocol.old frame.now × HasFailed protocol.old protocol.new) }
+    ensures err { OnErr result (Needs protocol.old frame.now
+        × HasFailed protocol.old protocol.new) }
 {
     match hand_in(protocol, frame, now) {
         Ok(Taken::Given(payload)) => match owned(protocol.alloc, frame, payload) {
