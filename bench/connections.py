@@ -34,30 +34,47 @@ def asks_socket(t, now, connection, peer):
     return t.say(f"poll {now}", f"socket {connection} {CLIENT} {SERVER} {peer}")
 
 
+def decided(t, now, request, decision, reply):
+    """What was asked for is drawn and decided, and the client is told."""
+    drawn = t.draw(now, request)
+    t.comes(now, t.ask(now, f"@{drawn}", decision, reply), reply)
+
+
+def unreached(t, now, k, peer):
+    """The desk doesn't reach the peer."""
+    decided(t, now, connect(k, peer), "refuse 447", error(CONNECT, k, code(447, b"Connection Timeout or Failure")))
+
+
 def permitted():
     """A client with an allocation over TCP and a permission for a peer, granted at 100 ms."""
     t = of_tcp()
     t.permission(50 * MS, PEER_3, transport="tcp")
-    drawn = t.draw(100 * MS, create_permission(2, PEER_3))
-    reply = success(CREATE_PERMISSION, 2)
-    t.comes(100 * MS, t.ask(100 * MS, f"@{drawn}", "grant", reply), reply)
+    decided(t, 100 * MS, create_permission(2, PEER_3), "grant", success(CREATE_PERMISSION, 2))
     t.event(f"PermissionCreated tcp {PEER_3}")
     return t
 
 
-def decided(t, now, k, peer, decision, reply):
-    """What was asked for is drawn and decided, and the client is told."""
-    drawn = t.draw(now, connect(k, peer))
-    t.comes(now, t.ask(now, f"@{drawn}", decision, reply), reply)
+def asking(*peers):
+    """It asks for a connection to each of these peers."""
+    t = permitted()
+    for peer in peers:
+        asks(t, 100 * MS, peer)
+    return t
+
+
+def sent():
+    """It asks for one to a peer, and its CONNECT is under way, with the third number."""
+    t = asking(AT)
+    t.draw(150 * MS, connect(3, AT))
+    return t
 
 
 def connected(t, now, k, peer, connection):
-    decided(t, now, k, peer, f"connect {connection}", success(CONNECT, k, named(connection)))
+    decided(t, now, connect(k, peer), f"connect {connection}", success(CONNECT, k, named(connection)))
 
 
 def granted():
-    t = permitted()
-    asks(t, 100 * MS, AT)
+    t = asking(AT)
     t.poll(100 * MS, 150 * MS)
     t.draw(150 * MS - 1, None)
     connected(t, 150 * MS, 3, AT, 7)
@@ -71,8 +88,7 @@ def granted():
 
 
 def greatest():
-    t = permitted()
-    asks(t, 100 * MS, AT)
+    t = asking(AT)
     connected(t, 150 * MS, 3, AT, 2**32 - 1)
     asks_socket(t, 150 * MS, 2**32 - 1, AT)
     return "The greatest number of a connection", t
@@ -95,8 +111,7 @@ def refused_in_order():
     t.draw(100 * MS, create_permission(2, PEER_3))
     t.draw(150 * MS, None)
     yield "A connection wants an allocation of its family, and a permission that is granted: nothing is sent", t
-    t = permitted()
-    asks(t, 100 * MS, AT)
+    t = asking(AT)
     asks(t, 100 * MS, AT, "refused AlreadyExists")
     asks(t, 100 * MS, NEXT_TO)
     connected(t, 150 * MS, 3, AT, 7)
@@ -120,9 +135,8 @@ def refused_in_order():
 
 
 def refusal():
-    t = permitted()
-    asks(t, 100 * MS, AT)
-    decided(t, 150 * MS, 3, AT, "refuse 403", error(CONNECT, 3, code(403, b"Forbidden")))
+    t = asking(AT)
+    decided(t, 150 * MS, connect(3, AT), "refuse 403", error(CONNECT, 3, code(403, b"Forbidden")))
     t.poll(150 * MS, 150 * MS)
     t.event(f"TcpConnectFailed {AT}")
     t.event("none")
@@ -135,9 +149,7 @@ def refusal():
 
 def without_a_number():
     for k, told in enumerate(([], [(CONNECTION_ID, b"\0\0\7")], [(CONNECTION_ID, b"\0\0\7"), named(7)])):
-        t = permitted()
-        asks(t, 100 * MS, AT)
-        t.draw(150 * MS, connect(3, AT))
+        t = sent()
         t.pieces(150 * MS, t.is_handled_once(success(CONNECT, 3, *told)))
         t.event(f"TcpConnectFailed {AT}")
         t.poll(150 * MS, DUE)
@@ -145,9 +157,7 @@ def without_a_number():
 
 
 def number_in_an_error():
-    t = permitted()
-    asks(t, 100 * MS, AT)
-    t.draw(150 * MS, connect(3, AT))
+    t = sent()
     t.pieces(150 * MS, t.is_handled_once(error(CONNECT, 3, code(447), named(7), named(8))))
     t.event("none")
     asks_socket(t, 150 * MS, 7, AT)
@@ -155,8 +165,7 @@ def number_in_an_error():
 
 
 def twice():
-    t = permitted()
-    asks(t, 100 * MS, AT)
+    t = asking(AT)
     connected(t, 150 * MS, 3, AT, 7)
     t.pieces(150 * MS, success(CONNECT, 3, named(7)))
     t.pieces(150 * MS, success(CONNECT, 3, named(8)))
@@ -166,9 +175,7 @@ def twice():
 
 
 def forged():
-    t = permitted()
-    asks(t, 100 * MS, AT)
-    t.draw(150 * MS, connect(3, AT))
+    t = sent()
     whole = success(CONNECT, 3, named(7))
     t.pieces(150 * MS, unsigned(CONNECT | 0x100, 3, [named(7)]), whole[:27] + b"\x08" + whole[28:])
     t.pieces(150 * MS, success(CONNECT, 4, named(7)), connect(3, AT))
@@ -179,9 +186,7 @@ def forged():
 
 
 def of_another_kind():
-    t = permitted()
-    asks(t, 100 * MS, AT)
-    t.draw(150 * MS, connect(3, AT))
+    t = sent()
     t.pieces(150 * MS, success(CREATE_PERMISSION, 3))
     t.pieces(150 * MS, success(CONNECT, 3, named(7)))
     t.poll(150 * MS, DUE)
@@ -190,9 +195,7 @@ def of_another_kind():
 
 
 def stale():
-    t = permitted()
-    asks(t, 100 * MS, AT)
-    t.draw(150 * MS, connect(3, AT))
+    t = sent()
     t.pieces(150 * MS, t.is_handled_once(unsigned(CONNECT | ERROR, 3, OTHER_NONCE)))
     t.poll(150 * MS, 200 * MS)
     asks(t, 150 * MS, AT, "refused AlreadyExists")
@@ -205,9 +208,7 @@ def stale():
 
 
 def stale_and_lost():
-    t = permitted()
-    asks(t, 100 * MS, AT)
-    t.draw(150 * MS, connect(3, AT))
+    t = sent()
     t.pieces(150 * MS, t.is_handled_once(unsigned(CONNECT | ERROR, 3, OTHER_NONCE)))
     t.draw(200 * MS, connect(4, AT, NAMED_ANEW))
     now = LONGEST + 150 * MS
@@ -220,9 +221,7 @@ def stale_and_lost():
 
 
 def lost():
-    t = permitted()
-    asks(t, 100 * MS, AT)
-    t.draw(150 * MS, connect(3, AT))
+    t = sent()
     now = LONGEST + 100 * MS
     t.poll(150 * MS, now)
     t.poll(now - 1, now)
@@ -239,10 +238,8 @@ def lost():
 
 
 def three():
-    t = permitted()
     peers = (AT, NEXT_TO, THIRD)
-    for peer in peers:
-        asks(t, 100 * MS, peer)
+    t = asking(*peers)
     replies = []
     for i, peer in enumerate(peers):
         now, k = 150 * MS + 50 * MS * i, 3 + i
@@ -261,13 +258,11 @@ def three():
 
 
 def among_three():
-    t = permitted()
     peers = (AT, NEXT_TO, THIRD)
-    for peer in peers:
-        asks(t, 100 * MS, peer)
+    t = asking(*peers)
     now = 150 * MS
     connected(t, now, 3, AT, 7)
-    decided(t, now + 50 * MS, 4, NEXT_TO, "refuse 447", error(CONNECT, 4, code(447, b"Connection Timeout or Failure")))
+    unreached(t, now + 50 * MS, 4, NEXT_TO)
     connected(t, now + 100 * MS, 5, THIRD, 9)
     now += 100 * MS
     t.poll(now, now)
@@ -281,13 +276,10 @@ def among_three():
 
 
 def behind_events():
-    t = permitted()
-    asks(t, 100 * MS, AT)
+    t = asking(AT)
     t.permission(100 * MS, "10.0.0.4", transport="tcp")
     connected(t, 150 * MS, 3, AT, 7)
-    drawn = t.draw(200 * MS, create_permission(4, "10.0.0.4"))
-    reply = success(CREATE_PERMISSION, 4)
-    t.comes(200 * MS, t.ask(200 * MS, f"@{drawn}", "grant", reply), reply)
+    decided(t, 200 * MS, create_permission(4, "10.0.0.4"), "grant", success(CREATE_PERMISSION, 4))
     t.poll(200 * MS, 200 * MS)
     t.event("PermissionCreated tcp 10.0.0.4")
     asks_socket(t, 200 * MS, 7, AT)
@@ -295,9 +287,7 @@ def behind_events():
 
 
 def before_what_ends():
-    t = permitted()
-    asks(t, 100 * MS, AT)
-    asks(t, 100 * MS, NEXT_TO)
+    t = asking(AT, NEXT_TO)
     connected(t, 150 * MS, 3, AT, 7)
     t.draw(200 * MS, connect(4, NEXT_TO))
     now = LONGEST + 100 * MS
@@ -309,22 +299,18 @@ def before_what_ends():
 
 
 def deleted():
-    t = permitted()
-    asks(t, 100 * MS, AT)
+    t = asking(AT)
     connected(t, 150 * MS, 3, AT, 7)
     t.say(f"delete {150 * MS}", "ok")
     asks(t, 150 * MS, NEXT_TO, "refused NoAllocation")
     asks_socket(t, 150 * MS, 7, AT)
-    drawn = t.draw(200 * MS, refresh(4, 0, HASHED))
-    reply = success(REFRESH, 4, lifetime(0))
-    t.comes(200 * MS, t.ask(200 * MS, f"@{drawn}", "refresh 0", reply), reply)
+    decided(t, 200 * MS, refresh(4, 0, HASHED), "refresh 0", success(REFRESH, 4, lifetime(0)))
     t.poll(200 * MS, None)
     return "The end is asked for while a connection waits for its socket: that is asked for still", t
 
 
 def ended():
-    t = permitted()
-    asks(t, 100 * MS, AT)
+    t = asking(AT)
     connected(t, 150 * MS, 3, AT, 7)
     t.say("error", "ok")
     t.event("AllocationCreateFailed 4")
@@ -334,12 +320,11 @@ def ended():
 
 def example():
     """Two connections, of which one is refused, asked for anew and then challenged."""
-    t = permitted()
-    asks(t, 100 * MS, AT)
+    t = asking(AT)
     asks(t, 100 * MS, AT, "refused AlreadyExists")
     asks(t, 100 * MS, NEXT_TO)
     connected(t, 150 * MS, 3, AT, 7)
-    decided(t, 200 * MS, 4, NEXT_TO, "refuse 447", error(CONNECT, 4, code(447, b"Connection Timeout or Failure")))
+    unreached(t, 200 * MS, 4, NEXT_TO)
     t.event(f"TcpConnectFailed {NEXT_TO}")
     asks_socket(t, 200 * MS, 7, AT)
     asks(t, 200 * MS, NEXT_TO)

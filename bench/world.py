@@ -583,6 +583,13 @@ MADE = BOTH[len(DESK) :]
 TCP = MADE.replace("client udp", "client tcp")
 
 
+def bad_events(lines):
+    """Of each remark and the event line behind it: a trace of a desk and a client that has this line alone."""
+    for line in lines.strip().split("\n"):
+        remark, _, event = line.strip().partition(": ")
+        yield remark, f"{BOTH}{event}\n", "", 5
+
+
 def bad_traces():
     """A remark, lines, what is printed before the bad one, and its number."""
     rto = "rto 600 1000 3 3000\n"
@@ -602,42 +609,48 @@ def bad_traces():
     yield "A client over each transport", TCP + MADE, "", 3
     yield "One family twice", MADE.replace("udp 4", "udp 4,4"), "", 2
     yield "Behind an event", BOTH + "relayed\n" + rto, "relayed\n", 6
-    yield "A moment too much", BOTH + "event 0\n", "", 5
-    yield "A permission of no peer", BOTH + "permission 0 udp\n", "", 5
-    yield "A permission, and no transport", BOTH + "permission 0 10.0.0.1\n", "", 5
-    yield "A permission over another transport", BOTH + "permission 0 sctp 10.0.0.1\n", "", 5
-    yield "A permission for a port", BOTH + "permission 0 udp 10.0.0.1:0\n", "", 5
-    yield "A permission for an address in brackets", BOTH + "permission 0 udp [::1]\n", "", 5
-    yield "A bad peer, at a moment out of range", BOTH + f"permission {2**62 + 1} udp x\n", "", 5
-    yield "A permission is looked for at a moment", BOTH + "have 0 udp 10.0.0.1\n", "", 5
-    yield "Permissions of an address without a port", BOTH + "permissions udp 203.0.113.5\n", "", 5
-    yield "A channel to no peer", BOTH + "bind 0 udp\n", "", 5
-    yield "A channel, and no transport", BOTH + "bind 0 10.0.0.3:9000\n", "", 5
-    yield "A channel over another transport", BOTH + "bind 0 sctp 10.0.0.3:9000\n", "", 5
-    yield "A channel to an address without a port", BOTH + "bind 0 udp 10.0.0.3\n", "", 5
-    yield "A channel of a number that the trace tells", BOTH + "bind 0 udp 10.0.0.3:9000 16384\n", "", 5
-    yield "A bad peer of a channel, at a moment out of range", BOTH + f"bind {2**62 + 1} udp x\n", "", 5
-    yield "Channels at a moment", BOTH + "channels 0\n", "", 5
-    yield "Channels of one allocation", BOTH + "channels udp 203.0.113.5:50000\n", "", 5
+    yield from bad_events(f"""
+        A moment too much: event 0
+        A permission of no peer: permission 0 udp
+        A permission, and no transport: permission 0 10.0.0.1
+        A permission over another transport: permission 0 sctp 10.0.0.1
+        A permission for a port: permission 0 udp 10.0.0.1:0
+        A permission for an address in brackets: permission 0 udp [::1]
+        A bad peer, at a moment out of range: permission {2**62 + 1} udp x
+        A permission is looked for at a moment: have 0 udp 10.0.0.1
+        Permissions of an address without a port: permissions udp 203.0.113.5
+        A channel to no peer: bind 0 udp
+        A channel, and no transport: bind 0 10.0.0.3:9000
+        A channel over another transport: bind 0 sctp 10.0.0.3:9000
+        A channel to an address without a port: bind 0 udp 10.0.0.3
+        A channel of a number that the trace tells: bind 0 udp 10.0.0.3:9000 16384
+        A bad peer of a channel, at a moment out of range: bind {2**62 + 1} udp x
+        Channels at a moment: channels 0
+        Channels of one allocation: channels udp 203.0.113.5:50000
+    """)
     yield "A send, and no client", "desk realm sha1 auto\nsend 0 udp 10.0.0.1:5 00\n", "", 3
-    yield "A send of nothing", BOTH + "send 0 udp 10.0.0.1:5\n", "", 5
-    yield "A send at no moment", BOTH + "send udp 10.0.0.1:5 00\n", "", 5
-    yield "A send, and no transport", BOTH + "send 0 10.0.0.1:5 00\n", "", 5
-    yield "A send over another transport", BOTH + "send 0 sctp 10.0.0.1:5 00\n", "", 5
-    yield "A send to an address without a port", BOTH + "send 0 udp 10.0.0.1 00\n", "", 5
-    yield "A send of half a byte", BOTH + "send 0 udp 10.0.0.1:5 0\n", "", 5
-    yield "A send in upper case", BOTH + "send 0 udp 10.0.0.1:5 AA\n", "", 5
-    yield "A send of two words", BOTH + "send 0 udp 10.0.0.1:5 00 00\n", "", 5
-    yield "A send of what no event answered", BOTH + "send 0 udp 10.0.0.1:5 @1\n", "", 5
+    yield from bad_events("""
+        A send of nothing: send 0 udp 10.0.0.1:5
+        A send at no moment: send udp 10.0.0.1:5 00
+        A send, and no transport: send 0 10.0.0.1:5 00
+        A send over another transport: send 0 sctp 10.0.0.1:5 00
+        A send to an address without a port: send 0 udp 10.0.0.1 00
+        A send of half a byte: send 0 udp 10.0.0.1:5 0
+        A send in upper case: send 0 udp 10.0.0.1:5 AA
+        A send of two words: send 0 udp 10.0.0.1:5 00 00
+        A send of what no event answered: send 0 udp 10.0.0.1:5 @1
+    """)
     yield "A send of an answer that has no bytes", BOTH + "event\nsend 0 udp 10.0.0.1:5 @1\n", "none\n", 6
     yield "A bad peer of a send, at a moment out of range", BOTH + f"send {2**62 + 1} udp x 00\n", "", 5
     yield "A connection, and no client", "desk realm sha1 auto\nconnect 0 10.0.0.3:9000\n", "", 3
-    yield "A connection to no peer", BOTH + "connect 0\n", "", 5
-    yield "A connection at no moment", BOTH + "connect 10.0.0.3:9000\n", "", 5
-    yield "A connection over a transport", BOTH + "connect 0 tcp 10.0.0.3:9000\n", "", 5
-    yield "A connection to an address without a port", BOTH + "connect 0 10.0.0.3\n", "", 5
-    yield "A connection of a number", BOTH + "connect 0 10.0.0.3:9000 7\n", "", 5
-    yield "A bad peer of a connection, at a moment out of range", BOTH + f"connect {2**62 + 1} x\n", "", 5
+    yield from bad_events(f"""
+        A connection to no peer: connect 0
+        A connection at no moment: connect 10.0.0.3:9000
+        A connection over a transport: connect 0 tcp 10.0.0.3:9000
+        A connection to an address without a port: connect 0 10.0.0.3
+        A connection of a number: connect 0 10.0.0.3:9000 7
+        A bad peer of a connection, at a moment out of range: connect {2**62 + 1} x
+    """)
     yield "What waits is asked for, and no client", "desk realm sha1 auto\nrecv 0\n", "", 3
     yield "What waits is asked for at no moment", DESK + TCP + "recv\n", "", 5
     yield "What waits is asked for at two moments", DESK + TCP + "recv 0 0\n", "", 5
