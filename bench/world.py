@@ -6,7 +6,7 @@ were worked out by hand, from the waits that a client is documented to have. It 
 wrote is stored: eight examples, and the traces of a client and a desk in the stored run of `turn_traces`,
 behind those of a desk alone. The traces of permissions are in `permissions.py`, those of channels in
 `channels.py` and `channels_later.py`, those of sends and payloads in `payloads.py`, those of a client over
-TCP in `streams.py`, those of connections in `connections.py`.
+TCP in `streams.py`, those of connections in `connections.py`, and those of their sockets in `sockets.py`.
 """
 
 import hashlib
@@ -560,6 +560,7 @@ def good_traces():
     from payloads import payload_traces
     from permissions import permission_traces
     from connections import connection_traces
+    from sockets import socket_traces
     from streams import stream_traces
 
     yield from (
@@ -573,7 +574,7 @@ def good_traces():
         family_unknown(), family_not_supported(), both_families(), refresh_times_out(),
         *refreshes_answered(), stale_refresh(), stale_refresh_lost(), stale_deletion(),
         mismatched_deletion(), *each_setting(), *permission_traces(), *channel_traces(),
-        *payload_traces(), *stream_traces(), *connection_traces(),
+        *payload_traces(), *stream_traces(), *connection_traces(), *socket_traces(),
     )
 
 
@@ -651,6 +652,24 @@ def bad_traces():
         A connection of a number: connect 0 10.0.0.3:9000 7
         A bad peer of a connection, at a moment out of range: connect {2**62 + 1} x
     """)
+    for line in (f"socket 0 7 10.0.0.3:9000 {CLIENT}", f"closed 0 {CLIENT} {SERVER}", "connections"):
+        yield f"No client: {line.split()[0]}", f"desk realm sha1 auto\n{line}\n", "", 3
+    yield from bad_events(f"""
+        A socket at no moment: socket 7 10.0.0.3:9000 none
+        A socket of no number: socket 0 10.0.0.3:9000 none
+        A socket of a number that is too great: socket 0 {2**32} 10.0.0.3:9000 none
+        A socket to a peer without a port: socket 0 7 10.0.0.3 none
+        A socket that is neither an address nor none: socket 0 7 10.0.0.3:9000 no
+        A socket that is none, in upper case: socket 0 7 10.0.0.3:9000 None
+        A socket of one word less: socket 0 7 10.0.0.3:9000
+        A socket of one word more: socket 0 7 10.0.0.3:9000 none none
+        A socket that was closed at no moment: closed {CLIENT} {SERVER}
+        A socket that was closed, of one address: closed 0 {CLIENT}
+        A socket that was closed, of three addresses: closed 0 {CLIENT} {SERVER} {SERVER}
+        A socket that was closed, of none: closed 0 none {SERVER}
+        A bad socket at a moment out of range: socket {2**62 + 1} 7 10.0.0.3:9000 x
+        Connections at a moment: connections 0
+    """)
     yield "What waits is asked for, and no client", "desk realm sha1 auto\nrecv 0\n", "", 3
     yield "What waits is asked for at no moment", DESK + TCP + "recv\n", "", 5
     yield "What waits is asked for at two moments", DESK + TCP + "recv 0 0\n", "", 5
@@ -670,7 +689,7 @@ def all_traces():
 
 def examples():
     from channels import granted_channel_again
-    from connections import example as example_of_connections
+    from sockets import example as example_of_connections
     from payloads import example
     from permissions import granted_reply_again
     from streams import example as example_over_tcp

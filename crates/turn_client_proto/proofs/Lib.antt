@@ -23,3 +23,5 @@ pub use Rattle.turn_client_proto_receipt.proofs.Sending
 pub use Rattle.turn_client_proto_receipt.proofs.Showing
 pub use Rattle.turn_client_proto_receipt.proofs.Shown
 pub use Rattle.turn_client_proto_receipt.proofs.ShownChannels
+pub use Rattle.turn_client_proto_receipt.proofs.ShownConnections
+pub use Rattle.turn_client_proto_receipt.proofs.Socketing

@@ -7,6 +7,7 @@ use Rattle.stun_types.specs.declared.transport.TransportType.{TransportType}
 use Rattle.turn_client_proto_receipt.specs.Core.declared.protocol.Protocol.{Protocol}
 use Rattle.turn_client_proto_receipt.specs.Allocation.Listed.{relayed_shown}
 use Rattle.turn_client_proto_receipt.specs.Channel.Shown.{channels_shown}
+use Rattle.turn_client_proto_receipt.specs.Connection.Shown.{connections_shown}
 use Rattle.turn_client_proto_receipt.specs.Permission.Asking.{permits_over}
 use Rattle.turn_client_proto_receipt.specs.Permission.Shown.{addresses_of, permissions_at}
 
@@ -25,3 +26,7 @@ permissions_of transport relayed p = addresses_of (permissions_at transport rela
 -- the channels that a client shows, each by its number and its peer
 abbrev pub channels_of : Protocol → List (ℕ × SocketAddr)
 channels_of p = channels_shown p.allocations
+
+-- the connections that a client shows, each by its own address, its peer, its number and whether it is bound
+abbrev pub connections_of : Protocol → List (SocketAddr × SocketAddr × ℕ × Bool)
+connections_of p = connections_shown p.allocations

@@ -2,7 +2,7 @@
 pub mod Clients
 pub mod Codes
 pub mod Getters
-pub mod Refusals
+pub mod SocketsTold
 pub use Rattle.turn_client_proto_receipt.specs.Control
 pub use Rattle.turn_client_proto_receipt.specs.Cuts
 pub use Rattle.turn_client_proto_receipt.specs.Datagrams
@@ -15,13 +15,16 @@ pub use Rattle.turn_client_proto_receipt.specs.Receipts
 pub use Rattle.turn_client_proto_receipt.specs.Waiting
 pub use Rattle.turn_client_proto_receipt.specs.declared.handing.Taken
 pub use Rattle.turn_client_proto_receipt.specs.Core.Beginning
+pub use Rattle.turn_client_proto_receipt.specs.Closing
 pub use Rattle.turn_client_proto_receipt.specs.Connecting
+pub use Rattle.turn_client_proto_receipt.specs.Connection
 pub use Rattle.turn_client_proto_receipt.specs.Core.Binding
 pub use Rattle.turn_client_proto_receipt.specs.Core.Deleting
 pub use Rattle.turn_client_proto_receipt.specs.Drawing
 pub use Rattle.turn_client_proto_receipt.specs.OfPeers
 pub use Rattle.turn_client_proto_receipt.specs.Payloads
 pub use Rattle.turn_client_proto_receipt.specs.Sending
+pub use Rattle.turn_client_proto_receipt.specs.Sockets
 pub use Rattle.turn_client_proto_receipt.specs.Core.Ending
 pub use Rattle.turn_client_proto_receipt.specs.Core.Permitting
 pub use Rattle.turn_client_proto_receipt.specs.Polling

@@ -1,7 +1,8 @@
 //! The settings of a client, the trait of its calls, and what they answer.
 
-ghost use Rattle.std.specs.Prelude.{◌≡◌, ◌≢◌, ◌++◌, ℕ, [], Err, Ok, None, IfNone, IfOk, OnErr, OnOk, option_to_list};
+ghost use Rattle.std.specs.Prelude.{◌≡◌, ◌≢◌, ◌++◌, ℕ, [], true, IfNone, IfOk, OnErr, OnOk, option_to_list};
 ghost use Rattle.std.specs.Option.{option_map};
+ghost use Rattle.turn_client_proto_receipt.specs.Closing.{after_close, is_joined};
 ghost use Rattle.turn_client_proto_receipt.specs.Connecting.{IsConnectAnswered};
 ghost use Rattle.turn_client_proto_receipt.specs.Core.Binding.{IsBindAnswered};
 ghost use Rattle.turn_client_proto_receipt.specs.Core.Deleting.{IsDeleteAnswered};
@@ -10,12 +11,14 @@ ghost use Rattle.turn_client_proto_receipt.specs.Core.Ending.{HasFailed, ended};
 ghost use Rattle.turn_client_proto_receipt.specs.Core.Permitting.{IsPermissionAnswered};
 ghost use Rattle.turn_client_proto_receipt.specs.Polling.{IsPolled};
 ghost use Rattle.turn_client_proto_receipt.specs.Sending.{IsSendAnswered, answered_as};
-ghost use Rattle.turn_client_proto.specs.Getters.{channels_of, has_permission, permissions_of, relayed_of};
+ghost use Rattle.turn_client_proto.specs.Getters.{channels_of, connections_of, has_permission, permissions_of, relayed_of};
 ghost use Rattle.turn_client_proto_receipt.specs.Kept.{Kept, Leaves};
 ghost use Rattle.turn_client_proto_receipt.specs.Receipts.{IsReceived, IsWaitingGiven, IsWaitingLost};
-ghost use Rattle.turn_client_proto.specs.Refusals.{IsAnsweredStill, IsTurnedDown};
+ghost use Rattle.turn_client_proto.specs.SocketsTold.{IsSocketTold};
 
-pub use crate::getters::{ChannelsIter, PermissionAddressesIter, RelayedAddressesIter};
+pub use crate::getters::{
+    ChannelsIter, ConnectionsIter, PermissionAddressesIter, RelayedAddressesIter,
+};
 use std::convert::AsSlice;
 use std::fmt::Debug;
 use std::net::{IpAddr, SocketAddr};
@@ -47,8 +50,10 @@ pub const CLIENT_END: u64 = 1 << 62;
 /// first frame gives that a piece makes whole, and `poll_recv` what the others do: it is to be called after
 /// each piece until it answers `None`.
 ///
-/// A client asks for connections to peers, and tells for which it needs a socket; but it takes none yet, so
-/// no connection is bound: `allocated_tcp_socket` is refused and changes nothing.
+/// A client asks for connections to peers, tells for which it needs a socket, and asks over that socket that
+/// the connection be bound; but what the server answers there is not taken yet: `recv` gives back what comes
+/// to another address than the client's own. So no connection is bound, and after 39.5 seconds `poll` gives
+/// it up.
 pub trait TurnClientApi: Debug + Send {
     ghost kept: { Self → Kept };
 
@@ -155,8 +160,18 @@ pub trait TurnClientApi: Debug + Send {
         ensures { Leaves (λ old new. IsConnectAnswered old peer_addr now result new)
             (kept self.old) (kept self.new) };
 
-    /// Hands in the local address of the socket for a connection to a peer, or that there is none (RFC
-    /// 6062, section 4.3). No client takes a socket yet: it is refused with `NoAllocation`.
+    /// Hands in the own address of the socket that was opened for a connection to a peer, or that none was
+    /// (RFC 6062, section 4.3), by the number with which `AllocateTcpSocket` asked for it; the five-tuple is
+    /// that of the client's own connection to the server, which that answer tells. Then the client asks over
+    /// the new socket that the connection be bound, which the server may answer within 39.5 seconds. Without
+    /// a socket the connection is forgotten.
+    ///
+    /// It is refused, by the first that holds, with `NoAllocation` where no connection of that number and to
+    /// that peer waits for its socket, the client has not allocated over TCP or has ended, or the five-tuple
+    /// isn't its own; with `AlreadyExists` where another data connection has that own address; with
+    /// `NoMemory`. Nothing changes then but the words that were drawn where memory is refused. A socket with
+    /// the own address of the client's connection to the server is taken: then what comes to it is no longer
+    /// that connection's.
     fn allocated_tcp_socket(
         &mut self,
         id: u32,
@@ -165,17 +180,31 @@ pub trait TurnClientApi: Debug + Send {
         local_addr: Option<SocketAddr>,
         now: Instant,
     ) -> Result<(), TcpAllocateError>
-        ensures { IsTurnedDown result TcpAllocateError.NoAllocation (kept self.old)
+        ensures { IsSocketTold (kept self.old) id five_tuple peer_addr local_addr now result
             (kept self.new) };
 
-    /// Tells that a connection has ended. A client over UDP has none: nothing changes.
+    /// Tells that the socket of a data connection was closed, between an own address and the server. The
+    /// connection goes, bound or not, without an event, and `poll` tells once more to close it, before any
+    /// other. A socket of no connection changes nothing, and so does that of the client's own connection to
+    /// the server. Where memory is refused, `NoMemory`, and nothing changes: it is asked for where a
+    /// connection goes.
     fn tcp_closed(
         &mut self,
         local_addr: SocketAddr,
         remote_addr: SocketAddr,
         now: Instant,
     ) -> Result<(), NoMemory>
-        ensures { IsAnsweredStill result (Ok tt) (kept self.old) (kept self.new) };
+        ensures ok { OnOk result (Leaves (λ old new. new ≡ after_close local_addr remote_addr old)
+            (kept self.old) (kept self.new)) }
+        ensures err { OnErr result (kept self.new ≡ kept self.old) }
+        ensures memory { OnErr result
+            (is_joined local_addr remote_addr (kept self.old).core ≡ true) };
+
+    /// The data connections that have a socket, each by its own address, its peer's, the number by which
+    /// the server knows it, and whether it is bound, in the order in which their sockets were told, one
+    /// allocation after another. Allocations that are marked as expired are passed over. It takes no memory.
+    fn connections(&self) -> ConnectionsIter<'_>
+        ensures { result ≡ connections_of (kept self.now).core };
 
     /// What carries bytes to a peer, by the allocations of this transport: the answer is `Some`, and
     /// its bytes are written when it is sent, by `build` or `write_into`. Over UDP it is a frame of the

@@ -3,10 +3,10 @@
 ghost use Rattle.turn_client_proto.specs.Clients.{kept_of};
 
 use crate::api::{
-    BindChannelError, ChannelsIter, CreatePermissionError, DelayedMessageOrChannelSend,
-    DeleteError, PermissionAddressesIter, RelayedAddressesIter, SendError, Socket5Tuple,
-    TcpAllocateError, TcpConnectError, TurnClientApi, TurnEvent, TurnPeerData, TurnPollRet,
-    TurnRecvRet,
+    BindChannelError, ChannelsIter, ConnectionsIter, CreatePermissionError,
+    DelayedMessageOrChannelSend, DeleteError, PermissionAddressesIter, RelayedAddressesIter,
+    SendError, Socket5Tuple, TcpAllocateError, TcpConnectError, TurnClientApi, TurnEvent,
+    TurnPeerData, TurnPollRet, TurnRecvRet,
 };
 use crate::tcp::TurnClientTcp;
 use crate::udp::TurnClientUdp;
@@ -172,6 +172,13 @@ impl TurnClientApi for TurnClient {
         match self {
             TurnClient::Udp(client) => client.tcp_closed(local_addr, remote_addr, now),
             TurnClient::Tcp(client) => client.tcp_closed(local_addr, remote_addr, now),
+        }
+    }
+
+    fn connections(&self) -> ConnectionsIter<'_> {
+        match self {
+            TurnClient::Udp(client) => client.connections(),
+            TurnClient::Tcp(client) => client.connections(),
         }
     }
 

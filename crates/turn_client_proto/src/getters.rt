@@ -3,6 +3,7 @@
 ghost use Rattle.std.specs.Prelude.{◌≡◌};
 ghost use Rattle.turn_client_proto_receipt.specs.Allocation.Listed.{relayed_shown};
 ghost use Rattle.turn_client_proto_receipt.specs.Channel.Shown.{channels_shown};
+ghost use Rattle.turn_client_proto_receipt.specs.Connection.Shown.{connections_shown};
 ghost use Rattle.turn_client_proto_receipt.specs.Permission.Shown.{addresses_of};
 
 use std::marker::Model;
@@ -10,8 +11,10 @@ use std::net::{IpAddr, SocketAddr};
 use stun_types::TransportType;
 use turn_client_proto_receipt::calls::allocation::allocation::Allocation;
 use turn_client_proto_receipt::calls::allocation::channel::Channel;
+use turn_client_proto_receipt::calls::allocation::connection::Connection;
 use turn_client_proto_receipt::calls::allocation::permission::Permission;
 use turn_client_proto_receipt::calls::channel::shown::channels_of;
+use turn_client_proto_receipt::calls::connection::shown::connections_of;
 
 /// The relayed addresses of a client with their transports, in the order in which they were granted.
 /// Those of allocations that are marked as expired are passed over. Contracts see the list of what is
@@ -158,5 +161,66 @@ impl<'a> Iterator for ChannelsIter<'a> {
         self.here = others;
         self.left = left;
         Some((first.number.number(), first.peer))
+    }
+}
+
+/// The data connections of a client, each by its own address, its peer's, the number by which the server
+/// knows it, and whether it is bound, in the order in which their sockets were told, one allocation after
+/// another. Those of allocations that are marked as expired are passed over. Contracts see the list of
+/// what is left.
+#[derive(Debug, Drop)]
+pub struct ConnectionsIter<'a> {
+    here: &'a [Connection],
+    left: &'a [Allocation],
+}
+
+impl<'a> Model for ConnectionsIter<'a> {
+    ghost use Rattle.std.specs.Prelude.{ℕ, Bool, List, ◌++◌};
+    ghost use Rattle.std.specs.declared.net.socket_addr.SocketAddr.{SocketAddr};
+    ghost use Rattle.turn_client_proto_receipt.specs.Connection.Shown.{connections_shown, rows_of};
+
+    ghost Value = { List (SocketAddr × SocketAddr × ℕ × Bool) };
+
+    ghost view = { λ it. rows_of it.here.now ++ connections_shown it.left.now };
+}
+
+impl<'a> ConnectionsIter<'a> {
+    /// The connections of these allocations.
+    pub fn new(allocations: &'a [Allocation]) -> ConnectionsIter<'a>
+        ensures { result ≡ connections_shown allocations.now }
+    {
+        ConnectionsIter {
+            here: &[],
+            left: allocations,
+        }
+    }
+}
+
+impl<'a> Iterator for ConnectionsIter<'a> {
+    ghost use Rattle.std.specs.Iterator.{YieldsFirst, item_count};
+
+    type Item = (SocketAddr, SocketAddr, u32, bool);
+
+    ghost next_gives = { YieldsFirst (λ left. left) };
+
+    ghost remaining = { item_count (λ left. left) };
+
+    fn next(&mut self) -> Option<(SocketAddr, SocketAddr, u32, bool)> {
+        let mut here = self.here;
+        let mut left = self.left;
+        while here.is_empty() {
+            let (first, others) = left.split_first()?;
+            here = connections_of(first);
+            left = others;
+        }
+        let (first, others) = here.split_first()?;
+        self.here = others;
+        self.left = left;
+        Some((
+            first.here,
+            first.peer,
+            first.connection,
+            first.awaited.is_none(),
+        ))
     }
 }

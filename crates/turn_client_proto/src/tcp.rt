@@ -6,12 +6,14 @@ ghost use Rattle.stun_types.specs.declared.transport.TransportType.TheVariants.{
 ghost use Rattle.turn_types.specs.Streams.{alive};
 ghost use Rattle.turn_client_proto_receipt.specs.Core.Beginning.{IsNew};
 ghost use Rattle.turn_client_proto_receipt.specs.Control.{Open};
+ghost use Rattle.turn_client_proto_receipt.specs.Receipts.{over_tcp};
+ghost use Rattle.turn_client_proto.specs.SocketsTold.{IsSocketTold};
 
 use crate::api::{
-    BindChannelError, ChannelsIter, CreatePermissionError, DelayedMessageOrChannelSend,
-    DeleteError, PermissionAddressesIter, RelayedAddressesIter, SendError, Socket5Tuple,
-    TcpAllocateError, TcpConnectError, TurnClientApi, TurnConfig, TurnEvent, TurnPeerData,
-    TurnPollRet, TurnRecvRet,
+    BindChannelError, ChannelsIter, ConnectionsIter, CreatePermissionError,
+    DelayedMessageOrChannelSend, DeleteError, PermissionAddressesIter, RelayedAddressesIter,
+    SendError, Socket5Tuple, TcpAllocateError, TcpConnectError, TurnClientApi, TurnConfig,
+    TurnEvent, TurnPeerData, TurnPollRet, TurnRecvRet,
 };
 use std::alloc::Global;
 use std::convert::AsSlice;
@@ -24,15 +26,17 @@ use stun_types::{NoMemory, Transmit, TransportType};
 use turn_client_proto_receipt::calls::permission::asking::permits_any;
 use turn_client_proto_receipt::calls::permission::shown::permissions_at;
 use turn_client_proto_receipt::calls::protocol::Protocol;
-use turn_client_proto_receipt::calls::{connecting, deleting, drawing, polling, sending};
+use turn_client_proto_receipt::calls::{
+    closing, connecting, deleting, drawing, polling, sending, socket,
+};
 use turn_client_proto_receipt::stream::{ask, receive};
 use turn_types::tcp::TurnTcpBuffer;
 use turn_types::transmit::TransmitBuild;
 
 /// A TURN client over TCP: a connection to the server, in which messages and channel frames come one behind
-/// another (RFC 8656, section 12.5), and an allocation over UDP or TCP. Of an allocation over TCP there are
-/// no connections to peers yet (RFC 6062). Contracts see the record `Kept`: the protocol core, and what is
-/// kept of the stream while it stands.
+/// another (RFC 8656, section 12.5), and an allocation over UDP or TCP. Connections to peers over an
+/// allocation over TCP are asked for, but none is bound yet (RFC 6062). Contracts see the record `Kept`:
+/// the protocol core, and what is kept of the stream while it stands.
 #[derive(Debug, Drop)]
 pub struct TurnClientTcp {
     protocol: Protocol,
@@ -74,6 +78,29 @@ impl TurnClientTcp {
             control: Some(TurnTcpBuffer::new(alloc)),
         })
     }
+}
+
+/// Tells of a socket: where it takes the place of the client's own connection, the stream of that ends.
+fn take_socket(
+    protocol: &mut Protocol,
+    control: &mut Option<TurnTcpBuffer>,
+    id: u32,
+    five_tuple: Socket5Tuple,
+    peer: SocketAddr,
+    local: Option<SocketAddr>,
+    now: Instant,
+) -> Result<(), TcpAllocateError>
+    ensures { IsSocketTold (over_tcp protocol.old control.old) id five_tuple peer local now result
+        (over_tcp protocol.new control.new) }
+{
+    let own = protocol.agent.local_addr();
+    let answer = socket::allocated_tcp_socket(protocol, id, five_tuple, peer, local, now);
+    if let (Ok(()), Some(here)) = (answer, local) {
+        if here == own {
+            *control = None;
+        }
+    }
+    answer
 }
 
 impl TurnClientApi for TurnClientTcp {
@@ -140,22 +167,30 @@ impl TurnClientApi for TurnClientTcp {
 
     fn allocated_tcp_socket(
         &mut self,
-        _id: u32,
-        _five_tuple: Socket5Tuple,
-        _peer_addr: SocketAddr,
-        _local_addr: Option<SocketAddr>,
-        _now: Instant,
+        id: u32,
+        five_tuple: Socket5Tuple,
+        peer_addr: SocketAddr,
+        local_addr: Option<SocketAddr>,
+        now: Instant,
     ) -> Result<(), TcpAllocateError> {
-        Err(TcpAllocateError::NoAllocation)
+        let control = &mut self.control;
+        let protocol = &mut self.protocol;
+        take_socket(
+            protocol, control, id, five_tuple, peer_addr, local_addr, now,
+        )
     }
 
     fn tcp_closed(
         &mut self,
-        _local_addr: SocketAddr,
-        _remote_addr: SocketAddr,
+        local_addr: SocketAddr,
+        remote_addr: SocketAddr,
         _now: Instant,
     ) -> Result<(), NoMemory> {
-        Ok(())
+        closing::tcp_closed(&mut self.protocol, local_addr, remote_addr)
+    }
+
+    fn connections(&self) -> ConnectionsIter<'_> {
+        ConnectionsIter::new(self.protocol.allocations.as_slice())
     }
 
     fn send_to<T: AsSlice<u8> + Debug + Drop>(

@@ -6,10 +6,10 @@ ghost use Rattle.stun_types.specs.declared.transport.TransportType.TheVariants.{
 ghost use Rattle.turn_client_proto_receipt.specs.Core.Beginning.{IsNew};
 
 use crate::api::{
-    BindChannelError, ChannelsIter, CreatePermissionError, DelayedMessageOrChannelSend,
-    DeleteError, PermissionAddressesIter, RelayedAddressesIter, SendError, Socket5Tuple,
-    TcpAllocateError, TcpConnectError, TurnClientApi, TurnConfig, TurnEvent, TurnPeerData,
-    TurnPollRet, TurnRecvRet,
+    BindChannelError, ChannelsIter, ConnectionsIter, CreatePermissionError,
+    DelayedMessageOrChannelSend, DeleteError, PermissionAddressesIter, RelayedAddressesIter,
+    SendError, Socket5Tuple, TcpAllocateError, TcpConnectError, TurnClientApi, TurnConfig,
+    TurnEvent, TurnPeerData, TurnPollRet, TurnRecvRet,
 };
 use std::alloc::Global;
 use std::convert::AsSlice;
@@ -22,7 +22,9 @@ use stun_types::{NoMemory, Transmit, TransportType};
 use turn_client_proto_receipt::calls::permission::asking::permits_any;
 use turn_client_proto_receipt::calls::permission::shown::permissions_at;
 use turn_client_proto_receipt::calls::protocol::Protocol;
-use turn_client_proto_receipt::calls::{connecting, deleting, drawing, polling, sending};
+use turn_client_proto_receipt::calls::{
+    closing, connecting, deleting, drawing, polling, sending, socket,
+};
 use turn_client_proto_receipt::datagram::{is_of_server, take_datagram};
 use turn_types::transmit::TransmitBuild;
 
@@ -132,22 +134,27 @@ impl TurnClientApi for TurnClientUdp {
 
     fn allocated_tcp_socket(
         &mut self,
-        _id: u32,
-        _five_tuple: Socket5Tuple,
-        _peer_addr: SocketAddr,
-        _local_addr: Option<SocketAddr>,
-        _now: Instant,
+        id: u32,
+        five_tuple: Socket5Tuple,
+        peer_addr: SocketAddr,
+        local_addr: Option<SocketAddr>,
+        now: Instant,
     ) -> Result<(), TcpAllocateError> {
-        Err(TcpAllocateError::NoAllocation)
+        let protocol = &mut self.protocol;
+        socket::allocated_tcp_socket(protocol, id, five_tuple, peer_addr, local_addr, now)
     }
 
     fn tcp_closed(
         &mut self,
-        _local_addr: SocketAddr,
-        _remote_addr: SocketAddr,
+        local_addr: SocketAddr,
+        remote_addr: SocketAddr,
         _now: Instant,
     ) -> Result<(), NoMemory> {
-        Ok(())
+        closing::tcp_closed(&mut self.protocol, local_addr, remote_addr)
+    }
+
+    fn connections(&self) -> ConnectionsIter<'_> {
+        ConnectionsIter::new(self.protocol.allocations.as_slice())
     }
 
     fn send_to<T: AsSlice<u8> + Debug + Drop>(

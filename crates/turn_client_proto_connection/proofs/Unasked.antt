@@ -1,9 +1,9 @@
 -- Where no socket is to be asked for, to ask for the first changes nothing.
-use Rattle.std.proofs.Common.{◌≡◌, Bool, true, false, List, [], ◌∷◌, Option, Some, None, refl, sym, ap, ◌∙◌, inl, inr}
+use Rattle.std.proofs.Common.{◌≡◌, Bool, true, List, [], ◌∷◌, Some, None, refl, sym, ap, ◌∙◌, inl, inr}
 use Rattle.std.proofs.lemmas.Bool.{cases_Bool}
 use Rattle.std.specs.List.{find, list_any}
-use Rattle.turn_client_proto_allocation.specs.declared.allocation.Allocation.{Allocation}
-use Rattle.turn_client_proto_connection.specs.Waiting.{all_asked, asked_in, has_unasked, is_unasked, unasked}
+use Rattle.turn_client_proto_channel.specs.Permission.Allocation.declared.allocation.Allocation.{Allocation}
+use Rattle.turn_client_proto_connection.specs.Waiting.{all_asked, has_unasked, is_unasked, unasked}
 
 -- where one passes, one is found
 any_found : {X : Type 0} (p : X → Bool) (xs : List X) → list_any p xs ≡ true → find p xs ≡ None → ⊥

@@ -1,12 +1,15 @@
-//! The connections of a TURN client's allocations to peers (RFC 6062, section 4), as far as they are
-//! asked for: why none is asked for, what the response to a CONNECT makes of one, what becomes of it as
-//! time goes on, and for which the caller is to open a socket.
+//! The connections of a TURN client's allocations to peers (RFC 6062, section 4): why none is asked for,
+//! what the response to a CONNECT makes of one, for which the caller is to open a socket, what becomes
+//! of a connection that has one and of all of them as time goes on, and which are shown.
 #![tactic(auto)]
 
 pub mod asking;
+pub mod lapse;
+pub mod shown;
+pub mod sockets;
 pub mod told;
 pub mod waiting;
 
 // What stands above this crate has these through it.
-pub use turn_client_proto_allocation as allocation;
 pub use turn_client_proto_channel as channel;
+pub use turn_client_proto_channel::permission::allocation;

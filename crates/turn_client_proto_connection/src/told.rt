@@ -9,9 +9,9 @@ ghost use Rattle.turn_client_proto_connection.specs.Told.{all_connected, answere
 use std::net::SocketAddr;
 use stun_types::NoMemory;
 use stun_types::message::TransactionId;
-use turn_client_proto_allocation::allocation::Allocation;
-use turn_client_proto_allocation::connection::{Connecting, Waiting};
 use turn_client_proto_channel::awaited::{Asked, asked_by};
+use turn_client_proto_channel::permission::allocation::allocation::Allocation;
+use turn_client_proto_channel::permission::allocation::connection::{Connecting, Waiting};
 use turn_client_proto_channel::permission::api::event::TurnEvent;
 use turn_client_proto_channel::permission::queue::queue::QueueOf;
 
@@ -39,7 +39,7 @@ fn connect_in(
 /// A connection to a peer was granted, of a number by which the server knows it: it waits for its
 /// socket in the allocation at a place, which is the first that awaits the response to this request,
 /// and what the request asked for goes there. Where memory is refused, nothing changes.
-#[tactic(auto, using(turn_client_proto_allocation::proofs::Changes::first_by_place))]
+#[tactic(auto, using(crate::proofs::Usual::by_place))]
 fn connect(
     allocations: &mut [Allocation],
     place: usize,
@@ -56,7 +56,7 @@ fn connect(
 }
 
 /// Whether the transaction that ended is that of the request which asks for a connection.
-fn is_over(asked: &Connecting, ended: &Option<TransactionId>) -> bool
+pub(crate) fn is_over(asked: &Connecting, ended: &Option<TransactionId>) -> bool
     ensures { result ≡ is_over ended.now asked.now }
 {
     match ended {

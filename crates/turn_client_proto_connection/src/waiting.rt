@@ -1,11 +1,11 @@
 //! Connections for which the caller is to open a socket (RFC 6062, section 4.3).
 
 ghost use Rattle.std.specs.Prelude.{◌≡◌, find, position};
-ghost use Rattle.turn_client_proto_allocation.specs.Changes.{change_first};
+ghost use Rattle.turn_client_proto_channel.specs.Permission.Allocation.Changes.{change_first};
 ghost use Rattle.turn_client_proto_connection.specs.Waiting.{all_asked, asked, has_unasked, is_unasked, unasked};
 
-use turn_client_proto_allocation::allocation::Allocation;
-use turn_client_proto_allocation::connection::Waiting;
+use turn_client_proto_channel::permission::allocation::allocation::Allocation;
+use turn_client_proto_channel::permission::allocation::connection::Waiting;
 
 /// The place of the first connection for whose socket the caller was not asked.
 fn place_unasked(waiting: &[Waiting]) -> Option<usize>
@@ -29,7 +29,7 @@ fn place_of(allocations: &[Allocation]) -> Option<usize>
 }
 
 /// The first of some connections for whose socket the caller was not asked: now it is.
-#[tactic(auto, using(turn_client_proto_allocation::proofs::Changes::first_by_place))]
+#[tactic(auto, using(crate::proofs::Usual::by_place))]
 fn ask_in(waiting: &mut [Waiting]) -> Option<Waiting>
     ensures given { result ≡ find is_unasked waiting.old }
     ensures after { waiting.new ≡ change_first is_unasked asked waiting.old }
@@ -41,7 +41,7 @@ fn ask_in(waiting: &mut [Waiting]) -> Option<Waiting>
 }
 
 /// The first connection of all allocations for whose socket the caller was not asked: now it is.
-#[tactic(auto, using(turn_client_proto_allocation::proofs::Changes::first_by_place))]
+#[tactic(auto, using(crate::proofs::Usual::by_place))]
 pub fn ask_first(allocations: &mut [Allocation]) -> Option<Waiting>
     ensures given { result ≡ unasked allocations.old }
     ensures after { allocations.new ≡ all_asked allocations.old }

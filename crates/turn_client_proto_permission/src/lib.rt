@@ -11,5 +11,6 @@ pub mod telling;
 pub mod wanting;
 
 // What stands above this crate has these through it.
+pub use turn_client_proto_allocation as allocation;
 pub use turn_client_proto_api as api;
 pub use turn_client_proto_queue as queue;

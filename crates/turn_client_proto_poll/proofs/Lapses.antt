@@ -1,5 +1,5 @@
 -- What is told of an allocation is not nothing, where something goes.
-use Rattle.std.proofs.Common.{append_assoc, ◌≡◌, ℕ, List, [], ◌++◌, map, Option, Some, sym, ap, ◌∙◌}
+use Rattle.std.proofs.Common.{append_assoc, ◌≡◌, ℕ, List, [], ◌++◌, filter, map, Option, Some, sym, ap, ◌∙◌}
 use Rattle.std.specs.Prelude.{◌≢◌, option_to_list}
 use Rattle.std.specs.declared.net.socket_addr.SocketAddr.{SocketAddr}
 use Rattle.turn_client_proto_core.specs.Allocation.declared.allocation.Allocation.{Allocation}
@@ -9,10 +9,12 @@ use Rattle.turn_client_proto_core.specs.Allocation.declared.permission.Permissio
 use Rattle.turn_client_proto_core.specs.Api.declared.event.TurnEvent.{TurnEvent}
 use Rattle.turn_client_proto_core.specs.Api.declared.event.TurnEvent.TheVariants.{ChannelCreateFailed, PermissionCreateFailed, TcpConnectFailed}
 use Rattle.turn_client_proto_core.specs.Allocation.declared.connection.Connecting.{Connecting}
+use Rattle.turn_client_proto_core.specs.Allocation.declared.connection.Connection.{Connection}
 use Rattle.turn_client_proto_core.specs.Channel.Lapsing as channels
+use Rattle.turn_client_proto_core.specs.Connection.Lapsing as joined
 use Rattle.turn_client_proto_core.specs.Connection.Told as connections
 use Rattle.turn_client_proto_core.specs.Permission.Telling as permissions
-use Rattle.turn_client_proto_poll.specs.Telling.{all_failures, failures, relay_failures}
+use Rattle.turn_client_proto_poll.specs.Telling.{all_failures, connection_failures, failures, relay_failures}
 use Rattle.turn_client_proto_poll.proofs.Tells.{in_turn, none_left, none_mapped, none_right, none_told, told_changed}
 
 module _ (over : Option ℕ) (now : ℕ) (a : Allocation) where
@@ -70,28 +72,59 @@ module _ (over : Option ℕ) (now : ℕ) (a : Allocation) where
       let turns = in_turn events one two three four in
       rw (is_all, is_third, is_second, is_first, is_pending, is_asked, is_standing, is_four) turns
 
+  -- of its connections, where one of their two parts isn't empty
+  abbrev five : List TurnEvent
+  five = map TcpConnectFailed (connections.peers_over over a.connecting)
+
+  abbrev six : List TurnEvent
+  six = map TcpConnectFailed (joined.peers_gone over now a.connections)
+
+  pub told_over : connections.peers_over over a.connecting ≢ [] → connection_failures over now a ≢ []
+  unfolding connection_failures
+  told_over some = λ none. some (none_mapped TcpConnectFailed (connections.peers_over over a.connecting) (none_left five six none))
+
+  none_gone : connection_failures over now a ≡ [] → joined.peers_gone over now a.connections ≡ []
+  unfolding connection_failures
+  none_gone none = none_mapped TcpConnectFailed (joined.peers_gone over now a.connections) (none_right five six none)
+
+  pub told_gone : joined.peers_gone over now a.connections ≢ [] → connection_failures over now a ≢ []
+  unfolding connection_failures
+  told_gone some = λ none. some (none_gone none)
+
+  -- both are told one after the other
+  pub told_joined : (events first all : List TurnEvent) (asked : List Connecting) (standing : List Connection) → asked ≡ a.connecting → standing ≡ a.connections
+      → first ≡ events ++ map TcpConnectFailed (connections.peers_over over asked) → all ≡ first ++ map TcpConnectFailed (joined.peers_gone over now standing)
+      → all ≡ events ++ connection_failures over now a
+  unfolding connection_failures
+  told_joined events first all asked standing is_asked is_standing is_first is_all = rw (is_all, is_first, is_asked, is_standing) (append_assoc events five six)
+
   -- of the whole, where one of its parts isn't empty
   pub told_relays : relay_failures over now a ≢ [] → failures over now a ≢ []
   unfolding failures
-  told_relays some = λ none. some (none_left (relay_failures over now a) (map TcpConnectFailed (connections.peers_over over a.connecting)) none)
+  told_relays some = λ none. some (none_left (relay_failures over now a) (connection_failures over now a) none)
 
-  pub told_connections : connections.peers_over over a.connecting ≢ [] → failures over now a ≢ []
+  pub told_connections : connection_failures over now a ≢ [] → failures over now a ≢ []
   unfolding failures
-  told_connections some = λ none. some (none_mapped TcpConnectFailed (connections.peers_over over a.connecting)
-      (none_right (relay_failures over now a) (map TcpConnectFailed (connections.peers_over over a.connecting)) none))
+  told_connections some = λ none. some (none_right (relay_failures over now a) (connection_failures over now a) none)
 
-  -- where nothing is told of an allocation, none of its channels lapses
+  -- where nothing is told of an allocation, none of its channels lapses, and no socket is to be closed
   left_lapses : failures over now a ≡ [] → channels.peers_lapsing now (permissions.polled over now a) ≡ []
   unfolding failures
-  left_lapses none = none_lapses (none_left (relay_failures over now a) (map TcpConnectFailed (connections.peers_over over a.connecting)) none)
+  left_lapses none = none_lapses (none_left (relay_failures over now a) (connection_failures over now a) none)
+
+  left_sockets : failures over now a ≡ [] → joined.sockets_gone over now a.connections ≡ []
+  unfolding failures
+  left_sockets none = ap (map (λ (c : Connection). c.here)) (none_mapped (λ (c : Connection). c.peer) (filter (joined.has_gone over now) a.connections)
+      (none_gone (none_right (relay_failures over now a) (connection_failures over now a) none)))
 
   -- both are told one after the other
-  pub told_both : (events first all : List TurnEvent) (asked : List Connecting) → asked ≡ a.connecting
-      → first ≡ events ++ relay_failures over now a → all ≡ first ++ map TcpConnectFailed (connections.peers_over over asked)
-      → all ≡ events ++ failures over now a
+  pub told_both : (events first all : List TurnEvent) → first ≡ events ++ relay_failures over now a → all ≡ first ++ connection_failures over now a → all ≡ events ++ failures over now a
   unfolding failures
-  told_both events first all asked is_asked is_first is_all =
-      rw (is_all, is_first, is_asked) (append_assoc events (relay_failures over now a) (map TcpConnectFailed (connections.peers_over over a.connecting)))
+  told_both events first all is_first is_all = rw (is_all, is_first) (append_assoc events (relay_failures over now a) (connection_failures over now a))
+
+-- where a socket is to be closed, something is told
+pub closing_told : (over : Option ℕ) (now : ℕ) (all : List Allocation) → joined.all_gone over now all ≢ [] → all_failures over now all ≢ []
+closing_told over now all some = λ none. some (none_told (failures over now) (λ (a : Allocation). joined.sockets_gone over now a.connections) (left_sockets over now) all none)
 
 -- where a channel lapses, after the permissions were polled, something is told
 pub lapsing_told : (over : Option ℕ) (now : ℕ) (all left : List Allocation) → left ≡ map (permissions.polled over now) all → channels.all_lapsing now left ≢ [] → all_failures over now all ≢ []

@@ -1,4 +1,3 @@
-pub mod AskedConnections
 pub mod Draws
 pub mod Lapses
 pub mod Last
@@ -9,6 +8,7 @@ pub mod Quiet
 pub mod Tells
 pub mod Usual
 -- What stands above this crate has these through it.
+pub use Rattle.turn_client_proto_core.proofs as Core
 pub use Rattle.turn_client_proto_core.proofs.Channel
 pub use Rattle.turn_client_proto_core.proofs.Request
 pub use Rattle.turn_client_proto_core.proofs.Keeps

@@ -4,7 +4,6 @@ use Rattle.std.specs.List.{AllByRecursion}
 use Rattle.std.specs.Option.{option_map}
 use Rattle.std.proofs.lemmas.Bool.{cases_Bool}
 use Rattle.std.proofs.lemmas.List.{length-drop, length-take, drop-drop, drop-take}
-use Rattle.std.proofs.lemmas.Bool.Decides.{nat_tests}
 use Rattle.stun_types.specs.Attributes.{Attr, attr_at, is_whole, kind_at, length_at, numbered, size_at}
 use Rattle.stun_types.specs.Grammar.{shown}
 use Rattle.stun_types.specs.Shape.{may_follow, rank}

@@ -1,11 +1,12 @@
 -- What a poll answers.
 use Rattle.std.proofs.Common.{◌≡◌, ◌≢◌, ℕ, ◌≤◌, List, [], ◌∷◌, length, Option, Some, None, IfNone, refl, subst, arith}
+use Rattle.std.specs.declared.net.socket_addr.SocketAddr.{SocketAddr}
 use Rattle.turn_client_proto_core.specs.AgentPolls.{StunAgentPollRet}
 use Rattle.turn_client_proto_core.specs.State as agents
 use Rattle.turn_client_proto_core.specs.Api.declared.answer.TurnPollRet.{TurnPollRet}
 use Rattle.turn_client_proto_core.specs.Api.declared.answer.TurnPollRet.TheVariants as answer
 use Rattle.turn_client_proto_core.specs.Api.declared.event.TurnEvent.{TurnEvent}
-use Rattle.turn_client_proto_poll.specs.Polling.{HasToTell, HasToTellIn, IsPolled, IsPolledBy, IsPolledIn, IsTicked, ended_of, longest_pause, wait_of, wait_to_send}
+use Rattle.turn_client_proto_poll.specs.Polling.{Answers, IsClosing, HasToTell, HasToTellIn, IsPolled, IsPolledBy, IsPolledIn, IsTicked, ended_of, longest_pause, wait_of, wait_to_send}
 use Rattle.turn_client_proto_core.specs.Moments.{moment_after}
 use Rattle.turn_client_proto_core.specs.declared.protocol.Protocol.{Protocol}
 
@@ -55,3 +56,8 @@ ticked_by old now ticked agent over wait ret new polled over_is wait_is is =
 pub always_none : {X A : Type 0} (o : Option X) → A → IfNone o A
 always_none None holds = holds
 always_none (Some x) holds = tt
+
+-- where a wait is answered, no socket is to be closed
+pub not_closing : (all : List SocketAddr) (wanted : TurnPollRet) (until : ℕ) (p new : Protocol) → IsClosing all wanted p (answer.WaitUntil until) new → Answers wanted p (answer.WaitUntil until) new
+not_closing [] wanted until p new is = is
+not_closing (here ∷ rest) wanted until p new is = absurd (Prim.cc is.0)

@@ -19,11 +19,13 @@ use Rattle.turn_client_proto_core.specs.Allocation.declared.channel.Channel.{Cha
 use Rattle.turn_client_proto_core.specs.Channel.Channels as channel
 use Rattle.turn_client_proto_core.specs.Channel.Lapsing as channels
 use Rattle.turn_client_proto_core.specs.Channel.Wanting as bindings
+use Rattle.turn_client_proto_core.specs.Connection.Lapsing as joined
 use Rattle.turn_client_proto_core.specs.Connection.Told as connections
 use Rattle.turn_client_proto_core.specs.Connection.Waiting.{unasked}
 use Rattle.turn_client_proto_core.specs.Allocation.declared.connection.Waiting.{Waiting}
 use Rattle.turn_client_proto_core.specs.Permission.Telling as permissions
 use Rattle.turn_client_proto_core.specs.Permission.Wanting.{renewal_wanted, stands}
+use Rattle.turn_client_proto_poll.proofs.Polls.{not_closing}
 use Rattle.turn_client_proto_poll.specs.Telling as telling
 use Rattle.turn_client_proto_poll.specs.Wanting.{channel_wanted, permission_wanted, want, wanted, wants}
 use Rattle.turn_client_proto_poll.specs.declared.wanting.Want.{Want}
@@ -180,7 +182,7 @@ module _ (next ready now moment : ℕ) (begins : ready ≤ moment) (before : mom
   nothing_wanted : (a : Allocation) → wants_refresh moment a ≡ false
       → find (channel.wants_renewal moment) (map (channel.polled_channel None) (channels.without a.channels (channels.last_place (channel.has_lapsed now) a.channels))) ≡ None
       → find (wants_renewal moment) (polled_permissions None now a.permissions) ≡ None → want moment (telling.polled None now a) ≡ None
-  unfolding want renewal_wanted bindings.renewal_wanted wants_refresh permissions.polled channels.polled channels.lapsed connections.given_up renewal
+  unfolding want renewal_wanted bindings.renewal_wanted wants_refresh permissions.polled channels.polled channels.lapsed connections.given_up joined.polled renewal
   nothing_wanted a not_it no_channel no_permission =
       ap (λ (b : Bool). if b then Some Refresh else option_or (channel_wanted moment (telling.polled None now a)) (permission_wanted moment (telling.polled None now a))) not_it
       ∙ ap (λ (o : Option Channel). option_or (option_map (λ (c : ℕ × SocketAddr). Binding c.0 c.1) (if stands moment a then option_map (λ (c : Channel). (c.number, c.peer)) o else None)) (permission_wanted moment (telling.polled None now a))) no_channel
@@ -255,7 +257,8 @@ module _ (quiet : AgentsWait) (old new after : Protocol) (now until moment : ℕ
   over_now Initial number wait p is = not_now is.0
   over_now (InitialSent numbers) number wait p is = over_sent numbers number wait p is
   over_now (Authenticating numbers) number wait p is = over_sent numbers number wait p is
-  over_now Authenticated number wait p is = of_walk (unasked p.allocations) p is (λ (walked : IsWalked (Some number) wait p now (answer.WaitUntil until) new). over_standing (left (Some number) now p) number walked.earliest walked.outcome.0)
+  over_now Authenticated number wait p is = of_walk (unasked p.allocations) p is (λ (walked : IsWalked (Some number) wait p now (answer.WaitUntil until) new). over_standing (left (Some number) now p) number walked.first
+      (not_closing (p.closing ++ joined.all_gone (Some number) now (left (Some number) now p)) (answer_of (left (Some number) now p) (Some number) now walked.first) until (after_time (Some number) now p) new walked.outcome).0)
   over_now Ended number wait p is = absurd (Prim.cc is.0)
 
   no_longer : (all : List Allocation) (next : ℕ) → answer.WaitUntil until ≡ answer_of all None now next → until ≤ next
@@ -290,17 +293,19 @@ module _ (quiet : AgentsWait) (old new after : Protocol) (now until moment : ℕ
     standing_still is polling =
         let all : List Allocation = kept None now old.allocations in
         let p : Protocol = after_time None now ticked in
-        let most = no_longer (left None now ticked) polling.earliest polling.outcome.0 in
+        let outcome = not_closing (ticked.closing ++ joined.all_gone None now (left None now ticked)) (answer_of (left None now ticked) None now polling.first) until p new polling.outcome in
+        let most = no_longer (left None now ticked) polling.first outcome.0 in
+        let least_of_connections = polling.least_of_connections.within in
         let least = polling.least.within in
         let least_of_permissions = polling.least_of_permissions.within in
         let least_of_channels = polling.least_of_channels.within in
-        let within : until ≤ min pause wait = omega (arith, most, least, least_of_permissions, least_of_channels) in
-        let before_channels : moment < polling.earliest = omega (arith, before, most) in
+        let within : until ≤ min pause wait = omega (arith, most, least, least_of_permissions, least_of_channels, least_of_connections) in
+        let before_channels : moment < polling.earliest = omega (arith, before, most, least_of_connections) in
         let before_permissions : moment < polling.sooner = omega (arith, before_channels, least_of_channels) in
         let before_next : moment < polling.next = omega (arith, before_permissions, least_of_permissions) in
-        let later_channels : now < polling.earliest = omega (arith, later, most) in
+        let later_channels : now < polling.earliest = omega (arith, later, most, least_of_connections) in
         let later_permissions : now < polling.sooner = omega (arith, later_channels, least_of_channels) in
-        same_client p polling.outcome.1 (by_draw p after moment sent (agent_quiet within) (λ free going.
+        same_client p outcome.1 (by_draw p after moment sent (agent_quiet within) (λ free going.
         let none = none_due polling.next (ready_after old.last_send now) now moment (ready_by old.last_send now moment from free) before_next polling.sooner polling.earliest
         before_permissions later_permissions before_channels later_channels all polling.least.below polling.least_of_permissions.below polling.least_of_channels.below in
         let begun : IsRenewed (wanted moment p.allocations) p moment sent after = begun_by p after moment sent Authenticated is (empty_queue within free) going in

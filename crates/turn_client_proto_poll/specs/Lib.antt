@@ -1,4 +1,3 @@
-pub mod Connecting
 pub mod Drawing
 pub mod OfPeers
 pub mod Payloads

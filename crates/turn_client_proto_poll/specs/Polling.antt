@@ -1,6 +1,7 @@
 -- What a client does as time goes on (RFC 8489, section 6.2.1; RFC 8656, section 8).
 use Rattle.std.specs.Prelude.{◌≡◌, ◌≢◌, ℕ, min, max, true, List, [], ◌∷◌, ◌++◌, map, Option, Some, None, MatchOption}
 use Rattle.std.specs.Bool.{MatchBool}
+use Rattle.std.specs.declared.net.socket_addr.SocketAddr.{SocketAddr}
 use Rattle.turn_client_proto_core.specs.AgentPolls.{StunAgentPollRet, TransactionTimedOut, TransactionCancelled, WaitUntil}
 use Rattle.turn_client_proto_core.specs.Least.{IsLeastOf}
 use Rattle.turn_client_proto_core.specs.Moments.{moment_after}
@@ -13,6 +14,7 @@ use Rattle.turn_client_proto_core.specs.Api.declared.answer.TurnPollRet.{TurnPol
 use Rattle.turn_client_proto_core.specs.Api.declared.answer.TurnPollRet.TheVariants as answer
 use Rattle.turn_client_proto_core.specs.Api.declared.event.TurnEvent.{TurnEvent}
 use Rattle.turn_client_proto_core.specs.Channel.Lapsing as channels
+use Rattle.turn_client_proto_core.specs.Connection.Lapsing as joined
 use Rattle.turn_client_proto_core.specs.Connection.Waiting.{all_asked, unasked}
 use Rattle.turn_client_proto_core.specs.Permission.Telling as permissions
 use Rattle.turn_client_proto_core.specs.Ending.{HasFailed, ended}
@@ -93,15 +95,22 @@ unfoldable pub after_asking : Protocol → Protocol
 after_asking p = record p { allocations = all_asked p.allocations }
 
 -- a client with the allocations that are left, and with their permissions, channels and connections that are, after those
--- that are gone were told
+-- that are gone were told; the sockets of connections that are gone are to be closed behind those that were
 unfoldable pub after_time : Option ℕ → ℕ → Protocol → Protocol
 after_time over now p = record p {
   allocations = map (telling.polled over now) (left over now p);
   events = p.events ++ telling.all_failures over now (left over now p);
+  closing = p.closing ++ joined.all_gone over now (left over now p);
 }
 
+-- a client of which these sockets are to be closed has this answer; but where there is one, the caller is to close the
+-- first, and it is told no more (RFC 6062, section 4.6)
+abbrev pub IsClosing : List SocketAddr → TurnPollRet → Protocol → TurnPollRet → Protocol → Type 0
+IsClosing [] wanted p ret new = Answers wanted p ret new
+IsClosing (here ∷ rest) wanted p ret new = Answers (answer.TcpClose here p.server) (record p { closing = rest }) ret new
+
 -- the earliest moment at which an allocation that is left, or the client, has something to do; then that at which a
--- permission has, too; and then that at which a channel has, too
+-- permission has, too; then that at which a channel has, too; and then that until which a connection may be bound, too
 pub record IsWalked (over : Option ℕ) (wait : ℕ) (p : Protocol) (now : ℕ) (ret : TurnPollRet) (new : Protocol)
     : Type 0 where
   pub next : ℕ
@@ -112,7 +121,10 @@ pub record IsWalked (over : Option ℕ) (wait : ℕ) (p : Protocol) (now : ℕ) 
   pub earliest : ℕ
   pub least_of_channels : IsLeastOf sooner
       (channels.all_nexts over (ready_after p.last_send now) now (left over now p)) earliest
-  pub outcome : Answers (answer_of (left over now p) over now earliest) (after_time over now p) ret new
+  pub first : ℕ
+  pub least_of_connections : IsLeastOf earliest (joined.all_nexts (left over now p)) first
+  pub outcome : IsClosing (p.closing ++ joined.all_gone over now (left over now p))
+      (answer_of (left over now p) over now first) (after_time over now p) ret new
 
 -- a socket that was not asked for comes before all else
 abbrev pub IsPolledStanding : Option ℕ → ℕ → Protocol → ℕ → TurnPollRet → Protocol → Type 0

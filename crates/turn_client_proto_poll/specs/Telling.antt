@@ -6,6 +6,7 @@ use Rattle.turn_client_proto_core.specs.Allocation.declared.allocation.Allocatio
 use Rattle.turn_client_proto_core.specs.Api.declared.event.TurnEvent.{TurnEvent}
 use Rattle.turn_client_proto_core.specs.Api.declared.event.TurnEvent.TheVariants.{ChannelCreateFailed, PermissionCreateFailed, TcpConnectFailed}
 use Rattle.turn_client_proto_core.specs.Channel.Lapsing as channels
+use Rattle.turn_client_proto_core.specs.Connection.Lapsing as joined
 use Rattle.turn_client_proto_core.specs.Connection.Told as connections
 use Rattle.turn_client_proto_core.specs.Permission.Telling as permissions
 
@@ -18,14 +19,19 @@ relay_failures over now a =
     ++ (map (PermissionCreateFailed a.transport) (permissions.addresses_lapsed now a.permissions)
     ++ map (ChannelCreateFailed a.transport) (channels.peers_lapsing now a)))
 
--- what is told of an allocation: of these, and then the connections whose request ended
+-- what is told of its connections: those that were asked for and whose request ended, and then those that were not bound
+-- in time
+unfoldable pub connection_failures : Option ℕ → ℕ → Allocation → List TurnEvent
+connection_failures over now a = map TcpConnectFailed (connections.peers_over over a.connecting)
+    ++ map TcpConnectFailed (joined.peers_gone over now a.connections)
+
+-- what is told of an allocation
 unfoldable pub failures : Option ℕ → ℕ → Allocation → List TurnEvent
-failures over now a = relay_failures over now a ++ map TcpConnectFailed (connections.peers_over over a.connecting)
+failures over now a = relay_failures over now a ++ connection_failures over now a
 
 abbrev pub all_failures : Option ℕ → ℕ → List Allocation → List TurnEvent
 all_failures over now allocations = flat_map (failures over now) allocations
 
--- an allocation with the permissions and the channels that are left, and with those and the connections whose request may
--- still be answered
+-- an allocation with the permissions, the channels and the connections that are left
 abbrev pub polled : Option ℕ → ℕ → Allocation → Allocation
-polled over now a = connections.given_up over (channels.polled over now (permissions.polled over now a))
+polled over now a = joined.polled over now (channels.polled over now (permissions.polled over now a))

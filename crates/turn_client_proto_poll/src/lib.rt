@@ -10,7 +10,6 @@
 //! [`laws`] has what these promise each other and a layer above.
 #![tactic(auto, using(crate::proofs::Usual::usual), unfolding(crate::proofs::Usual::opened))]
 
-pub mod connecting;
 pub mod deleting;
 pub mod drawing;
 pub mod indication;
@@ -23,4 +22,6 @@ pub mod telling;
 pub mod wanting;
 
 // What stands above this crate has these through it.
-pub use turn_client_proto_core::{allocation, api, channel, connection, permission, protocol};
+pub use turn_client_proto_core::{
+    Instant, allocation, api, channel, connection, permission, protocol, request,
+};

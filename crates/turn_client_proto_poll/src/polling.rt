@@ -4,7 +4,7 @@ ghost use Rattle.std.specs.Prelude.{◌≡◌, ◌≢◌, [], IfNone, IfOk, IfSo
 ghost use Rattle.turn_client_proto_core.specs.Connection.Waiting.{unasked};
 ghost use Rattle.turn_client_proto_core.specs.Moments.{moment_after};
 ghost use Rattle.turn_client_proto_core.specs.Ending.{IsUnderWay};
-ghost use Rattle.turn_client_proto_poll.specs.Polling.{HasToTell, HasToTellIn, IsPolled};
+ghost use Rattle.turn_client_proto_poll.specs.Polling.{HasToTell, HasToTellIn, IsClosing, IsPolled};
 ghost use Rattle.turn_client_proto_poll.specs.Polling.{IsPolledBy, IsPolledIn, IsPolledSent};
 ghost use Rattle.turn_client_proto_poll.specs.Polling.{IsPolledStanding, IsTicked, IsWalked};
 ghost use Rattle.turn_client_proto_poll.specs.Polling.{after_asking, answer_of, socket_for};
@@ -23,6 +23,7 @@ use turn_client_proto_core::allocation::allocation::Allocation;
 use turn_client_proto_core::allocation::numbers::is_among;
 use turn_client_proto_core::api::answer::{Socket5Tuple, TurnPollRet};
 use turn_client_proto_core::channel::lapse;
+use turn_client_proto_core::connection::lapse as joined;
 use turn_client_proto_core::connection::waiting::ask_first;
 use turn_client_proto_core::permission::telling as permissions;
 use turn_client_proto_core::protocol::{Phase, Protocol};
@@ -100,14 +101,17 @@ fn answer_of(
 /// moment: `poll_event` gives it. Else a request that has ended without a response is given up. Where
 /// then a connection waits for a socket that was not asked for, the answer is to open it, and nothing
 /// else is done; what the request that ended had asked for stays as it is. Else allocations,
-/// permissions and channels whose time is over go; of the channels of one allocation, one at each
-/// call. The answer is `Closed` where the client has ended or has no allocation left, and else the
-/// moment until which nothing is to be done, at most 9999 seconds from now; it is now where a request
-/// has ended.
+/// permissions and channels whose time is over go, and connections that were not bound in time; of the
+/// channels of one allocation, one at each call. The answer is `TcpClose` where then a socket is to be
+/// closed that the caller was not told of: the first, and each once. Else it is `Closed` where the client
+/// has ended or has no allocation left, and else the moment until which nothing is to be done, at most
+/// 9999 seconds from now; it is now where a request has ended. A client that has ended answers `Closed`
+/// alone, whatever sockets are to be closed.
 ///
 /// Memory is asked for where no event waits, no socket is asked for, and something is to be told: that
-/// an ALLOCATE ended without a response; or that a permission, a channel or a connection did; or that a
-/// permission or a channel has lapsed. Where it is refused, `NoMemory`, and the client has failed.
+/// an ALLOCATE ended without a response; or that a permission, a channel or a connection did; that a
+/// permission or a channel has lapsed; or that a connection was not bound in time. Where it is refused,
+/// `NoMemory`, and the client has failed.
 pub fn poll(protocol: &mut Protocol, now: Instant) -> TurnPollRet
     ensures { IsPolled protocol.old now result protocol.new }
 {
@@ -226,6 +230,19 @@ fn poll_standing(
     walk(protocol, ended, wait, now)
 }
 
+/// An answer; but where a socket is to be closed, to close the first.
+fn close_first(protocol: &mut Protocol, answer: TurnPollRet) -> TurnPollRet
+    ensures { IsClosing protocol.old.closing answer protocol.old result protocol.new }
+{
+    match protocol.closing.pop_front() {
+        Some(local_addr) => TurnPollRet::TcpClose {
+            local_addr,
+            remote_addr: protocol.server,
+        },
+        None => answer,
+    }
+}
+
 /// Lets time come to a moment for the allocations, their permissions, channels and connections.
 fn walk(
     protocol: &mut Protocol,
@@ -245,8 +262,10 @@ fn walk(
     let allocations = protocol.allocations.as_slice();
     let sooner = permissions::earliest(allocations, ended, ready, now, next);
     let earliest = lapse::earliest(allocations, ended, ready, now, sooner);
-    let answer = answer_of(allocations, ended, now, earliest);
+    let first = joined::earliest(allocations, earliest);
+    let answer = answer_of(allocations, ended, now, first);
     telling::tell_failures(&mut protocol.events, allocations, ended, now)?;
+    joined::close_all_gone(&mut protocol.closing, allocations, ended, now)?;
     telling::poll(protocol.allocations.as_mut_slice(), ended, now)?;
-    Ok(answer)
+    Ok(close_first(protocol, answer))
 }

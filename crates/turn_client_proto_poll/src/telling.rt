@@ -2,7 +2,7 @@
 //! RFC 6062, section 4.3), and what is told of it.
 
 ghost use Rattle.std.specs.Prelude.{◌≡◌, ◌≢◌, ◌++◌, [], OnOk, OnErr, length, map, take};
-ghost use Rattle.turn_client_proto_poll.specs.Telling.{all_failures, failures, polled, relay_failures};
+ghost use Rattle.turn_client_proto_poll.specs.Telling.{all_failures, connection_failures, failures, polled, relay_failures};
 
 use stun_types::NoMemory;
 use stun_types::message::TransactionId;
@@ -10,7 +10,7 @@ use turn_client_proto_core::Instant;
 use turn_client_proto_core::allocation::allocation::Allocation;
 use turn_client_proto_core::api::event::TurnEvent;
 use turn_client_proto_core::channel::lapse;
-use turn_client_proto_core::connection::told as connections;
+use turn_client_proto_core::connection::{lapse as joined, told as connections};
 use turn_client_proto_core::permission::queue::queue::QueueOf;
 use turn_client_proto_core::permission::telling;
 
@@ -36,6 +36,24 @@ fn tell_relays(
     Ok(())
 }
 
+/// Tells the connections of an allocation that go. Where memory is refused, `NoMemory`, and the events
+/// that were there still come first.
+#[tactic(auto, using(crate::proofs::Usual::fronts), unfolding(crate::specs::Telling::connection_failures))]
+fn tell_connections(
+    events: &mut QueueOf<TurnEvent>,
+    a: &Allocation,
+    ended: &Option<TransactionId>,
+    now: Instant,
+) -> Result<(), NoMemory>
+    ensures ok { OnOk result (events.new
+        ≡ events.old ++ connection_failures ended.now now a.now) }
+    ensures err { OnErr result (take (length events.old) events.new ≡ events.old) }
+    ensures told { OnErr result (connection_failures ended.now now a.now ≢ []) }
+{
+    connections::tell_over(events, a.connecting.as_slice(), ended)?;
+    joined::tell_gone(events, a.connections.as_slice(), ended, now)
+}
+
 /// Tells the permissions, channels and connections of an allocation that go. Where memory is refused,
 /// `NoMemory`, and the events that were there still come first.
 #[tactic(auto, using(crate::proofs::Usual::fronts), unfolding(crate::specs::Telling::failures))]
@@ -50,12 +68,12 @@ fn tell_of(
     ensures told { OnErr result (failures ended.now now a.now ≢ []) }
 {
     tell_relays(events, a, ended, now)?;
-    connections::tell_over(events, a.connecting.as_slice(), ended)
+    tell_connections(events, a, ended, now)
 }
 
 /// Tells what goes, of each allocation: the permissions and then the channels whose request ended
-/// without a response; then the permissions that have lapsed, and the channel that lapses; and then
-/// the connections whose request ended without a response. Where
+/// without a response; then the permissions that have lapsed, and the channel that lapses; then the
+/// connections whose request ended without a response; and then those that were not bound in time. Where
 /// memory is refused, `NoMemory`, and the events that were there still come first. It is refused
 /// only where there is something to tell.
 #[tactic(auto, using(crate::proofs::Usual::fronts))]
@@ -77,10 +95,11 @@ pub fn tell_failures(
 }
 
 /// Time has come to a moment, and the transaction of this number has ended. Permissions that have
-/// lapsed go, and so do permissions, channels and connections whose request has ended; those that it
-/// was to renew may be renewed again. In each allocation, of the channels whose time is over the last one
-/// lapses, and those that have lapsed go where their protection is over. Where memory is refused,
-/// `NoMemory`. It is refused only where there is something to tell.
+/// lapsed go, and so do permissions, channels and connections whose request has ended, and connections
+/// that were not bound in time; those that it was to renew may be renewed again. In each
+/// allocation, of the channels whose time is over the last one lapses, and those that have lapsed
+/// go where their protection is over. Where memory is refused, `NoMemory`. It is refused only where
+/// there is something to tell.
 pub fn poll(
     allocations: &mut [Allocation],
     ended: &Option<TransactionId>,
@@ -91,6 +110,6 @@ pub fn poll(
 {
     telling::poll(allocations, ended, now);
     lapse::poll(allocations, ended, now)?;
-    connections::give_up(allocations, ended);
+    joined::poll(allocations, ended, now);
     Ok(())
 }

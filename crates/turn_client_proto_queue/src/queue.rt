@@ -1,4 +1,4 @@
-//! What comes in first goes out first.
+//! What comes in first goes out first; but what is put before all others goes out before them.
 
 ghost use Rattle.std.specs.Prelude.{◌≡◌, ◌<◌, [], ◌∷◌, ◌++◌, List, Some, IfNone, OnOk, OnErr, length, option_to_list, slice_get, take};
 ghost use Rattle.std.specs.Option.{option_copied};
@@ -78,6 +78,15 @@ impl<T: Drop> QueueOf<T> {
         ensures err { OnErr result (self.new ≡ self.old) }
     {
         self.items.push_back(value)?;
+        Ok(())
+    }
+
+    /// Adds an element before all others. Where memory is refused, the queue stays as it was.
+    pub fn push_front(&mut self, value: T) -> Result<(), NoMemory>
+        ensures ok { OnOk result (self.new ≡ value ∷ self.old) }
+        ensures err { OnErr result (self.new ≡ self.old) }
+    {
+        self.items.push_front(value)?;
         Ok(())
     }
 

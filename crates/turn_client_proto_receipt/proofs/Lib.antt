@@ -35,3 +35,5 @@ pub use Rattle.turn_client_proto_steps.proofs.Sending
 pub use Rattle.turn_client_proto_steps.proofs.Showing
 pub use Rattle.turn_client_proto_steps.proofs.Shown
 pub use Rattle.turn_client_proto_steps.proofs.ShownChannels
+pub use Rattle.turn_client_proto_steps.proofs.ShownConnections
+pub use Rattle.turn_client_proto_steps.proofs.Socketing

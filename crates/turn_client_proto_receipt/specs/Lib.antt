@@ -15,7 +15,9 @@ pub use Rattle.turn_client_proto_steps.specs.Allocation
 pub use Rattle.turn_client_proto_steps.specs.Api
 pub use Rattle.turn_client_proto_steps.specs.Channel
 pub use Rattle.turn_client_proto_steps.specs.Permission
+pub use Rattle.turn_client_proto_steps.specs.Closing
 pub use Rattle.turn_client_proto_steps.specs.Connecting
+pub use Rattle.turn_client_proto_steps.specs.Connection
 pub use Rattle.turn_client_proto_steps.specs.Drawing
 pub use Rattle.turn_client_proto_steps.specs.Headline
 pub use Rattle.turn_client_proto_steps.specs.Indications
@@ -26,6 +28,7 @@ pub use Rattle.turn_client_proto_steps.specs.Payloads
 pub use Rattle.turn_client_proto_steps.specs.Polling
 pub use Rattle.turn_client_proto_steps.specs.Runs
 pub use Rattle.turn_client_proto_steps.specs.Sending
+pub use Rattle.turn_client_proto_steps.specs.Sockets
 pub use Rattle.turn_client_proto_steps.specs.Steps
 pub use Rattle.turn_client_proto_steps.specs.Words
 pub use Rattle.turn_client_proto_steps.specs.Beginning as FirstClient

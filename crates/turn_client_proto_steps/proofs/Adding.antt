@@ -6,12 +6,12 @@ use Rattle.stun_proto.specs.Numbers.{NothingNew}
 use Rattle.stun_proto.specs.Sending.{with_request}
 use Rattle.stun_proto.specs.State.{Agent}
 use Rattle.stun_proto_agent.proofs.Numbers.{sent}
-use Rattle.turn_client_proto_poll.specs.Members.{IsIn}
-use Rattle.turn_client_proto_poll.specs.Messages as run
-use Rattle.turn_client_proto_poll.specs.StunWire.{stun_wire, told_by}
-use Rattle.turn_client_proto_poll.specs.Core.Authenticating.{numbers_sent}
-use Rattle.turn_client_proto_poll.specs.Core.Waiting.{Queued}
-use Rattle.turn_client_proto_poll.specs.Core.declared.protocol.Phase.{Phase}
+use Rattle.turn_client_proto_data.specs.Members.{IsIn}
+use Rattle.turn_client_proto_data.specs.Messages as run
+use Rattle.turn_client_proto_data.specs.StunWire.{stun_wire, told_by}
+use Rattle.turn_client_proto_data.specs.Core.Authenticating.{numbers_sent}
+use Rattle.turn_client_proto_data.specs.Core.Waiting.{Queued}
+use Rattle.turn_client_proto_data.specs.Core.declared.protocol.Phase.{Phase}
 use Rattle.turn_client_proto_steps.specs.ClientWords.{Has, HasItself, HasPermission, HasChannel, HasConnection, IsAttempted, IsWaiting, IsAnswered, IsKept, IsOutstanding, IsQueued, IsPending, OfPermission, OfChannel, OfNewPermission, OfNewChannel, OfRefresh, OfConnect, OfAttempt, OfBinding, IsTaken, Outstanding, Allocating, Pending, Knows, ByWaiting, ByConnection, Waits}
 use Rattle.turn_client_proto_steps.specs.Held.{Allocation, Channel, Connecting, Connection, PendingChannel, PendingPermission, PendingRefresh, Permission, Waiting}
 use Rattle.turn_client_proto_steps.specs.RunClient.{Parts}

@@ -12,8 +12,8 @@ use Rattle.stun_proto.specs.State.{Agent}
 use Rattle.stun_proto_agent.proofs.Numbers.{sent}
 use Rattle.turn_types.specs.TurnRegistry.{allocate_method}
 use Rattle.turn_types.specs.TurnShows.{unless_refused}
-use Rattle.turn_client_proto_poll.specs.Messages as run
-use Rattle.turn_client_proto_poll.specs.StunWire.{stun_wire, told_by}
+use Rattle.turn_client_proto_data.specs.Messages as run
+use Rattle.turn_client_proto_data.specs.StunWire.{stun_wire, told_by}
 use Rattle.turn_client_proto_steps.specs.ClientWords.{IsOutstanding}
 use Rattle.turn_client_proto_steps.specs.Sound.{AreAllocates, AreMessages}
 

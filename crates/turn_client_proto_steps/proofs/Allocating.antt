@@ -21,20 +21,20 @@ use Rattle.stun_proto.specs.State.{Agent}
 use Rattle.stun_proto_agent.proofs.Numbers.{answered_without, handled_new, still_shows}
 use Rattle.stun_proto_client.proofs.Stepping.{step_of}
 use Rattle.turn_types.specs.TurnRegistry.{allocate_method}
-use Rattle.turn_client_proto_poll.specs.Members.{IsIn}
-use Rattle.turn_client_proto_poll.specs.Messages as run
-use Rattle.turn_client_proto_poll.specs.Steps.{ClientStep, IsAnswered, IsOwnKey, Told, WasKnown}
-use Rattle.turn_client_proto_poll.specs.StunWire.{AreValid, stun_wire, told_by}
-use Rattle.turn_client_proto_poll.specs.Api.declared.event.TurnEvent.TheVariants.{AllocationCreateFailed}
-use Rattle.turn_client_proto_poll.specs.Request.Judging.{IsJudged}
-use Rattle.turn_client_proto_poll.specs.Response.Granting.{are_of_one_family, families_without, first_of_each, is_wanted}
-use Rattle.turn_client_proto_poll.specs.Response.Telling.{created}
-use Rattle.turn_client_proto_poll.specs.Response.Told.{relayed_told}
-use Rattle.turn_client_proto_poll.specs.Core.Allocating.{allocated, brought, phase_by}
-use Rattle.turn_client_proto_poll.specs.Core.Authenticating.{numbers_sent}
-use Rattle.turn_client_proto_poll.specs.Core.Responding.{accepted, judged}
-use Rattle.turn_client_proto_poll.specs.Core.declared.protocol.Phase.{Phase}
-use Rattle.turn_client_proto_poll.specs.Core.declared.protocol.Protocol.{Protocol}
+use Rattle.turn_client_proto_data.specs.Members.{IsIn}
+use Rattle.turn_client_proto_data.specs.Messages as run
+use Rattle.turn_client_proto_data.specs.Steps.{ClientStep, IsAnswered, IsOwnKey, Told, WasKnown}
+use Rattle.turn_client_proto_data.specs.StunWire.{AreValid, stun_wire, told_by}
+use Rattle.turn_client_proto_data.specs.Api.declared.event.TurnEvent.TheVariants.{AllocationCreateFailed}
+use Rattle.turn_client_proto_data.specs.Request.Judging.{IsJudged}
+use Rattle.turn_client_proto_data.specs.Response.Granting.{are_of_one_family, families_without, first_of_each, is_wanted}
+use Rattle.turn_client_proto_data.specs.Response.Telling.{created}
+use Rattle.turn_client_proto_data.specs.Response.Told.{relayed_told}
+use Rattle.turn_client_proto_data.specs.Core.Allocating.{allocated, brought, phase_by}
+use Rattle.turn_client_proto_data.specs.Core.Authenticating.{numbers_sent}
+use Rattle.turn_client_proto_data.specs.Core.Responding.{accepted, judged}
+use Rattle.turn_client_proto_data.specs.Core.declared.protocol.Phase.{Phase}
+use Rattle.turn_client_proto_data.specs.Core.declared.protocol.Protocol.{Protocol}
 use Rattle.turn_client_proto_steps.specs.ClientWords.{IsTaken, Outstanding, Allocating, Pending, client_words}
 use Rattle.turn_client_proto_steps.specs.Held.{Allocation}
 use Rattle.turn_client_proto_steps.specs.RunClient.{Client, moved, parts_of}

@@ -1,5 +1,6 @@
 -- Requests that a client makes.
 use Rattle.std.proofs.Common.{◌≡◌, ◌≢◌, ℕ, ◌+◌, ◌<◌, ◌≤◌, List, [], ◌∷◌, length, Option, Some, None, Result, refl, sym, ap, ◌∙◌, subst, arith, inl, inr}
+use Rattle.std.specs.declared.net.socket_addr.SocketAddr.{SocketAddr}
 use Rattle.stun_types.specs.Grammar.{number_at, refusal}
 use Rattle.stun_types.specs.MessageClasses.{Request}
 use Rattle.stun_proto.specs.Client as signers
@@ -10,23 +11,23 @@ use Rattle.stun_proto.specs.Sending.{with_request}
 use Rattle.stun_proto_agent.proofs.Numbers.{handled_new}
 use Rattle.stun_proto_client.proofs.Stepping.{step_of}
 use Rattle.turn_types.specs.TurnRegistry.{connection_attempt_method}
-use Rattle.turn_client_proto_poll.specs.Members.{IsIn}
-use Rattle.turn_client_proto_poll.specs.Messages as run
-use Rattle.turn_client_proto_poll.specs.Steps.{AreNumbered, IsNumberAt, MayDraw}
-use Rattle.turn_client_proto_poll.specs.StunWire.{stun_wire, told_by}
-use Rattle.turn_client_proto_poll.specs.Request.Judging.{IsJudged}
-use Rattle.turn_client_proto_poll.specs.Request.Requests.{request_text}
-use Rattle.turn_client_proto_poll.specs.Request.ShortTexts.{HasShortTexts}
-use Rattle.turn_client_proto_poll.specs.Request.ToldRequests.{CanBeRead, IsLawfulRequest, told_request}
-use Rattle.turn_client_proto_poll.specs.Request.declared.request.TurnRequest.{TurnRequest}
-use Rattle.turn_client_proto_poll.specs.Request.declared.request.TurnRequest.TheVariants.{FirstAllocate}
-use Rattle.turn_client_proto_poll.proofs.Request.Reading.{message_law, number_law, told_law}
-use Rattle.turn_client_proto_poll.proofs.Request.Short.{stay_short}
-use Rattle.turn_client_proto_poll.specs.Core.Asking.{asked, queued_request}
-use Rattle.turn_client_proto_poll.specs.Drawing.{sent_at_once}
-use Rattle.turn_client_proto_poll.specs.Core.Numbering.{IsNextNumber, after_draw, after_number}
-use Rattle.turn_client_proto_poll.specs.Core.Responding.{accepted, answered, judged}
-use Rattle.turn_client_proto_poll.specs.Core.declared.protocol.Protocol.{Protocol}
+use Rattle.turn_client_proto_data.specs.Members.{IsIn}
+use Rattle.turn_client_proto_data.specs.Messages as run
+use Rattle.turn_client_proto_data.specs.Steps.{AreNumbered, IsNumberAt, MayDraw}
+use Rattle.turn_client_proto_data.specs.StunWire.{stun_wire, told_by}
+use Rattle.turn_client_proto_data.specs.Request.Judging.{IsJudged}
+use Rattle.turn_client_proto_data.specs.Request.Requests.{request_text}
+use Rattle.turn_client_proto_data.specs.Request.ShortTexts.{HasShortTexts}
+use Rattle.turn_client_proto_data.specs.Request.ToldRequests.{CanBeRead, IsLawfulRequest, told_request}
+use Rattle.turn_client_proto_data.specs.Request.declared.request.TurnRequest.{TurnRequest}
+use Rattle.turn_client_proto_data.specs.Request.declared.request.TurnRequest.TheVariants.{FirstAllocate}
+use Rattle.turn_client_proto_data.proofs.Request.Reading.{message_law, number_law, told_law}
+use Rattle.turn_client_proto_data.proofs.Request.Short.{stay_short}
+use Rattle.turn_client_proto_data.specs.Core.Asking.{asked, asked_from, queued_request}
+use Rattle.turn_client_proto_data.specs.Drawing.{sent_at_once}
+use Rattle.turn_client_proto_data.specs.Core.Numbering.{IsNextNumber, after_draw, after_number}
+use Rattle.turn_client_proto_data.specs.Core.Responding.{accepted, answered, judged}
+use Rattle.turn_client_proto_data.specs.Core.declared.protocol.Protocol.{Protocol}
 use Rattle.turn_client_proto_steps.specs.ClientWords.{client_words}
 use Rattle.turn_client_proto_steps.specs.RunClient.{Client, Parts, moved, parts_of}
 use Rattle.turn_client_proto_steps.specs.RunSteps.{IsRunStep}
@@ -169,20 +170,29 @@ module _ (c : Client) (mid : Protocol) (request : TurnRequest) (number : ℕ) (u
 
 -- ---- a request that is outstanding, and waits
 
-pub asked_adds : (mid : Protocol) (request : TurnRequest) (number now : ℕ) → Adds (told_by (request_text mid.auth request number) ∷ []) (parts_of mid) (parts_of (asked (after_number mid) request number now))
-unfolding asked
-asked_adds mid request number now =
+-- sent from any address
+pub asked_from_adds : (from : SocketAddr) (mid : Protocol) (request : TurnRequest) (number now : ℕ)
+    → Adds (told_by (request_text mid.auth request number) ∷ []) (parts_of mid) (parts_of (asked_from from (after_number mid) request number now))
+asked_from_adds from mid request number now =
     let text = request_text mid.auth request number in
     let sent : Parts = record (parts_of mid) { agent = with_request mid.agent text mid.server now } in
-    adds_both (told_by text ∷ []) (parts_of mid) sent _ (agent_more (parts_of mid) text mid.server now) (queue_more sent (queued_request mid text) refl)
+    adds_both (told_by text ∷ []) (parts_of mid) sent _ (agent_more (parts_of mid) text mid.server now) (queue_more sent (queued_request from text) refl)
+
+pub asked_adds : (mid : Protocol) (request : TurnRequest) (number now : ℕ) → Adds (told_by (request_text mid.auth request number) ∷ []) (parts_of mid) (parts_of (asked (after_number mid) request number now))
+unfolding asked
+asked_adds mid request number now = asked_from_adds mid.agent.here mid request number now
+
+pub asked_from_orderly : (from : SocketAddr) (mid : Protocol) (request : TurnRequest) (number now : ℕ) → IsMade mid request number → BeforeAllocated mid.phase (IsAllocate (parts_of mid) (request_text mid.auth request number))
+    → IsOrderly (parts_of mid) → IsOrderly (parts_of (asked_from from (after_number mid) request number now))
+asked_from_orderly from mid request number now is allocates orderly =
+    let text = request_text mid.auth request number in
+    let sent : Parts = record (parts_of mid) { agent = with_request mid.agent text mid.server now } in
+    queue_orderly sent (queued_request from text) refl (request_orderly (parts_of mid) text mid.server now is.message (free mid request number is) allocates orderly)
 
 pub asked_orderly : (mid : Protocol) (request : TurnRequest) (number now : ℕ) → IsMade mid request number → BeforeAllocated mid.phase (IsAllocate (parts_of mid) (request_text mid.auth request number)) → IsOrderly (parts_of mid)
     → IsOrderly (parts_of (asked (after_number mid) request number now))
 unfolding asked
-asked_orderly mid request number now is allocates orderly =
-    let text = request_text mid.auth request number in
-    let sent : Parts = record (parts_of mid) { agent = with_request mid.agent text mid.server now } in
-    queue_orderly sent (queued_request mid text) refl (request_orderly (parts_of mid) text mid.server now is.message (free mid request number is) allocates orderly)
+asked_orderly mid request number now is allocates orderly = asked_from_orderly mid.agent.here mid request number now is allocates orderly
 
 -- ---- a request that is outstanding, and sent at once
 

@@ -2,11 +2,11 @@
 use Rattle.std.proofs.Common.{◌≡◌, ℕ, List, Option, Some, None, refl, sym, ap, ◌∙◌}
 use Rattle.std.specs.List.{find}
 use Rattle.std.specs.Option.{option_and_then, option_map, option_or}
-use Rattle.turn_client_proto_poll.specs.Allocation.Awaited.{asks_for_channel, asks_for_permission, is_connecting, renews_channel, renews_permission}
-use Rattle.turn_client_proto_poll.specs.Allocation.Refreshing.{lifetime_asked}
-use Rattle.turn_client_proto_poll.specs.Channel.Awaited.{asked_by, asked_of, awaits_reply}
-use Rattle.turn_client_proto_poll.specs.Channel.declared.awaited.Asked.{Asked}
-use Rattle.turn_client_proto_poll.specs.Channel.declared.awaited.Asked.TheVariants.{ChannelRenewal, Lifetime, NewChannel, NewConnection, NewPermission, Renewal}
+use Rattle.turn_client_proto_data.specs.Allocation.Awaited.{asks_for_channel, asks_for_permission, is_connecting, renews_channel, renews_permission}
+use Rattle.turn_client_proto_data.specs.Allocation.Refreshing.{lifetime_asked}
+use Rattle.turn_client_proto_data.specs.Channel.Awaited.{asked_by, asked_of, awaits_reply}
+use Rattle.turn_client_proto_data.specs.Channel.declared.awaited.Asked.{Asked}
+use Rattle.turn_client_proto_data.specs.Channel.declared.awaited.Asked.TheVariants.{ChannelRenewal, Lifetime, NewChannel, NewConnection, NewPermission, Renewal}
 use Rattle.turn_client_proto_steps.specs.Held.{Allocation, Channel, Connecting, PendingChannel, PendingPermission, Permission}
 use Rattle.turn_client_proto_steps.proofs.Lists.{inside}
 

@@ -14,24 +14,24 @@ use Rattle.stun_proto.specs.Agents.{Transaction}
 use Rattle.stun_proto.specs.Client as signers
 use Rattle.stun_proto.specs.State.{Agent}
 use Rattle.stun_proto_agent.proofs.Numbers.{fresh_shows}
-use Rattle.turn_client_proto_poll.specs.Members.{IsIn}
-use Rattle.turn_client_proto_poll.specs.Runs as runs
-use Rattle.turn_client_proto_poll.specs.Words.{DeskWords}
-use Rattle.turn_client_proto_poll.specs.Api.Config.{Config}
-use Rattle.turn_client_proto_poll.specs.Request.Judging.{signer_of}
-use Rattle.turn_client_proto_poll.specs.Request.ShortTexts.{HasShortTexts}
-use Rattle.turn_client_proto_poll.proofs.Request.Short.{fresh_short}
-use Rattle.turn_client_proto_poll.specs.Core.Authenticating.{numbers_sent}
-use Rattle.turn_client_proto_poll.specs.Core.Beginning.{IsNew}
-use Rattle.turn_client_proto_poll.specs.Core.Waiting.{Queued}
-use Rattle.turn_client_proto_poll.specs.Core.declared.protocol.Phase.{Phase}
-use Rattle.turn_client_proto_poll.specs.Core.declared.protocol.Protocol.{Protocol}
+use Rattle.turn_client_proto_data.specs.Members.{IsIn}
+use Rattle.turn_client_proto_data.specs.Runs as runs
+use Rattle.turn_client_proto_data.specs.Words.{DeskWords}
+use Rattle.turn_client_proto_data.specs.Api.Config.{Config}
+use Rattle.turn_client_proto_data.specs.Request.Judging.{signer_of}
+use Rattle.turn_client_proto_data.specs.Request.ShortTexts.{HasShortTexts}
+use Rattle.turn_client_proto_data.proofs.Request.Short.{fresh_short}
+use Rattle.turn_client_proto_data.specs.Core.Authenticating.{numbers_sent}
+use Rattle.turn_client_proto_data.specs.Core.Beginning.{IsNew}
+use Rattle.turn_client_proto_data.specs.Core.Waiting.{Queued}
+use Rattle.turn_client_proto_data.specs.Core.declared.protocol.Phase.{Phase}
+use Rattle.turn_client_proto_data.specs.Core.declared.protocol.Protocol.{Protocol}
 use Rattle.turn_client_proto_steps.specs.Beginning.{first_client}
 use Rattle.turn_client_proto_steps.specs.ClientWords.{IsAttempted, IsWaiting, IsAnswered, IsTaken, Outstanding, Allocating, Pending, run_words}
 use Rattle.turn_client_proto_steps.specs.Held.{Allocation}
 use Rattle.turn_client_proto_steps.specs.RunClient.{parts_of}
 use Rattle.turn_client_proto_steps.specs.Sound.{IsOrderly, IsSound, stream_from}
-use Rattle.turn_client_proto_poll.specs.Channel.Numbers.{AreDistinct}
+use Rattle.turn_client_proto_data.specs.Channel.Numbers.{AreDistinct}
 use Rattle.turn_client_proto_steps.proofs.Lessening.{none_distinct}
 use Rattle.turn_client_proto_steps.proofs.Orderly.{before_all, until_all}
 use Rattle.turn_client_proto_steps.proofs.Plain.{notices}

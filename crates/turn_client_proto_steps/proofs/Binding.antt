@@ -5,20 +5,20 @@ use Rattle.std.specs.Option.{option_map}
 use Rattle.std.specs.Prelude.{option_to_list}
 use Rattle.std.specs.declared.net.socket_addr.SocketAddr.{SocketAddr}
 use Rattle.stun_types.specs.declared.transport.TransportType.{TransportType}
-use Rattle.turn_client_proto_poll.specs.Messages as run
-use Rattle.turn_client_proto_poll.specs.Names.{socket_ip}
-use Rattle.turn_client_proto_poll.specs.Allocation.Awaited.{asks_for_channel, asks_for_permission, renews_channel, renews_permission}
-use Rattle.turn_client_proto_poll.specs.Allocation.Permissions as permissions
-use Rattle.turn_client_proto_poll.specs.Channel.Awaited.{asked_too, permission_too}
-use Rattle.turn_client_proto_poll.specs.Channel.Binding.{asking}
-use Rattle.turn_client_proto_poll.specs.Channel.Channels.{asked_again, has_lapsed, is_over, lapsed_of, not_asked_by, not_forgotten, not_over, not_renewed_by, polled_channel, renewed_again, renewed_channel, renewed_first, wants_renewal}
-use Rattle.turn_client_proto_poll.specs.Channel.Granted.{bound, channel_end, granted_to, let_lapse, renewed, turned_down}
-use Rattle.turn_client_proto_poll.specs.Channel.Lapsing.{lapsed, lapsing, last_place, polled, without}
-use Rattle.turn_client_proto_poll.specs.Channel.Wanting.{renewing}
-use Rattle.turn_client_proto_poll.specs.Channel.declared.awaited.Asked.TheVariants.{ChannelRenewal, NewChannel}
-use Rattle.turn_client_proto_poll.specs.Core.Binding.{asking_channel, permission_beside}
-use Rattle.turn_client_proto_poll.specs.Permission.Asking.{knows}
-use Rattle.turn_client_proto_poll.specs.Request.declared.request.TurnRequest.TheVariants.{ChannelBind}
+use Rattle.turn_client_proto_data.specs.Messages as run
+use Rattle.turn_client_proto_data.specs.Names.{socket_ip}
+use Rattle.turn_client_proto_data.specs.Allocation.Awaited.{asks_for_channel, asks_for_permission, renews_channel, renews_permission}
+use Rattle.turn_client_proto_data.specs.Allocation.Permissions as permissions
+use Rattle.turn_client_proto_data.specs.Channel.Awaited.{asked_too, permission_too}
+use Rattle.turn_client_proto_data.specs.Channel.Binding.{asking}
+use Rattle.turn_client_proto_data.specs.Channel.Channels.{asked_again, has_lapsed, is_over, lapsed_of, not_asked_by, not_forgotten, not_over, not_renewed_by, polled_channel, renewed_again, renewed_channel, renewed_first, wants_renewal}
+use Rattle.turn_client_proto_data.specs.Channel.Granted.{bound, channel_end, granted_to, let_lapse, renewed, turned_down}
+use Rattle.turn_client_proto_data.specs.Channel.Lapsing.{lapsed, lapsing, last_place, polled, without}
+use Rattle.turn_client_proto_data.specs.Channel.Wanting.{renewing}
+use Rattle.turn_client_proto_data.specs.Channel.declared.awaited.Asked.TheVariants.{ChannelRenewal, NewChannel}
+use Rattle.turn_client_proto_data.specs.Core.Binding.{asking_channel, permission_beside}
+use Rattle.turn_client_proto_data.specs.Permission.Asking.{knows}
+use Rattle.turn_client_proto_data.specs.Request.declared.request.TurnRequest.TheVariants.{ChannelBind}
 use Rattle.turn_client_proto_steps.specs.Held.{Allocation, Channel, LapsedChannel, PendingChannel, PendingPermission}
 use Rattle.turn_client_proto_steps.proofs.Chaining.{both_permitting, lapsed_permitting}
 use Rattle.turn_client_proto_steps.proofs.Channels.{all_polled, all_renewed, fewer, fewer_wanted, once_more as channel_once_more, one_awaiting as channel_awaiting, one_more as one_channel_more}

@@ -3,8 +3,8 @@ use Rattle.std.proofs.Common.{◌≡◌, ◌⊎◌, ℕ, List, sym, ◌∙◌, s
 use Rattle.std.specs.declared.net.ip_addr.IpAddr.{IpAddr}
 use Rattle.std.specs.declared.net.socket_addr.SocketAddr.{SocketAddr}
 use Rattle.stun_types.specs.declared.transport.TransportType.{TransportType}
-use Rattle.turn_client_proto_poll.specs.Members.{IsIn}
-use Rattle.turn_client_proto_poll.specs.Messages as run
+use Rattle.turn_client_proto_data.specs.Members.{IsIn}
+use Rattle.turn_client_proto_data.specs.Messages as run
 use Rattle.turn_client_proto_steps.specs.Held.{Allocation, Channel, LapsedChannel, PendingChannel, PendingPermission, Permission}
 use Rattle.turn_client_proto_steps.proofs.Permitting.{ArePermitting, Asking, Gaining, IsNow, IsPermitting, Stood, StoodBound, WasAsking, WasBinding, WasRenewing, WasWanted, WasWanting}
 

@@ -2,12 +2,12 @@
 use Rattle.std.proofs.Common.{◌≡◌, ℕ, zero, suc, Bool, true, false, List, [], ◌∷◌, ◌++◌, Option, Some, None, if◌then◌else◌, map, refl, sym, subst, inl, inr}
 use Rattle.std.specs.List.{filter, find, remove}
 use Rattle.std.specs.declared.net.socket_addr.SocketAddr.{SocketAddr}
-use Rattle.turn_client_proto_poll.specs.Members.{IsIn}
-use Rattle.turn_client_proto_poll.specs.Messages as run
-use Rattle.turn_client_proto_poll.specs.Allocation.Awaited.{asks_for_channel, is_among, renews_channel}
-use Rattle.turn_client_proto_poll.specs.Allocation.Changes.{change_first}
-use Rattle.turn_client_proto_poll.specs.Channel.Channels.{asked_again, awaiting, polled_channel, renewed_channel, with_number}
-use Rattle.turn_client_proto_poll.specs.Channel.Lapsing.{without}
+use Rattle.turn_client_proto_data.specs.Members.{IsIn}
+use Rattle.turn_client_proto_data.specs.Messages as run
+use Rattle.turn_client_proto_data.specs.Allocation.Awaited.{asks_for_channel, is_among, renews_channel}
+use Rattle.turn_client_proto_data.specs.Allocation.Changes.{change_first}
+use Rattle.turn_client_proto_data.specs.Channel.Channels.{asked_again, awaiting, polled_channel, renewed_channel, with_number}
+use Rattle.turn_client_proto_data.specs.Channel.Lapsing.{without}
 use Rattle.turn_client_proto_steps.specs.Held.{Channel, PendingChannel}
 use Rattle.turn_client_proto_steps.proofs.Lists.{found_in, in_either, in_filter, in_first, in_map}
 use Rattle.turn_client_proto_steps.proofs.Permitting.{AreBoundKin, AreWanted, Asking, IsBoundKin, IsWanted, bound_itself, wanted_itself}

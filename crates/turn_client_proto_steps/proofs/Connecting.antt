@@ -15,40 +15,40 @@ use Rattle.stun_types.specs.ValueReading.{value_refusal}
 use Rattle.stun_types.specs.declared.transport.TransportType.TheVariants.{Tcp}
 use Rattle.stun_proto.specs.Agents.{Transaction}
 use Rattle.stun_proto.specs.Client as signers
-use Rattle.stun_proto.specs.Handling.{after_message, ends_one}
+use Rattle.stun_proto.specs.Handling.{after_message}
 use Rattle.stun_proto.specs.Sending.{with_request}
 use Rattle.stun_proto.specs.State.{Agent}
 use Rattle.stun_proto_agent.proofs.Numbers.{handled_new, sent}
 use Rattle.turn_types.specs.TurnRegistry.{connection_id_kind}
 use Rattle.turn_types.specs.TurnShows.{number_in, number_shown, unless_refused}
-use Rattle.turn_client_proto_poll.specs.Members.{IsIn}
-use Rattle.turn_client_proto_poll.specs.Messages as run
-use Rattle.turn_client_proto_poll.specs.Steps.{ClientStep, IsAnswered}
-use Rattle.turn_client_proto_poll.specs.StunWire.{told_by}
-use Rattle.turn_client_proto_poll.specs.Allocation.Awaited.{is_connecting}
-use Rattle.turn_client_proto_poll.specs.Api.declared.error.TcpConnectError.{TcpConnectError}
-use Rattle.turn_client_proto_poll.specs.Api.declared.error.TcpConnectError.TheVariants.{NoAllocation, NoMemory}
-use Rattle.turn_client_proto_poll.specs.Api.declared.event.TurnEvent.TheVariants.{TcpConnectFailed}
-use Rattle.turn_client_proto_poll.specs.Channel.Awaited.{asked_by, awaits_reply}
-use Rattle.turn_client_proto_poll.specs.Channel.Numbers.{AreDistinct}
-use Rattle.turn_client_proto_poll.specs.Channel.declared.awaited.Asked.{Asked}
-use Rattle.turn_client_proto_poll.specs.Channel.declared.awaited.Asked.TheVariants.{ChannelRenewal, Lifetime, NewChannel, NewConnection, NewPermission, Renewal}
-use Rattle.turn_client_proto_poll.specs.Connecting.{IsConnectAnswered, IsConnectionAsked, after_connecting, allocation_towards, changed_towards, connect_refusal, connect_refusal_in, connect_refused_in}
-use Rattle.turn_client_proto_poll.specs.Connection.Asking.{barring, connecting}
-use Rattle.turn_client_proto_poll.specs.Connection.Told as connections
-use Rattle.turn_client_proto_poll.specs.Permission.Asking.{is_of, is_past, marked}
-use Rattle.turn_client_proto_poll.specs.Request.Requests.{request_text}
-use Rattle.turn_client_proto_poll.specs.Request.declared.request.TurnRequest.TheVariants.{Connect}
-use Rattle.turn_client_proto_poll.proofs.Request.Peers.{peer_read}
-use Rattle.turn_client_proto_poll.specs.Response.Told.{connection_in, connection_told}
-use Rattle.turn_client_proto_poll.specs.Core.Asking.{asked}
-use Rattle.turn_client_proto_poll.specs.Core.Deleting.{is_authenticated}
-use Rattle.turn_client_proto_poll.specs.Core.Numbering.{after_number}
-use Rattle.turn_client_proto_poll.specs.Core.Responding.{accepted, judged}
-use Rattle.turn_client_proto_poll.specs.Core.Standing.{IsConnectResponded, after_connect}
-use Rattle.turn_client_proto_poll.specs.Core.declared.protocol.Phase.{Phase}
-use Rattle.turn_client_proto_poll.specs.Core.declared.protocol.Phase.TheVariants.{Authenticated}
-use Rattle.turn_client_proto_poll.specs.Core.declared.protocol.Protocol.{Protocol}
+use Rattle.turn_client_proto_data.specs.Members.{IsIn}
+use Rattle.turn_client_proto_data.specs.Messages as run
+use Rattle.turn_client_proto_data.specs.Steps.{ClientStep, IsAnswered}
+use Rattle.turn_client_proto_data.specs.StunWire.{told_by}
+use Rattle.turn_client_proto_data.specs.Allocation.Awaited.{is_connecting}
+use Rattle.turn_client_proto_data.specs.Api.declared.error.TcpConnectError.{TcpConnectError}
+use Rattle.turn_client_proto_data.specs.Api.declared.error.TcpConnectError.TheVariants.{NoAllocation, NoMemory}
+use Rattle.turn_client_proto_data.specs.Api.declared.event.TurnEvent.TheVariants.{TcpConnectFailed}
+use Rattle.turn_client_proto_data.specs.Channel.Awaited.{asked_by, awaits_reply}
+use Rattle.turn_client_proto_data.specs.Channel.Numbers.{AreDistinct}
+use Rattle.turn_client_proto_data.specs.Channel.declared.awaited.Asked.{Asked}
+use Rattle.turn_client_proto_data.specs.Channel.declared.awaited.Asked.TheVariants.{ChannelRenewal, Lifetime, NewChannel, NewConnection, NewPermission, Renewal}
+use Rattle.turn_client_proto_data.specs.Connecting.{IsConnectAnswered, IsConnectionAsked, after_connecting, allocation_towards, changed_towards, connect_refusal, connect_refusal_in, connect_refused_in}
+use Rattle.turn_client_proto_data.specs.Connection.Asking.{barring, connecting}
+use Rattle.turn_client_proto_data.specs.Connection.Told as connections
+use Rattle.turn_client_proto_data.specs.Permission.Asking.{is_of, is_past, marked}
+use Rattle.turn_client_proto_data.specs.Request.Requests.{request_text}
+use Rattle.turn_client_proto_data.specs.Request.declared.request.TurnRequest.TheVariants.{Connect}
+use Rattle.turn_client_proto_data.proofs.Request.Peers.{peer_read}
+use Rattle.turn_client_proto_data.specs.Response.Told.{connection_in, connection_told}
+use Rattle.turn_client_proto_data.specs.Core.Asking.{asked}
+use Rattle.turn_client_proto_data.specs.Core.Deleting.{is_authenticated}
+use Rattle.turn_client_proto_data.specs.Core.Numbering.{after_number}
+use Rattle.turn_client_proto_data.specs.Core.Responding.{accepted, judged}
+use Rattle.turn_client_proto_data.specs.Core.Standing.{IsConnectResponded, after_connect}
+use Rattle.turn_client_proto_data.specs.Core.declared.protocol.Phase.{Phase}
+use Rattle.turn_client_proto_data.specs.Core.declared.protocol.Phase.TheVariants.{Authenticated}
+use Rattle.turn_client_proto_data.specs.Core.declared.protocol.Protocol.{Protocol}
 use Rattle.turn_client_proto_steps.specs.ClientWords.{IsTaken, Outstanding, Allocating, Pending, client_words}
 use Rattle.turn_client_proto_steps.specs.Held.{Allocation, Connecting, Waiting}
 use Rattle.turn_client_proto_steps.specs.RunClient.{Client, Parts, moved, parts_of}
@@ -58,7 +58,7 @@ use Rattle.turn_client_proto_steps.proofs.Adding.{HasNumber, adds_both}
 use Rattle.turn_client_proto_steps.proofs.Agents.{message_shown, outstanding_before}
 use Rattle.turn_client_proto_steps.proofs.Allocating.{IsOwn}
 use Rattle.turn_client_proto_steps.proofs.Asking.{IsMade, IsUnderWay, asked_adds, asked_orderly, asks, at_first, made}
-use Rattle.turn_client_proto_steps.proofs.Awaited.{IsAskedOf, IsFoundBy, OfAskedChannel, OfConnection, OfLifetime, OfNew, OfRenewal, OfRenewedChannel, found_by}
+use Rattle.turn_client_proto_steps.proofs.Awaited.{IsAskedOf, IsFoundBy, OfAskedChannel, OfConnection, OfLifetime, OfNew, OfRenewal, OfRenewedChannel}
 use Rattle.turn_client_proto_steps.proofs.Ending.{still}
 use Rattle.turn_client_proto_steps.proofs.Joined.{asks_to, connected_joining, connecting_joining, given_up_distinct, given_up_joining, learns}
 use Rattle.turn_client_proto_steps.proofs.Joining.{AreJoining, allocations_joining, attempted_joining, each_joining, first_joining, itself, joining_orderly, kept_joining, none_connects, none_learnt, taken_joining, waits_joining}

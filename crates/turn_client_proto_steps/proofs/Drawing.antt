@@ -6,32 +6,32 @@ use Rattle.stun_proto.specs.Agents.{transmitted}
 use Rattle.stun_proto.specs.Numbers.{NothingNew}
 use Rattle.stun_proto.specs.State.{Agent, is_tcp}
 use Rattle.stun_proto_agent.proofs.Numbers.{transmitted_new}
-use Rattle.turn_client_proto_poll.specs.Members.{IsIn}
-use Rattle.turn_client_proto_poll.specs.Messages as run
-use Rattle.turn_client_proto_poll.specs.Steps.{MayDraw}
-use Rattle.turn_client_proto_poll.specs.StunWire.{stun_wire, told_by}
+use Rattle.turn_client_proto_data.specs.Members.{IsIn}
+use Rattle.turn_client_proto_data.specs.Messages as run
+use Rattle.turn_client_proto_data.specs.Steps.{MayDraw}
+use Rattle.turn_client_proto_data.specs.StunWire.{stun_wire, told_by}
 use Rattle.std.specs.List.{find}
 use Rattle.std.specs.declared.net.ip_addr.IpAddr.{IpAddr}
 use Rattle.std.specs.declared.net.socket_addr.SocketAddr.{SocketAddr}
-use Rattle.turn_client_proto_poll.specs.Allocation.Refreshing.{refreshing}
-use Rattle.turn_client_proto_poll.specs.Channel.Channels.{wants_renewal}
-use Rattle.turn_client_proto_poll.specs.Channel.Numbers.{AreDistinct}
-use Rattle.turn_client_proto_poll.specs.Channel.Wanting as channels
-use Rattle.turn_client_proto_poll.specs.Permission.Wanting.{renewing}
-use Rattle.turn_client_proto_poll.specs.Wanting.{channel_renewal_first, refreshed_first, renewal_first, wanted, wants}
-use Rattle.turn_client_proto_poll.specs.declared.wanting.Want.{Want}
-use Rattle.turn_client_proto_poll.specs.declared.wanting.Want.TheVariants as want
-use Rattle.turn_client_proto_poll.proofs.Channel.Distinct.{first_stay_distinct, renewing_uses_less}
-use Rattle.turn_client_proto_poll.proofs.Request.Peers.{peer_read}
-use Rattle.turn_client_proto_poll.specs.Request.Requests.{allocation_lifetime, request_text}
-use Rattle.turn_client_proto_poll.specs.Request.declared.request.TurnRequest.{TurnRequest}
-use Rattle.turn_client_proto_poll.specs.Request.declared.request.TurnRequest.TheVariants.{ChannelBind, CreatePermission, FirstAllocate, Refresh}
-use Rattle.turn_client_proto_poll.specs.Drawing.{Again, Fresh, IsBegun, IsChannelRenewalSent, IsDrawn, IsFirstSent, IsNextSent, IsQueuedSent, IsRefreshSent, IsRenewalSent, IsRenewed, IsRepeated, IsStill, Sends, Sent, after_sending, first_allocated, first_bound, first_permitted, first_refreshed, is_resting, sent_at_once}
-use Rattle.turn_client_proto_poll.specs.Core.Numbering.{after_number}
-use Rattle.turn_client_proto_poll.specs.Core.Waiting.{Queued}
-use Rattle.turn_client_proto_poll.specs.Core.declared.protocol.Phase.{Phase}
-use Rattle.turn_client_proto_poll.specs.Core.declared.protocol.Phase.TheVariants.{Initial, InitialSent, Authenticating, Authenticated, Ended}
-use Rattle.turn_client_proto_poll.specs.Core.declared.protocol.Protocol.{Protocol}
+use Rattle.turn_client_proto_data.specs.Allocation.Refreshing.{refreshing}
+use Rattle.turn_client_proto_data.specs.Channel.Channels.{wants_renewal}
+use Rattle.turn_client_proto_data.specs.Channel.Numbers.{AreDistinct}
+use Rattle.turn_client_proto_data.specs.Channel.Wanting as channels
+use Rattle.turn_client_proto_data.specs.Permission.Wanting.{renewing}
+use Rattle.turn_client_proto_data.specs.Wanting.{channel_renewal_first, refreshed_first, renewal_first, wanted, wants}
+use Rattle.turn_client_proto_data.specs.Want.{Want}
+use Rattle.turn_client_proto_data.specs.Want.TheVariants as want
+use Rattle.turn_client_proto_data.proofs.Channel.Distinct.{first_stay_distinct, renewing_uses_less}
+use Rattle.turn_client_proto_data.proofs.Request.Peers.{peer_read}
+use Rattle.turn_client_proto_data.specs.Request.Requests.{allocation_lifetime, request_text}
+use Rattle.turn_client_proto_data.specs.Request.declared.request.TurnRequest.{TurnRequest}
+use Rattle.turn_client_proto_data.specs.Request.declared.request.TurnRequest.TheVariants.{ChannelBind, CreatePermission, FirstAllocate, Refresh}
+use Rattle.turn_client_proto_data.specs.Drawing.{Again, Fresh, IsBegun, IsChannelRenewalSent, IsDrawn, IsFirstSent, IsNextSent, IsQueuedSent, IsRefreshSent, IsRenewalSent, IsRenewed, IsRepeated, IsStill, Sends, Sent, after_sending, first_allocated, first_bound, first_permitted, first_refreshed, is_resting, sent_at_once}
+use Rattle.turn_client_proto_data.specs.Core.Numbering.{after_number}
+use Rattle.turn_client_proto_data.specs.Core.Waiting.{Queued}
+use Rattle.turn_client_proto_data.specs.Core.declared.protocol.Phase.{Phase}
+use Rattle.turn_client_proto_data.specs.Core.declared.protocol.Phase.TheVariants.{Initial, InitialSent, Authenticating, Authenticated, Ended}
+use Rattle.turn_client_proto_data.specs.Core.declared.protocol.Protocol.{Protocol}
 use Rattle.turn_client_proto_steps.specs.ClientWords.{client_words}
 use Rattle.turn_client_proto_steps.specs.RunClient.{Client, Parts, parts_of}
 use Rattle.turn_client_proto_steps.specs.RunSteps.{IsRunStep}

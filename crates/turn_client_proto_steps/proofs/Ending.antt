@@ -7,23 +7,23 @@ use Rattle.stun_types.specs.declared.family.AddressFamily.{AddressFamily}
 use Rattle.stun_proto.specs.Agents.{Transaction}
 use Rattle.stun_proto.specs.Client as signers
 use Rattle.stun_proto_agent.proofs.Numbers.{fresh_shows}
-use Rattle.turn_client_proto_poll.specs.Members.{IsIn}
-use Rattle.turn_client_proto_poll.specs.Api.declared.event.TurnEvent.{TurnEvent}
-use Rattle.turn_client_proto_poll.specs.Api.declared.event.TurnEvent.TheVariants.{AllocationCreateFailed}
-use Rattle.turn_client_proto_poll.specs.Request.ShortTexts.{HasShortTexts}
-use Rattle.turn_client_proto_poll.specs.Core.Authenticating.{numbers_sent}
-use Rattle.turn_client_proto_poll.specs.Core.Ending.{HasFailed, ended}
-use Rattle.turn_client_proto_poll.specs.Core.Waiting.{Queued}
-use Rattle.turn_client_proto_poll.specs.Core.declared.protocol.Phase.{Phase}
-use Rattle.turn_client_proto_poll.specs.Core.declared.protocol.Phase.TheVariants.{Ended}
-use Rattle.turn_client_proto_poll.specs.Core.declared.protocol.Protocol.{Protocol}
+use Rattle.turn_client_proto_data.specs.Members.{IsIn}
+use Rattle.turn_client_proto_data.specs.Api.declared.event.TurnEvent.{TurnEvent}
+use Rattle.turn_client_proto_data.specs.Api.declared.event.TurnEvent.TheVariants.{AllocationCreateFailed}
+use Rattle.turn_client_proto_data.specs.Request.ShortTexts.{HasShortTexts}
+use Rattle.turn_client_proto_data.specs.Core.Authenticating.{numbers_sent}
+use Rattle.turn_client_proto_data.specs.Core.Ending.{HasFailed, ended}
+use Rattle.turn_client_proto_data.specs.Core.Waiting.{Queued}
+use Rattle.turn_client_proto_data.specs.Core.declared.protocol.Phase.{Phase}
+use Rattle.turn_client_proto_data.specs.Core.declared.protocol.Phase.TheVariants.{Ended}
+use Rattle.turn_client_proto_data.specs.Core.declared.protocol.Protocol.{Protocol}
 use Rattle.turn_client_proto_steps.specs.ClientWords.{IsAttempted, IsWaiting, IsAnswered, IsTaken, Outstanding, Allocating, Pending}
 use Rattle.turn_client_proto_steps.specs.Held.{Allocation}
 use Rattle.turn_client_proto_steps.specs.RunClient.{Client, moved, parts_of}
 use Rattle.turn_client_proto_steps.specs.RunSteps.{IsRunStep}
 use Rattle.turn_client_proto_steps.specs.Sound.{AreAllocates, BeforeAllocated, CanAsk, IsOrderly, IsSound, UntilEnded, stream_from}
 use Rattle.turn_client_proto_steps.proofs.Adding.{Adds, adds_both, adds_none, phase_moved}
-use Rattle.turn_client_proto_poll.specs.Channel.Numbers.{AreDistinct}
+use Rattle.turn_client_proto_data.specs.Channel.Numbers.{AreDistinct}
 use Rattle.turn_client_proto_steps.proofs.Lessening.{none_distinct}
 use Rattle.turn_client_proto_steps.proofs.Orderly.{phase_orderly, until_map}
 use Rattle.turn_client_proto_steps.proofs.Plain.{IsCounted, counts_none, counts_one, failures_tell_nothing, joined, none_told, nothing_drawn, notices, quiet, run_step}

@@ -2,14 +2,14 @@
 use Rattle.std.proofs.Common.{◌≡◌, ◌⊎◌, ℕ, Bool, List, [], ◌∷◌, Some, None, refl, sym, subst, inl, inr}
 use Rattle.stun_types.specs.Grammar.{refusal}
 use Rattle.stun_types.specs.Headers.{AreBytes}
-use Rattle.turn_client_proto_poll.specs.Core.Receiving.{IsHeard}
-use Rattle.turn_client_proto_poll.specs.Core.declared.protocol.Protocol.{Protocol}
-use Rattle.turn_client_proto_poll.specs.Members.{IsIn}
-use Rattle.turn_client_proto_poll.specs.Messages.{Holds, Knows, Payload as Told}
-use Rattle.turn_client_proto_poll.specs.OfPeers.{told_of}
-use Rattle.turn_client_proto_poll.specs.Payloads.{payload_of}
-use Rattle.turn_client_proto_poll.specs.Steps.{Call, ClientStep}
-use Rattle.turn_client_proto_poll.specs.declared.payload.Payload.{Payload}
+use Rattle.turn_client_proto_data.specs.Core.Receiving.{IsHeard}
+use Rattle.turn_client_proto_data.specs.Core.declared.protocol.Protocol.{Protocol}
+use Rattle.turn_client_proto_data.specs.Members.{IsIn}
+use Rattle.turn_client_proto_data.specs.Messages.{Holds, Knows, Payload as Told}
+use Rattle.turn_client_proto_data.specs.OfPeers.{told_of}
+use Rattle.turn_client_proto_data.specs.Payloads.{payload_of}
+use Rattle.turn_client_proto_data.specs.Steps.{Call, ClientStep}
+use Rattle.turn_client_proto_data.specs.Payload.{Payload}
 use Rattle.turn_client_proto_steps.specs.ClientWords.{client_words}
 use Rattle.turn_client_proto_steps.specs.RunClient.{Client}
 use Rattle.turn_client_proto_steps.specs.RunSteps.{IsComing, IsGiving, IsRunStep, IsTakingUp, call_of}
@@ -26,7 +26,7 @@ use Rattle.turn_client_proto_steps.proofs.Showing.{answered, delivered, tried}
 abbrev waits : List (List ℕ) → Client → Client
 waits frames c = record c { waiting = frames }
 
-waits_sound : (frames : List (List ℕ)) (c : Client) → IsSound c → IsSound (waits frames c)
+pub waits_sound : (frames : List (List ℕ)) (c : Client) → IsSound c → IsSound (waits frames c)
 waits_sound frames c sound = record {
   orderly = sound.orderly;
   can_ask = until_map c.core.phase (λ (can : CanAsk c). record { account = can.account; texts = can.texts; families = can.families; words = can.words }) sound.can_ask;
@@ -77,6 +77,10 @@ module _ (call : Call Client) (came before after : List (List ℕ)) where
     delivers = λ p i. delivered client_words call other refl p (is.delivers p i);
     names = is.names;
   }
+
+-- a step is one, too, behind which no frame waits any more
+pub losing_step : (call : Call Client) → ClientStep client_words call → ClientStep client_words (record call { after = record call.after { waiting = [] } })
+losing_step call is = framed_step call call.came call.before.waiting [] is.handles (λ f i. absurd i) is
 
 -- ---- frames come
 

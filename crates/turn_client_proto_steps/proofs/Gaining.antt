@@ -14,21 +14,21 @@ use Rattle.stun_types.specs.declared.transport.TransportType.{TransportType}
 use Rattle.stun_proto.specs.State.{Agent}
 use Rattle.turn_types.specs.TurnRegistry.{xor_relayed_address_kind}
 use Rattle.turn_types.specs.TurnShows.{address_in, addresses_shown, each_shown}
-use Rattle.turn_client_proto_poll.specs.Members.{IsIn, NoneTwice}
-use Rattle.turn_client_proto_poll.specs.Messages as run
-use Rattle.turn_client_proto_poll.specs.Steps.{Told, told_for}
-use Rattle.turn_client_proto_poll.specs.Allocation.Refreshing.{granted}
-use Rattle.turn_client_proto_poll.specs.Api.Families.{is_same_family}
-use Rattle.turn_client_proto_poll.specs.Response.Granting.{are_of_one_family, first_of_each}
-use Rattle.turn_client_proto_poll.specs.Response.Telling.{created}
-use Rattle.turn_client_proto_poll.specs.Response.Told.{relayed_told}
-use Rattle.turn_client_proto_poll.specs.Core.Allocating.{phase_by}
-use Rattle.turn_client_proto_poll.specs.Core.Authenticating.{numbers_sent}
-use Rattle.turn_client_proto_poll.specs.Core.Waiting.{Queued}
+use Rattle.turn_client_proto_data.specs.Members.{IsIn, NoneTwice}
+use Rattle.turn_client_proto_data.specs.Messages as run
+use Rattle.turn_client_proto_data.specs.Steps.{Told, told_for}
+use Rattle.turn_client_proto_data.specs.Allocation.Refreshing.{granted}
+use Rattle.turn_client_proto_data.specs.Api.Families.{is_same_family}
+use Rattle.turn_client_proto_data.specs.Response.Granting.{are_of_one_family, first_of_each}
+use Rattle.turn_client_proto_data.specs.Response.Telling.{created}
+use Rattle.turn_client_proto_data.specs.Response.Told.{relayed_told}
+use Rattle.turn_client_proto_data.specs.Core.Allocating.{phase_by}
+use Rattle.turn_client_proto_data.specs.Core.Authenticating.{numbers_sent}
+use Rattle.turn_client_proto_data.specs.Core.Waiting.{Queued}
 use Rattle.turn_client_proto_steps.specs.ClientWords.{Has, HasItself, HasPermission, HasChannel, HasConnection, IsAttempted, IsWaiting, IsAnswered as HasAnswered, IsKept, IsPending, OfPermission, OfChannel, OfNewPermission, OfNewChannel, OfRefresh, OfConnect, OfAttempt, OfBinding, Knows, ByWaiting, ByConnection, Waits}
 use Rattle.turn_client_proto_steps.specs.Held.{Allocation}
 use Rattle.turn_client_proto_steps.specs.Sound.{AreAsked, AreBinding, AreConnecting, AreShort, AreWhole, BeforeAllocated}
-use Rattle.turn_client_proto_poll.specs.Channel.Numbers.{AreDistinct, uses}
+use Rattle.turn_client_proto_data.specs.Channel.Numbers.{AreDistinct, uses}
 use Rattle.turn_client_proto_steps.proofs.Lists.{in_filter, in_map}
 use Rattle.turn_client_proto_steps.proofs.Plain.{notices}
 

@@ -7,18 +7,18 @@ use Rattle.std.specs.Net.Socket.{socket_ip}
 use Rattle.std.specs.declared.net.ip_addr.IpAddr.{IpAddr}
 use Rattle.std.specs.declared.net.socket_addr.SocketAddr.{SocketAddr}
 use Rattle.stun_types.specs.declared.transport.TransportType.{TransportType}
-use Rattle.turn_client_proto_poll.specs.Channel.Numbers.{is_numbered}
-use Rattle.turn_client_proto_poll.specs.Core.declared.protocol.Protocol.{Protocol}
-use Rattle.turn_client_proto_poll.specs.Indications.{Carries}
-use Rattle.turn_client_proto_poll.specs.Members.{IsIn}
-use Rattle.turn_client_proto_poll.specs.Messages as run
-use Rattle.turn_client_proto_poll.specs.OfPeers.{IsLetThrough, told_of}
-use Rattle.turn_client_proto_poll.specs.Payloads.{bound, bound_in, payload_of, permitted}
-use Rattle.turn_client_proto_poll.specs.Permission.Asking.{is_for, permits}
-use Rattle.turn_client_proto_poll.specs.Steps.{IsDelivered}
-use Rattle.turn_client_proto_poll.specs.declared.payload.Payload.{Payload}
-use Rattle.turn_client_proto_poll.specs.declared.payload.Payload.TheVariants.{Data, Framed, Report}
-use Rattle.turn_client_proto_poll.proofs.OfPeers.{payload_of_peer}
+use Rattle.turn_client_proto_data.specs.Channel.Numbers.{is_numbered}
+use Rattle.turn_client_proto_data.specs.Core.declared.protocol.Protocol.{Protocol}
+use Rattle.turn_client_proto_data.specs.Indications.{Carries}
+use Rattle.turn_client_proto_data.specs.Members.{IsIn}
+use Rattle.turn_client_proto_data.specs.Messages as run
+use Rattle.turn_client_proto_data.specs.OfPeers.{IsLetThrough, told_of}
+use Rattle.turn_client_proto_data.specs.Payloads.{bound, bound_in, payload_of, permitted}
+use Rattle.turn_client_proto_data.specs.Permission.Asking.{is_for, permits}
+use Rattle.turn_client_proto_data.specs.Steps.{IsDelivered}
+use Rattle.turn_client_proto_data.specs.Payload.{Payload}
+use Rattle.turn_client_proto_data.specs.Payload.TheVariants.{Data, Framed, Report}
+use Rattle.turn_client_proto_data.proofs.OfPeers.{payload_of_peer}
 use Rattle.turn_client_proto_steps.specs.ClientWords.{Has, HasChannel, HasPermission, IsKept, client_words}
 use Rattle.turn_client_proto_steps.specs.Held.{Allocation, Channel}
 use Rattle.turn_client_proto_steps.specs.RunClient.{Client}

@@ -15,25 +15,25 @@ use Rattle.stun_proto.specs.Handling.{after_message, ends_one}
 use Rattle.stun_proto.specs.Numbers.{IsWithout, ShowsNumbers}
 use Rattle.stun_proto.specs.State.{Agent}
 use Rattle.stun_proto_agent.proofs.Numbers.{answered_without, handled_new, still_shows}
-use Rattle.turn_client_proto_poll.specs.Members.{IsIn, NoneTwice}
-use Rattle.turn_client_proto_poll.specs.Messages as run
-use Rattle.turn_client_proto_poll.specs.Steps.{ClientStep, IsAnswered, Told, WasKnown, told_for}
-use Rattle.turn_client_proto_poll.specs.StunWire.{told_by}
-use Rattle.turn_client_proto_poll.specs.Allocation.Awaited.{asks_for_permission}
-use Rattle.turn_client_proto_poll.specs.Channel.Awaited.{asked_by, awaits_reply}
-use Rattle.turn_client_proto_poll.specs.Channel.Granted.{all_permitted}
-use Rattle.turn_client_proto_poll.specs.Permission.Granted.{permitted}
-use Rattle.turn_client_proto_poll.specs.Channel.declared.awaited.Asked.TheVariants.{NewPermission}
-use Rattle.turn_client_proto_poll.specs.Api.declared.event.TurnEvent.TheVariants.{PermissionCreated}
-use Rattle.turn_client_proto_poll.specs.Core.Permitting.{granted}
-use Rattle.turn_client_proto_poll.specs.Core.Responding.{accepted, judged}
-use Rattle.turn_client_proto_poll.specs.Core.declared.protocol.Protocol.{Protocol}
+use Rattle.turn_client_proto_data.specs.Members.{IsIn, NoneTwice}
+use Rattle.turn_client_proto_data.specs.Messages as run
+use Rattle.turn_client_proto_data.specs.Steps.{ClientStep, IsAnswered, Told, WasKnown, told_for}
+use Rattle.turn_client_proto_data.specs.StunWire.{told_by}
+use Rattle.turn_client_proto_data.specs.Allocation.Awaited.{asks_for_permission}
+use Rattle.turn_client_proto_data.specs.Channel.Awaited.{asked_by, awaits_reply}
+use Rattle.turn_client_proto_data.specs.Channel.Granted.{all_permitted}
+use Rattle.turn_client_proto_data.specs.Permission.Granted.{permitted}
+use Rattle.turn_client_proto_data.specs.Channel.declared.awaited.Asked.TheVariants.{NewPermission}
+use Rattle.turn_client_proto_data.specs.Api.declared.event.TurnEvent.TheVariants.{PermissionCreated}
+use Rattle.turn_client_proto_data.specs.Core.Permitting.{granted}
+use Rattle.turn_client_proto_data.specs.Core.Responding.{accepted, judged}
+use Rattle.turn_client_proto_data.specs.Core.declared.protocol.Protocol.{Protocol}
 use Rattle.turn_client_proto_steps.specs.ClientWords.{IsTaken, Outstanding, Allocating, Pending, client_words}
 use Rattle.turn_client_proto_steps.specs.Held.{Allocation, PendingPermission}
 use Rattle.turn_client_proto_steps.specs.RunClient.{Client, moved, parts_of}
 use Rattle.turn_client_proto_steps.specs.RunSteps.{IsRunStep, call_of}
-use Rattle.turn_client_proto_poll.specs.Channel.Numbers.{AreDistinct}
-use Rattle.turn_client_proto_poll.specs.Api.declared.event.TurnEvent.{TurnEvent}
+use Rattle.turn_client_proto_data.specs.Channel.Numbers.{AreDistinct}
+use Rattle.turn_client_proto_data.specs.Api.declared.event.TurnEvent.{TurnEvent}
 use Rattle.turn_client_proto_steps.specs.Sound.{IsOrderly, IsWhole}
 use Rattle.turn_client_proto_steps.proofs.Lessening.{same_first_distinct}
 use Rattle.turn_client_proto_steps.proofs.Permissions.{first_permitting, permitted_permitting}

@@ -17,25 +17,25 @@ use Rattle.stun_types.specs.declared.transport.TransportType.{TransportType}
 use Rattle.stun_proto.specs.Agents.{Transaction}
 use Rattle.stun_proto.specs.Client as signers
 use Rattle.stun_proto.specs.Handling.{ends_one}
-use Rattle.turn_client_proto_poll.specs.Members.{IsIn, NoneTwice}
-use Rattle.turn_client_proto_poll.specs.Messages as run
-use Rattle.turn_client_proto_poll.specs.Steps.{Told, WasKnown, told_for}
-use Rattle.turn_client_proto_poll.specs.StunWire.{told_by}
-use Rattle.turn_client_proto_poll.specs.Allocation.Awaited.{asks_for_channel, asks_for_permission, is_connecting, renews_channel, renews_permission}
-use Rattle.turn_client_proto_poll.specs.Allocation.Changes.{change_first}
-use Rattle.turn_client_proto_poll.specs.Allocation.Refreshing.{lifetime_asked}
-use Rattle.turn_client_proto_poll.specs.Api.declared.event.TurnEvent.{TurnEvent}
-use Rattle.turn_client_proto_poll.specs.Api.declared.event.TurnEvent.TheVariants.{ChannelCreated, PermissionCreated}
-use Rattle.turn_client_proto_poll.specs.Channel.Awaited.{asked_by, asked_of, awaits_reply}
-use Rattle.turn_client_proto_poll.specs.Channel.Granted as channels
-use Rattle.turn_client_proto_poll.specs.Channel.Granted.{all_bound, permission_asked}
-use Rattle.turn_client_proto_poll.specs.Channel.Numbers.{AreDistinct}
-use Rattle.turn_client_proto_poll.specs.Channel.declared.awaited.Asked.{Asked}
-use Rattle.turn_client_proto_poll.specs.Channel.declared.awaited.Asked.TheVariants.{ChannelRenewal, Lifetime, NewChannel, NewConnection, NewPermission, Renewal}
-use Rattle.turn_client_proto_poll.specs.Permission.Granted.{permitted}
-use Rattle.turn_client_proto_poll.specs.Core.Binding.{bound, permission_with, permitted_with, told_with}
-use Rattle.turn_client_proto_poll.specs.Core.Responding.{accepted, judged}
-use Rattle.turn_client_proto_poll.proofs.Channel.Distinct.{bound_stay_distinct}
+use Rattle.turn_client_proto_data.specs.Members.{IsIn, NoneTwice}
+use Rattle.turn_client_proto_data.specs.Messages as run
+use Rattle.turn_client_proto_data.specs.Steps.{Told, WasKnown, told_for}
+use Rattle.turn_client_proto_data.specs.StunWire.{told_by}
+use Rattle.turn_client_proto_data.specs.Allocation.Awaited.{asks_for_channel, asks_for_permission, is_connecting, renews_channel, renews_permission}
+use Rattle.turn_client_proto_data.specs.Allocation.Changes.{change_first}
+use Rattle.turn_client_proto_data.specs.Allocation.Refreshing.{lifetime_asked}
+use Rattle.turn_client_proto_data.specs.Api.declared.event.TurnEvent.{TurnEvent}
+use Rattle.turn_client_proto_data.specs.Api.declared.event.TurnEvent.TheVariants.{ChannelCreated, PermissionCreated}
+use Rattle.turn_client_proto_data.specs.Channel.Awaited.{asked_by, asked_of, awaits_reply}
+use Rattle.turn_client_proto_data.specs.Channel.Granted as channels
+use Rattle.turn_client_proto_data.specs.Channel.Granted.{all_bound, permission_asked}
+use Rattle.turn_client_proto_data.specs.Channel.Numbers.{AreDistinct}
+use Rattle.turn_client_proto_data.specs.Channel.declared.awaited.Asked.{Asked}
+use Rattle.turn_client_proto_data.specs.Channel.declared.awaited.Asked.TheVariants.{ChannelRenewal, Lifetime, NewChannel, NewConnection, NewPermission, Renewal}
+use Rattle.turn_client_proto_data.specs.Permission.Granted.{permitted}
+use Rattle.turn_client_proto_data.specs.Core.Binding.{bound, permission_with, permitted_with, told_with}
+use Rattle.turn_client_proto_data.specs.Core.Responding.{accepted, judged}
+use Rattle.turn_client_proto_data.proofs.Channel.Distinct.{bound_stay_distinct}
 use Rattle.turn_client_proto_steps.specs.ClientWords.{client_words}
 use Rattle.turn_client_proto_steps.specs.Held.{Allocation, Channel, Connecting, PendingChannel, PendingPermission, Permission}
 use Rattle.turn_client_proto_steps.specs.RunClient.{Client, parts_of}

@@ -1,14 +1,13 @@
 -- What each call makes of the connections of an allocation.
-use Rattle.std.proofs.Common.{◌≡◌, ℕ, not, List, [], ◌∷◌, ◌++◌, Option, Some, map, refl, sym, ap, ◌∙◌, inl, inr}
+use Rattle.std.proofs.Common.{◌≡◌, ℕ, not, List, [], ◌∷◌, Option, Some, map, refl, sym, ap, ◌∙◌, inl, inr}
 use Rattle.std.specs.List.{find}
 use Rattle.std.specs.declared.net.socket_addr.SocketAddr.{SocketAddr}
-use Rattle.turn_client_proto_poll.specs.Members.{IsIn}
-use Rattle.turn_client_proto_poll.specs.Allocation.Awaited.{is_connecting}
-use Rattle.turn_client_proto_poll.specs.Channel.Awaited.{connected_again, connecting_by}
-use Rattle.turn_client_proto_poll.specs.Channel.Numbers.{AreDistinct}
-use Rattle.turn_client_proto_poll.specs.Connection.Asking.{connecting}
-use Rattle.turn_client_proto_poll.specs.Connection.Told.{connected, given_up, is_over, waiting_for}
-use Rattle.turn_client_proto_poll.specs.Connection.Waiting.{asked, asked_in, is_unasked}
+use Rattle.turn_client_proto_data.specs.Allocation.Awaited.{is_connecting}
+use Rattle.turn_client_proto_data.specs.Channel.Awaited.{connected_again, connecting_by}
+use Rattle.turn_client_proto_data.specs.Channel.Numbers.{AreDistinct}
+use Rattle.turn_client_proto_data.specs.Connection.Asking.{connecting}
+use Rattle.turn_client_proto_data.specs.Connection.Told.{connected, given_up, is_over, waiting_for}
+use Rattle.turn_client_proto_data.specs.Connection.Waiting.{asked, asked_in, is_unasked}
 use Rattle.turn_client_proto_steps.specs.Held.{Allocation, Connecting, Waiting}
 use Rattle.turn_client_proto_steps.proofs.Joining.{AskingFor, IsJoining, Learning, none_connects, none_learnt, waited_itself}
 use Rattle.turn_client_proto_steps.proofs.Lessening.{IsAlike, same_distinct}

@@ -1,13 +1,13 @@
 -- What calls make of connections that are asked for or wait for their socket, where all else of an allocation stays as it is.
-use Rattle.std.proofs.Common.{◌≡◌, ◌⊎◌, ℕ, Bool, List, [], ◌∷◌, ◌++◌, Some, None, map, refl, sym, ap, ◌∙◌, subst, inl, inr}
+use Rattle.std.proofs.Common.{◌≡◌, ◌⊎◌, ℕ, Bool, List, Some, None, map, refl, sym, ◌∙◌, subst, inl, inr}
 use Rattle.std.specs.List.{find}
 use Rattle.std.specs.declared.net.socket_addr.SocketAddr.{SocketAddr}
-use Rattle.turn_client_proto_poll.specs.Channel.Numbers.{AreDistinct}
-use Rattle.turn_client_proto_poll.specs.Members.{IsIn}
-use Rattle.turn_client_proto_poll.specs.Messages as run
-use Rattle.turn_client_proto_poll.specs.Allocation.Changes.{change_first}
+use Rattle.turn_client_proto_data.specs.Channel.Numbers.{AreDistinct}
+use Rattle.turn_client_proto_data.specs.Members.{IsIn}
+use Rattle.turn_client_proto_data.specs.Messages as run
+use Rattle.turn_client_proto_data.specs.Allocation.Changes.{change_first}
 use Rattle.turn_client_proto_steps.specs.ClientWords.{Has, HasItself, HasPermission, HasChannel, HasConnection, IsAttempted, IsWaiting, IsAnswered, IsKept, IsPending, OfPermission, OfChannel, OfNewPermission, OfNewChannel, OfRefresh, OfConnect, OfAttempt, OfBinding, IsTaken, Outstanding, Allocating, Pending, Knows, ByWaiting, ByConnection, Waits}
-use Rattle.turn_client_proto_steps.specs.Held.{Allocation, Connecting, PendingPermission, PendingRefresh, Waiting}
+use Rattle.turn_client_proto_steps.specs.Held.{Allocation, Connecting, Waiting}
 use Rattle.turn_client_proto_steps.specs.RunClient.{Parts}
 use Rattle.turn_client_proto_steps.specs.Sound.{AreAsked, AreBinding, AreShort, AreWhole, AsksOf, IsOrderly, IsWhole}
 use Rattle.turn_client_proto_steps.proofs.Adding.{Adds, HasNumber}

@@ -2,13 +2,13 @@
 use Rattle.std.proofs.Common.{◌≡◌, ℕ, zero, suc, ◌*◌, Bool, true, false, List, [], ◌∷◌, Option, Some, None, if◌then◌else◌, refl, sym, subst, arith, inl, inr}
 use Rattle.std.specs.Prelude.{map, nat_le}
 use Rattle.stun_proto.specs.Moments.{moment_after}
-use Rattle.turn_client_proto_poll.specs.Members.{IsIn}
-use Rattle.turn_client_proto_poll.specs.Allocation.Changes.{change_first}
-use Rattle.turn_client_proto_poll.specs.Allocation.Polling.{has_ended, kept, polled, stays}
-use Rattle.turn_client_proto_poll.specs.Allocation.Refreshing.{deleted, least_lifetime, lifetime_asked, refreshing, renewed, renewed_by, second, stands_for}
-use Rattle.turn_client_proto_poll.specs.Permission.Asking.{marked}
-use Rattle.turn_client_proto_poll.specs.Channel.Numbers.{AreDistinct}
-use Rattle.turn_client_proto_poll.proofs.Channel.Distinct.{alike_uses_less, each_stay_distinct, ended_uses_less, first_stay_distinct, kept_stay_distinct}
+use Rattle.turn_client_proto_data.specs.Members.{IsIn}
+use Rattle.turn_client_proto_data.specs.Allocation.Changes.{change_first}
+use Rattle.turn_client_proto_data.specs.Allocation.Polling.{has_ended, kept, polled, stays}
+use Rattle.turn_client_proto_data.specs.Allocation.Refreshing.{deleted, least_lifetime, lifetime_asked, refreshing, renewed, renewed_by, second, stands_for}
+use Rattle.turn_client_proto_data.specs.Permission.Asking.{marked}
+use Rattle.turn_client_proto_data.specs.Channel.Numbers.{AreDistinct}
+use Rattle.turn_client_proto_data.proofs.Channel.Distinct.{alike_uses_less, each_stay_distinct, ended_uses_less, first_stay_distinct, kept_stay_distinct}
 use Rattle.turn_client_proto_steps.specs.Held.{Allocation, PendingRefresh}
 use Rattle.turn_client_proto_steps.specs.Sound.{AreShort}
 use Rattle.turn_client_proto_steps.proofs.Adding.{AreLess, IsLess, WasMore}

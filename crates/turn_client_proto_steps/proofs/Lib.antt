@@ -26,6 +26,7 @@ pub mod Lists
 pub mod Numbers
 pub mod Once
 pub mod Orderly
+pub mod Parting
 pub mod Permissions
 pub mod Permits
 pub mod Permitting
@@ -37,16 +38,20 @@ pub mod Rechallenging
 pub mod Refreshing
 pub mod Requesting
 pub mod RequestingChannels
+pub mod SameSockets
 pub mod Sending
 pub mod Showing
 pub mod Shown
 pub mod ShownChannels
+pub mod ShownConnections
+pub mod Socketing
 pub mod Standing
 pub mod StandingChannels
 pub mod Taken
+pub mod Tying
 pub mod Wanting
 -- What stands above this crate has these through it.
-pub use Rattle.turn_client_proto_poll.proofs.OfPeers
-pub use Rattle.turn_client_proto_poll.proofs.Keeps
-pub use Rattle.turn_client_proto_poll.proofs.Request
-pub use Rattle.turn_client_proto_poll.proofs.Safe
+pub use Rattle.turn_client_proto_data.proofs.OfPeers
+pub use Rattle.turn_client_proto_data.proofs.Keeps
+pub use Rattle.turn_client_proto_data.proofs.Request
+pub use Rattle.turn_client_proto_data.proofs.Safe

@@ -3,8 +3,8 @@ use Rattle.std.proofs.Common.{◌≡◌, Bool, true, false, List, [], ◌∷◌,
 use Rattle.std.proofs.lemmas.Bool.{cases_Bool}
 use Rattle.std.specs.Prelude.{map}
 use Rattle.std.specs.List.{filter, find, list_any}
-use Rattle.turn_client_proto_poll.specs.Members.{IsIn}
-use Rattle.turn_client_proto_poll.specs.Allocation.Changes.{change_first}
+use Rattle.turn_client_proto_data.specs.Members.{IsIn}
+use Rattle.turn_client_proto_data.specs.Allocation.Changes.{change_first}
 
 pub inside : {A : Type 0} {a b : A} → Some a ≡ Some b → a ≡ b
 inside p = Prim.cc p

@@ -7,9 +7,9 @@ use Rattle.rand_core.specs.Stream.{Stream, next_u32}
 use Rattle.rand_core.proofs.StepsLemmas.{next_u32-stream_of}
 use Rattle.stun_types.specs.Generated.{drawn_number, number_words}
 use Rattle.stun_types.specs.GeneratorWords.{stream_after}
-use Rattle.turn_client_proto_poll.specs.StunWire.{stun_wire}
-use Rattle.turn_client_proto_poll.specs.Core.Numbering.{IsNextNumber, after_draw, behind, drawn, is_taken, word}
-use Rattle.turn_client_proto_poll.specs.Core.declared.protocol.Protocol.{Protocol}
+use Rattle.turn_client_proto_data.specs.StunWire.{stun_wire}
+use Rattle.turn_client_proto_data.specs.Core.Numbering.{IsNextNumber, after_draw, behind, drawn, is_taken, word}
+use Rattle.turn_client_proto_data.specs.Core.declared.protocol.Protocol.{Protocol}
 use Rattle.turn_client_proto_steps.specs.ClientWords.{IsTaken}
 use Rattle.turn_client_proto_steps.specs.RunClient.{parts_of}
 use Rattle.turn_client_proto_steps.specs.Sound.{stream_from}

@@ -14,4 +14,5 @@ pub mod Outcomes
 pub mod Permitting
 pub mod Polling
 pub mod Sending
+pub mod Sockets
 pub mod Standing

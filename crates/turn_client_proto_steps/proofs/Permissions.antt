@@ -3,22 +3,22 @@ use Rattle.std.proofs.Common.{◌≡◌, ℕ, Bool, true, false, not, List, [], 
 use Rattle.std.specs.List.{filter, find}
 use Rattle.std.specs.declared.net.ip_addr.IpAddr.{IpAddr}
 use Rattle.stun_types.specs.declared.transport.TransportType.{TransportType}
-use Rattle.turn_client_proto_poll.specs.Members.{IsIn}
-use Rattle.turn_client_proto_poll.specs.Allocation.Awaited.{asks_for_permission, is_among, renews_permission}
-use Rattle.turn_client_proto_poll.specs.Allocation.Changes.{change_first}
-use Rattle.turn_client_proto_poll.specs.Allocation.Permissions.{asked_again, awaiting, has_lapsed, is_over, not_asked_by, not_over, not_renewed_by, polled_permission, polled_permissions, renewed_again, renewed_first, renewed_permission, standing, wants_renewal, with_number}
-use Rattle.turn_client_proto_poll.specs.Permission.Asking.{asking}
-use Rattle.turn_client_proto_poll.specs.Channel.Awaited.{asked_too}
-use Rattle.turn_client_proto_poll.specs.Channel.declared.awaited.Asked.TheVariants.{NewPermission, Renewal}
-use Rattle.turn_client_proto_poll.specs.Permission.Granted.{granted_for, permission_end, permitted, renewed, turned_down}
-use Rattle.turn_client_proto_poll.specs.Permission.Telling.{polled}
-use Rattle.turn_client_proto_poll.specs.Permission.Wanting.{renewing}
+use Rattle.turn_client_proto_data.specs.Members.{IsIn}
+use Rattle.turn_client_proto_data.specs.Allocation.Awaited.{asks_for_permission, is_among, renews_permission}
+use Rattle.turn_client_proto_data.specs.Allocation.Changes.{change_first}
+use Rattle.turn_client_proto_data.specs.Allocation.Permissions.{asked_again, awaiting, has_lapsed, is_over, not_asked_by, not_over, not_renewed_by, polled_permission, polled_permissions, renewed_again, renewed_first, renewed_permission, standing, wants_renewal, with_number}
+use Rattle.turn_client_proto_data.specs.Permission.Asking.{asking}
+use Rattle.turn_client_proto_data.specs.Channel.Awaited.{asked_too}
+use Rattle.turn_client_proto_data.specs.Channel.declared.awaited.Asked.TheVariants.{NewPermission, Renewal}
+use Rattle.turn_client_proto_data.specs.Permission.Granted.{granted_for, permission_end, permitted, renewed, turned_down}
+use Rattle.turn_client_proto_data.specs.Permission.Telling.{polled}
+use Rattle.turn_client_proto_data.specs.Permission.Wanting.{renewing}
 use Rattle.turn_client_proto_steps.specs.Held.{Allocation, PendingPermission, Permission}
 use Rattle.turn_client_proto_steps.proofs.Lists.{found_in, in_changed, in_either, in_filter, in_first, in_map, inside}
 use Rattle.turn_client_proto_steps.proofs.Permitting.{ArePermitting, AreKin, AreKnown, Asking, Gaining, IsKin, IsNow, IsPermitting, itself, kin_itself, known_itself, none_asks, none_gained, with_lists, with_permission}
 use Rattle.turn_client_proto_steps.proofs.Permits.{asks_by, permits_ip}
-use Rattle.turn_client_proto_poll.specs.Messages as run
-use Rattle.turn_client_proto_poll.specs.Request.declared.request.TurnRequest.TheVariants.{CreatePermission}
+use Rattle.turn_client_proto_data.specs.Messages as run
+use Rattle.turn_client_proto_data.specs.Request.declared.request.TurnRequest.TheVariants.{CreatePermission}
 
 -- ---- one permission
 

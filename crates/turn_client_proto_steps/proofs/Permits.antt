@@ -10,14 +10,14 @@ use Rattle.stun_proto.specs.Sending.{with_request}
 use Rattle.stun_proto.specs.State.{Agent}
 use Rattle.stun_proto_agent.proofs.Numbers.{sent}
 use Rattle.turn_types.specs.TurnRegistry.{channel_bind_method, create_permission_method}
-use Rattle.turn_client_proto_poll.specs.Messages as run
-use Rattle.turn_client_proto_poll.specs.Names.{socket_ip}
-use Rattle.turn_client_proto_poll.specs.StunWire.{told_by}
-use Rattle.turn_client_proto_poll.specs.Request.Requests.{peer_of, request_text}
-use Rattle.turn_client_proto_poll.specs.Request.ToldRequests.{told_request}
-use Rattle.turn_client_proto_poll.specs.Request.declared.request.TurnRequest.{TurnRequest}
-use Rattle.turn_client_proto_poll.specs.Request.declared.request.TurnRequest.TheVariants.{ChannelBind, CreatePermission, FirstAllocate}
-use Rattle.turn_client_proto_poll.specs.Core.declared.protocol.Protocol.{Protocol}
+use Rattle.turn_client_proto_data.specs.Messages as run
+use Rattle.turn_client_proto_data.specs.Names.{socket_ip}
+use Rattle.turn_client_proto_data.specs.StunWire.{told_by}
+use Rattle.turn_client_proto_data.specs.Request.Requests.{peer_of, request_text}
+use Rattle.turn_client_proto_data.specs.Request.ToldRequests.{told_request}
+use Rattle.turn_client_proto_data.specs.Request.declared.request.TurnRequest.{TurnRequest}
+use Rattle.turn_client_proto_data.specs.Request.declared.request.TurnRequest.TheVariants.{ChannelBind, CreatePermission, FirstAllocate}
+use Rattle.turn_client_proto_data.specs.Core.declared.protocol.Protocol.{Protocol}
 use Rattle.turn_client_proto_steps.specs.Sound.{AsksFor, IsWhole}
 use Rattle.turn_client_proto_steps.proofs.Adding.{HasNumber}
 use Rattle.turn_client_proto_steps.proofs.Asking.{IsMade}

@@ -2,10 +2,10 @@
 use Rattle.std.proofs.Common.{◌≡◌, ℕ, zero, suc, Bool, List, [], ◌∷◌, Option, Some, None, slice_get, slice_set, refl, sym, ap, ◌∙◌, subst, inl, inr}
 use Rattle.std.proofs.lemmas.Bool.{cases_Bool}
 use Rattle.std.specs.List.{find}
-use Rattle.turn_client_proto_poll.specs.Allocation.Changes.{change_first}
-use Rattle.turn_client_proto_poll.specs.Channel.Binding.{asking}
-use Rattle.turn_client_proto_poll.specs.Channel.Numbers.{AreDistinct, IsLeastFree}
-use Rattle.turn_client_proto_poll.proofs.Channel.Distinct.{alike_uses_less, asked_stay_distinct, placed_stay_distinct}
+use Rattle.turn_client_proto_data.specs.Allocation.Changes.{change_first}
+use Rattle.turn_client_proto_data.specs.Channel.Binding.{asking}
+use Rattle.turn_client_proto_data.specs.Channel.Numbers.{AreDistinct, IsLeastFree}
+use Rattle.turn_client_proto_data.proofs.Channel.Distinct.{alike_uses_less, asked_stay_distinct, placed_stay_distinct}
 use Rattle.turn_client_proto_steps.specs.Held.{Allocation, PendingChannel}
 use Rattle.turn_client_proto_steps.proofs.Lessening.{IsAlike}
 use Rattle.turn_client_proto_steps.proofs.Lists.{inside}

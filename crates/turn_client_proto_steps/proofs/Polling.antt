@@ -7,38 +7,40 @@ use Rattle.stun_proto_agent.proofs.Numbers.{polled_new}
 use Rattle.std.specs.declared.net.ip_addr.IpAddr.{IpAddr}
 use Rattle.std.specs.declared.net.socket_addr.SocketAddr.{SocketAddr}
 use Rattle.stun_types.specs.declared.transport.TransportType.{TransportType}
-use Rattle.turn_client_proto_poll.specs.Allocation.Awaited.{is_among}
-use Rattle.turn_client_proto_poll.specs.Channel.Lapsing as channels
-use Rattle.turn_client_proto_poll.specs.Permission.Telling as permissions
-use Rattle.turn_client_proto_poll.specs.Telling as telling
-use Rattle.turn_client_proto_poll.proofs.Channel.Distinct.{alike_uses_less, each_stay_distinct, polled_uses_less}
-use Rattle.turn_client_proto_poll.specs.Api.declared.event.TurnEvent.TheVariants.{ChannelCreateFailed, PermissionCreateFailed, TcpConnectFailed}
-use Rattle.turn_client_proto_poll.specs.Api.declared.answer.TurnPollRet.{TurnPollRet}
-use Rattle.turn_client_proto_poll.specs.Api.declared.answer.TurnPollRet.TheVariants as answer
-use Rattle.turn_client_proto_poll.specs.Api.declared.event.TurnEvent.{TurnEvent}
-use Rattle.turn_client_proto_poll.specs.Core.Ending.{ended}
-use Rattle.turn_client_proto_poll.specs.Connection.Told as connections
-use Rattle.turn_client_proto_poll.specs.Connection.Waiting.{asked_in, has_unasked, unasked}
-use Rattle.turn_client_proto_poll.specs.Polling.{IsPolled, IsPolledBy, IsPolledIn, IsPolledSent, IsWalked, after_asking, after_time, left, socket_for, waits_until}
-use Rattle.turn_client_proto_poll.specs.Core.declared.protocol.Phase.{Phase}
-use Rattle.turn_client_proto_poll.specs.Core.declared.protocol.Phase.TheVariants.{Initial, InitialSent, Authenticating, Authenticated, Ended}
-use Rattle.turn_client_proto_poll.specs.Core.declared.protocol.Protocol.{Protocol}
+use Rattle.turn_client_proto_data.specs.Allocation.Awaited.{is_among}
+use Rattle.turn_client_proto_data.specs.Channel.Lapsing as channels
+use Rattle.turn_client_proto_data.specs.Permission.Telling as permissions
+use Rattle.turn_client_proto_data.specs.Telling as telling
+use Rattle.turn_client_proto_data.proofs.Channel.Distinct.{alike_uses_less, each_stay_distinct, polled_uses_less}
+use Rattle.turn_client_proto_data.specs.Api.declared.event.TurnEvent.TheVariants.{ChannelCreateFailed, PermissionCreateFailed, TcpConnectFailed}
+use Rattle.turn_client_proto_data.specs.Api.declared.answer.TurnPollRet.{TurnPollRet}
+use Rattle.turn_client_proto_data.specs.Api.declared.answer.TurnPollRet.TheVariants as answer
+use Rattle.turn_client_proto_data.specs.Api.declared.event.TurnEvent.{TurnEvent}
+use Rattle.turn_client_proto_data.specs.Core.Ending.{ended}
+use Rattle.turn_client_proto_data.specs.Connection.Lapsing as parted
+use Rattle.turn_client_proto_data.specs.Connection.Told as connections
+use Rattle.turn_client_proto_data.specs.Connection.Waiting.{asked_in, has_unasked, unasked}
+use Rattle.turn_client_proto_data.specs.Polling.{IsClosing, IsPolled, IsPolledBy, IsPolledIn, IsPolledSent, IsWalked, after_asking, after_time, left, socket_for, waits_until}
+use Rattle.turn_client_proto_data.specs.Core.declared.protocol.Phase.{Phase}
+use Rattle.turn_client_proto_data.specs.Core.declared.protocol.Phase.TheVariants.{Initial, InitialSent, Authenticating, Authenticated, Ended}
+use Rattle.turn_client_proto_data.specs.Core.declared.protocol.Protocol.{Protocol}
 use Rattle.turn_client_proto_steps.specs.Held.{Allocation, Waiting}
 use Rattle.turn_client_proto_steps.specs.RunClient.{Client, Parts, parts_of}
 use Rattle.turn_client_proto_steps.specs.RunSteps.{IsRunStep}
 use Rattle.turn_client_proto_steps.specs.Sound.{IsOrderly, IsSound}
-use Rattle.turn_client_proto_steps.proofs.Adding.{Adds, adds_both, agent_less, allocations_less}
+use Rattle.turn_client_proto_steps.proofs.Adding.{Adds, AreLess, adds_both, agent_less, allocations_less}
 use Rattle.turn_client_proto_steps.proofs.Binding as binding
 use Rattle.turn_client_proto_steps.proofs.Chaining.{both_permitting}
 use Rattle.turn_client_proto_steps.proofs.Ending.{ends, failed_step, still, still_can}
-use Rattle.turn_client_proto_steps.proofs.Joining.{AreJoining, allocations_joining, each_joining, first_joining, joining_orderly, none_connects, none_learnt}
-use Rattle.turn_client_proto_steps.proofs.Joined.{asked_joining, given_up_distinct, given_up_joining}
-use Rattle.turn_client_proto_steps.proofs.Lessening.{IsAlike, all_polled, polled_distinct, same_first_distinct}
+use Rattle.turn_client_proto_steps.proofs.Joining.{allocations_joining, first_joining, joining_orderly, none_connects, none_learnt}
+use Rattle.turn_client_proto_steps.proofs.Joined.{asked_joining}
+use Rattle.turn_client_proto_steps.proofs.Lessening.{IsAlike, all_polled, each_less, polled_distinct, same_distinct, same_first_distinct}
 use Rattle.turn_client_proto_steps.proofs.Orderly.{agent_orderly, allocations_orderly, until_map}
+use Rattle.turn_client_proto_steps.proofs.Parting.{parted_alike, parted_less}
 use Rattle.turn_client_proto_steps.proofs.Permissions.{polled_permitting}
 use Rattle.turn_client_proto_steps.proofs.Fitting.{none_fit, permitting_orderly}
 use Rattle.turn_client_proto_steps.proofs.Permitting.{IsPermitting, allocations_permitting, each_permitting, none_asks, none_gained}
-use Rattle.turn_client_proto_poll.specs.Channel.Numbers.{AreDistinct}
+use Rattle.turn_client_proto_data.specs.Channel.Numbers.{AreDistinct}
 use Rattle.turn_client_proto_steps.proofs.Plain.{counts_none, none_told, nothing_drawn, notices, quiet, run_step}
 
 -- ---- by a test
@@ -76,11 +78,17 @@ of_relays over now a =
     (neither_told (map (ChannelCreateFailed a.transport) peers) _ (none_bound a.transport peers)
     (neither_told (map (PermissionCreateFailed a.transport) lapsed) _ (none_created a.transport lapsed) (none_bound a.transport lapsing)))
 
+of_connections : (over : Option ℕ) (now : ℕ) (a : Allocation) → notices (telling.connection_failures over now a) ≡ []
+unfolding telling.connection_failures
+of_connections over now a =
+    let peers = connections.peers_over over a.connecting in
+    let gone = parted.peers_gone over now a.connections in
+    neither_told (map TcpConnectFailed peers) (map TcpConnectFailed gone) (none_connected peers) (none_connected gone)
+
 of_one : (over : Option ℕ) (now : ℕ) (a : Allocation) → notices (telling.failures over now a) ≡ []
 unfolding telling.failures
 of_one over now a =
-    let peers = connections.peers_over over a.connecting in
-    neither_told (telling.relay_failures over now a) (map TcpConnectFailed peers) (of_relays over now a) (none_connected peers)
+    neither_told (telling.relay_failures over now a) (telling.connection_failures over now a) (of_relays over now a) (of_connections over now a)
 
 ends_tell_nothing : (over : Option ℕ) (now : ℕ) (all : List Allocation) → notices (telling.all_failures over now all) ≡ []
 ends_tell_nothing over now [] = refl
@@ -97,7 +105,7 @@ both_polled over now a =
     both_permitting none_gained none_asks a (permissions.polled over now a) (relays_polled over now a) (polled_permitting over now a) (binding.polled_permitting over now (permissions.polled over now a))
 
 -- both changes of each
-one_after_another : (over : Option ℕ) (now : ℕ) (all : List Allocation) → map (connections.given_up over) (map (relays_polled over now) all) ≡ map (telling.polled over now) all
+one_after_another : (over : Option ℕ) (now : ℕ) (all : List Allocation) → map (parted.polled over now) (map (relays_polled over now) all) ≡ map (telling.polled over now) all
 one_after_another over now [] = refl
 one_after_another over now (a ∷ rest) = ap (λ (l : List Allocation). telling.polled over now a ∷ l) (one_after_another over now rest)
 
@@ -137,34 +145,38 @@ module _ (c : Client) (sound : IsSound c) (now : ℕ) (ticked : StunAgentPollRet
       (λ (_ : is_among over numbers ≡ true) (o : (ret ≡ answer.Closed) × (new ≡ ended mid)). subst (λ (p : Protocol). IsRunStep c [] None [] p) (sym o.1) (ends c [] mid mid_adds mid_orderly refl refl))
       (λ (_ : is_among over numbers ≡ false) (o : (ret ≡ waits_until over now wait) × (new ≡ mid)). ticks new o.1) h
 
-  stands : (over : Option ℕ) (new : Protocol) → new ≡ after_time over now mid → IsRunStep c [] None [] new
+  stands : (over : Option ℕ) (closing : List SocketAddr) (new : Protocol) → new ≡ record (after_time over now mid) { closing = closing } → IsRunStep c [] None [] new
   unfolding after_time
-  stands over new same =
+  stands over closing new same =
       let renewed : List Allocation = left over now mid in
       let relays : List Allocation = map (relays_polled over now) renewed in
       let last : List Allocation = map (telling.polled over now) renewed in
-      let core : Protocol = after_time over now mid in
+      let core : Protocol = record (after_time over now mid) { closing = closing } in
       let less = all_polled over now c.core.allocations in
       let kept : AreDistinct renewed = polled_distinct over now c.core.allocations sound.orderly.distinct in
       let between : Parts = record (parts_of mid) { allocations = renewed } in
       let are = each_permitting none_gained none_asks (relays_polled over now) (both_polled over now) renewed in
       let behind : Parts = record (parts_of mid) { allocations = relays } in
-      let fewer : AreJoining none_connects none_learnt relays last =
-      subst (λ (l : List Allocation). AreJoining none_connects none_learnt relays l) (one_after_another over now renewed)
-      (each_joining none_connects none_learnt (connections.given_up over) (given_up_joining over) relays) in
+      let fewer : AreLess [] relays last =
+      subst (λ (l : List Allocation). AreLess [] relays l) (one_after_another over now renewed) (each_less [] (parted.polled over now) (parted_less over now) relays) in
       let adds = adds_both [] (parts_of c.core) (parts_of mid) (parts_of core) mid_adds
       (adds_both [] (parts_of mid) between (parts_of core) (allocations_less [] [] (parts_of mid) renewed less (λ r h. absurd h))
       (adds_both [] between behind (parts_of core) (allocations_permitting [] none_asks between relays are (λ held n h. absurd h))
-      (allocations_joining [] none_connects behind last fewer (λ k h. absurd h)))) in
+      (allocations_less [] [] behind last fewer (λ r h. absurd h)))) in
       subst (λ (p : Protocol). IsRunStep c [] None [] p) (sym same)
       (run_step [] [] None [] c c.drawn core
       (quiet None [] c c.drawn core (counts_none c core refl) adds (nothing_drawn [] c) (none_told c.core.events (telling.all_failures over now renewed) (ends_tell_nothing over now renewed)))
-      (joining_orderly none_connects none_learnt behind last fewer (λ k h. absurd h) (λ k h. absurd h)
-      (subst AreDistinct (one_after_another over now renewed) (given_up_distinct over relays (both_distinct over now renewed kept)))
+      (allocations_orderly [] behind last fewer (λ r h. absurd h)
+      (subst AreDistinct (one_after_another over now renewed) (same_distinct (parted.polled over now) (parted_alike over now) relays (both_distinct over now renewed kept)))
       (permitting_orderly none_gained none_asks between relays are (none_fit agent)
       (allocations_orderly [] (parts_of mid) renewed less (λ r h. absurd h) kept mid_orderly)
       (both_distinct over now renewed kept)))
       (until_map c.core.phase (still_can c core refl refl refl) sound.can_ask))
+
+  -- the first of the sockets that are to be closed is told, where there is one
+  closes : (all : List SocketAddr) (wanted : TurnPollRet) (over : Option ℕ) (ret : TurnPollRet) (new : Protocol) → IsClosing all wanted (after_time over now mid) ret new → IsRunStep c [] None [] new
+  closes [] wanted over ret new h = stands over (after_time over now mid).closing new h.1
+  closes (here ∷ rest) wanted over ret new h = stands over rest new h.1
 
   -- a socket is asked for
   asks_socket : (new : Protocol) → new ≡ after_asking mid → IsRunStep c [] None [] new
@@ -183,7 +195,7 @@ module _ (c : Client) (sound : IsSound c) (now : ℕ) (ticked : StunAgentPollRet
 
   standing_in : (found : Option Waiting) (over : Option ℕ) (wait : ℕ) (ret : TurnPollRet) (new : Protocol)
       → MatchOption found (IsWalked over wait mid now ret new) (λ w. (ret ≡ socket_for mid w) × (new ≡ after_asking mid)) → IsRunStep c [] None [] new
-  standing_in None over wait ret new h = stands over new h.outcome.1
+  standing_in None over wait ret new h = closes _ _ over ret new h.outcome
   standing_in (Some w) over wait ret new h = asks_socket new h.1
 
   ticked_in : (phase : Phase) (over : Option ℕ) (wait : ℕ) (ret : TurnPollRet) (new : Protocol) → IsPolledIn phase over wait mid now ret new → IsRunStep c [] None [] new

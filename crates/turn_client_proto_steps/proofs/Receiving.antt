@@ -5,14 +5,14 @@ use Rattle.stun_types.specs.Grammar.{number_at, refusal}
 use Rattle.stun_types.specs.Headers.{AreBytes}
 use Rattle.stun_types.specs.Types.{class_of}
 use Rattle.stun_proto.specs.Handling.{is_response}
-use Rattle.turn_client_proto_poll.specs.Allocation.Awaited.{has_number}
-use Rattle.turn_client_proto_poll.specs.Core.Authenticating.{IsFirstJudged, IsSignedJudged}
-use Rattle.turn_client_proto_poll.specs.Core.Receiving.{IsFollowed, IsHeard, IsHeardIn}
-use Rattle.turn_client_proto_poll.specs.Indications.{is_indication}
-use Rattle.turn_client_proto_poll.specs.Core.Standing.{IsJudgedStanding}
-use Rattle.turn_client_proto_poll.specs.Core.declared.protocol.Phase.{Phase}
-use Rattle.turn_client_proto_poll.specs.Core.declared.protocol.Phase.TheVariants.{Initial, InitialSent, Authenticating, Authenticated, Ended}
-use Rattle.turn_client_proto_poll.specs.Core.declared.protocol.Protocol.{Protocol}
+use Rattle.turn_client_proto_data.specs.Allocation.Awaited.{has_number}
+use Rattle.turn_client_proto_data.specs.Core.Authenticating.{IsFirstJudged, IsSignedJudged}
+use Rattle.turn_client_proto_data.specs.Core.Receiving.{IsFollowed, IsHeard, IsHeardIn}
+use Rattle.turn_client_proto_data.specs.Indications.{is_indication}
+use Rattle.turn_client_proto_data.specs.Core.Standing.{IsJudgedStanding}
+use Rattle.turn_client_proto_data.specs.Core.declared.protocol.Phase.{Phase}
+use Rattle.turn_client_proto_data.specs.Core.declared.protocol.Phase.TheVariants.{Initial, InitialSent, Authenticating, Authenticated, Ended}
+use Rattle.turn_client_proto_data.specs.Core.declared.protocol.Protocol.{Protocol}
 use Rattle.turn_client_proto_steps.specs.RunClient.{Client}
 use Rattle.turn_client_proto_steps.specs.RunSteps.{IsRunStep}
 use Rattle.turn_client_proto_steps.specs.Sound.{BeforeAllocated, CanAsk, IsSound, UntilEnded}

@@ -13,26 +13,26 @@ use Rattle.stun_proto.specs.Numbers.{NothingNew}
 use Rattle.stun_proto.specs.Sending.{with_request}
 use Rattle.stun_proto.specs.State.{Agent}
 use Rattle.stun_proto_agent.proofs.Numbers.{handled_new}
-use Rattle.turn_client_proto_poll.specs.Members.{IsIn}
-use Rattle.turn_client_proto_poll.specs.Messages as run
-use Rattle.turn_client_proto_poll.specs.StunWire.{told_by}
-use Rattle.turn_client_proto_poll.specs.Allocation.Awaited.{is_refresh}
-use Rattle.turn_client_proto_poll.specs.Channel.Awaited.{all_asked_too, asked_by, asked_too, awaits_reply}
-use Rattle.turn_client_proto_poll.specs.Channel.Numbers.{AreDistinct}
-use Rattle.turn_client_proto_poll.specs.Channel.declared.awaited.Asked.{Asked}
-use Rattle.turn_client_proto_poll.specs.Channel.declared.awaited.Asked.TheVariants.{ChannelRenewal, Lifetime, NewChannel, NewConnection, NewPermission, Renewal}
-use Rattle.turn_client_proto_poll.specs.Request.Requests.{request_text}
-use Rattle.turn_client_proto_poll.specs.Request.declared.request.TurnRequest.{TurnRequest}
-use Rattle.turn_client_proto_poll.specs.Request.declared.request.TurnRequest.TheVariants.{ChannelBind, Connect, CreatePermission, Refresh}
-use Rattle.turn_client_proto_poll.specs.Core.Asking.{asked}
-use Rattle.turn_client_proto_poll.specs.Core.Ending.{ended}
-use Rattle.turn_client_proto_poll.specs.Core.Numbering.{after_number}
-use Rattle.turn_client_proto_poll.specs.Core.Responding.{challenged, is_tired}
-use Rattle.turn_client_proto_poll.specs.Core.Standing.{IsAskedAgain, IsRechallenged, IsSentAgain, asks_again, request_for}
-use Rattle.turn_client_proto_poll.specs.Core.declared.protocol.Phase.TheVariants.{Authenticated}
-use Rattle.turn_client_proto_poll.specs.Core.declared.protocol.Protocol.{Protocol}
-use Rattle.turn_client_proto_poll.proofs.Channel.Distinct.{asked_too_uses_less, first_stay_distinct}
-use Rattle.turn_client_proto_poll.proofs.Request.Peers.{peer_read}
+use Rattle.turn_client_proto_data.specs.Members.{IsIn}
+use Rattle.turn_client_proto_data.specs.Messages as run
+use Rattle.turn_client_proto_data.specs.StunWire.{told_by}
+use Rattle.turn_client_proto_data.specs.Allocation.Awaited.{is_refresh}
+use Rattle.turn_client_proto_data.specs.Channel.Awaited.{all_asked_too, asked_by, asked_too, awaits_reply}
+use Rattle.turn_client_proto_data.specs.Channel.Numbers.{AreDistinct}
+use Rattle.turn_client_proto_data.specs.Channel.declared.awaited.Asked.{Asked}
+use Rattle.turn_client_proto_data.specs.Channel.declared.awaited.Asked.TheVariants.{ChannelRenewal, Lifetime, NewChannel, NewConnection, NewPermission, Renewal}
+use Rattle.turn_client_proto_data.specs.Request.Requests.{request_text}
+use Rattle.turn_client_proto_data.specs.Request.declared.request.TurnRequest.{TurnRequest}
+use Rattle.turn_client_proto_data.specs.Request.declared.request.TurnRequest.TheVariants.{ChannelBind, Connect, CreatePermission, Refresh}
+use Rattle.turn_client_proto_data.specs.Core.Asking.{asked}
+use Rattle.turn_client_proto_data.specs.Core.Ending.{ended}
+use Rattle.turn_client_proto_data.specs.Core.Numbering.{after_number}
+use Rattle.turn_client_proto_data.specs.Core.Responding.{challenged, is_tired}
+use Rattle.turn_client_proto_data.specs.Core.Standing.{IsAskedAgain, IsRechallenged, IsSentAgain, asks_again, request_for}
+use Rattle.turn_client_proto_data.specs.Core.declared.protocol.Phase.TheVariants.{Authenticated}
+use Rattle.turn_client_proto_data.specs.Core.declared.protocol.Protocol.{Protocol}
+use Rattle.turn_client_proto_data.proofs.Channel.Distinct.{asked_too_uses_less, first_stay_distinct}
+use Rattle.turn_client_proto_data.proofs.Request.Peers.{peer_read}
 use Rattle.turn_client_proto_steps.specs.Held.{Allocation, PendingRefresh}
 use Rattle.turn_client_proto_steps.specs.RunClient.{Client, Parts, parts_of}
 use Rattle.turn_client_proto_steps.specs.RunSteps.{IsRunStep}

@@ -3,20 +3,20 @@ use Rattle.std.proofs.Common.{◌≡◌, ℕ, Bool, true, false, if◌then◌els
 use Rattle.std.specs.Prelude.{IfNone, IfSome, MatchResult}
 use Rattle.std.specs.declared.net.ip_addr.IpAddr.{IpAddr}
 use Rattle.stun_types.specs.declared.transport.TransportType.{TransportType}
-use Rattle.turn_client_proto_poll.specs.StunWire.{told_by}
-use Rattle.turn_client_proto_poll.specs.Allocation.Changes.{change_first}
-use Rattle.turn_client_proto_poll.specs.Api.declared.error.CreatePermissionError.{CreatePermissionError}
-use Rattle.turn_client_proto_poll.specs.Api.declared.error.CreatePermissionError.TheVariants.{AlreadyExists, NoAllocation, NoMemory}
-use Rattle.turn_client_proto_poll.specs.Permission.Asking.{asking, is_of, is_past, knows, marked}
-use Rattle.turn_client_proto_poll.specs.Request.Requests.{request_text}
-use Rattle.turn_client_proto_poll.specs.Request.declared.request.TurnRequest.TheVariants.{CreatePermission}
-use Rattle.turn_client_proto_poll.specs.Core.Asking.{asked}
-use Rattle.turn_client_proto_poll.specs.Core.Deleting.{is_authenticated}
-use Rattle.turn_client_proto_poll.specs.Core.Numbering.{after_number}
-use Rattle.turn_client_proto_poll.specs.Core.Permitting.{IsPermissionAnswered, IsPermissionAsked, after_asking, allocation_for, changed_for, family_of_ip, permission_refusal, refusal_in, refused_in}
-use Rattle.turn_client_proto_poll.specs.Core.declared.protocol.Phase.{Phase}
-use Rattle.turn_client_proto_poll.specs.Core.declared.protocol.Phase.TheVariants.{Initial, InitialSent, Authenticating, Authenticated, Ended}
-use Rattle.turn_client_proto_poll.specs.Core.declared.protocol.Protocol.{Protocol}
+use Rattle.turn_client_proto_data.specs.StunWire.{told_by}
+use Rattle.turn_client_proto_data.specs.Allocation.Changes.{change_first}
+use Rattle.turn_client_proto_data.specs.Api.declared.error.CreatePermissionError.{CreatePermissionError}
+use Rattle.turn_client_proto_data.specs.Api.declared.error.CreatePermissionError.TheVariants.{AlreadyExists, NoAllocation, NoMemory}
+use Rattle.turn_client_proto_data.specs.Permission.Asking.{asking, is_of, is_past, knows, marked}
+use Rattle.turn_client_proto_data.specs.Request.Requests.{request_text}
+use Rattle.turn_client_proto_data.specs.Request.declared.request.TurnRequest.TheVariants.{CreatePermission}
+use Rattle.turn_client_proto_data.specs.Core.Asking.{asked}
+use Rattle.turn_client_proto_data.specs.Core.Deleting.{is_authenticated}
+use Rattle.turn_client_proto_data.specs.Core.Numbering.{after_number}
+use Rattle.turn_client_proto_data.specs.Core.Permitting.{IsPermissionAnswered, IsPermissionAsked, after_asking, allocation_for, changed_for, family_of_ip, permission_refusal, refusal_in, refused_in}
+use Rattle.turn_client_proto_data.specs.Core.declared.protocol.Phase.{Phase}
+use Rattle.turn_client_proto_data.specs.Core.declared.protocol.Phase.TheVariants.{Initial, InitialSent, Authenticating, Authenticated, Ended}
+use Rattle.turn_client_proto_data.specs.Core.declared.protocol.Protocol.{Protocol}
 use Rattle.turn_client_proto_steps.specs.Held.{Allocation}
 use Rattle.turn_client_proto_steps.specs.RunClient.{Client, Parts, parts_of}
 use Rattle.turn_client_proto_steps.specs.RunSteps.{IsRunStep}

@@ -5,23 +5,23 @@ use Rattle.std.specs.Prelude.{IfNone, IfSome, MatchOption, MatchResult}
 use Rattle.std.specs.declared.net.socket_addr.SocketAddr.{SocketAddr}
 use Rattle.stun_types.specs.Family.{family_of_socket}
 use Rattle.stun_types.specs.declared.transport.TransportType.{TransportType}
-use Rattle.turn_client_proto_poll.specs.Names.{socket_ip}
-use Rattle.turn_client_proto_poll.specs.StunWire.{told_by}
-use Rattle.turn_client_proto_poll.specs.Api.declared.error.BindChannelError.{BindChannelError}
-use Rattle.turn_client_proto_poll.specs.Api.declared.error.BindChannelError.TheVariants.{NoAllocation, NoChannel, NoMemory}
-use Rattle.turn_client_proto_poll.specs.Channel.Binding.{asking, barring}
-use Rattle.turn_client_proto_poll.specs.Channel.Numbers.{AreDistinct, IsLeastFree}
-use Rattle.turn_client_proto_poll.specs.Permission.Asking.{is_of, is_past, knows, marked}
-use Rattle.turn_client_proto_poll.specs.Request.Requests.{request_text}
-use Rattle.turn_client_proto_poll.specs.Request.declared.request.TurnRequest.TheVariants.{ChannelBind}
-use Rattle.turn_client_proto_poll.proofs.Request.Peers.{peer_read}
-use Rattle.turn_client_proto_poll.specs.Core.Asking.{asked}
-use Rattle.turn_client_proto_poll.specs.Core.Binding.{IsBindAnswered, IsBindTried, IsChannelAsked, after_binding, allocation_to, asking_channel, bind_refusal, bind_refusal_in, bind_refused_in, changed_to, permission_beside}
-use Rattle.turn_client_proto_poll.specs.Core.Deleting.{is_authenticated}
-use Rattle.turn_client_proto_poll.specs.Core.Numbering.{after_number}
-use Rattle.turn_client_proto_poll.specs.Core.declared.protocol.Phase.{Phase}
-use Rattle.turn_client_proto_poll.specs.Core.declared.protocol.Phase.TheVariants.{Authenticated}
-use Rattle.turn_client_proto_poll.specs.Core.declared.protocol.Protocol.{Protocol}
+use Rattle.turn_client_proto_data.specs.Names.{socket_ip}
+use Rattle.turn_client_proto_data.specs.StunWire.{told_by}
+use Rattle.turn_client_proto_data.specs.Api.declared.error.BindChannelError.{BindChannelError}
+use Rattle.turn_client_proto_data.specs.Api.declared.error.BindChannelError.TheVariants.{NoAllocation, NoChannel, NoMemory}
+use Rattle.turn_client_proto_data.specs.Channel.Binding.{asking, barring}
+use Rattle.turn_client_proto_data.specs.Channel.Numbers.{AreDistinct, IsLeastFree}
+use Rattle.turn_client_proto_data.specs.Permission.Asking.{is_of, is_past, knows, marked}
+use Rattle.turn_client_proto_data.specs.Request.Requests.{request_text}
+use Rattle.turn_client_proto_data.specs.Request.declared.request.TurnRequest.TheVariants.{ChannelBind}
+use Rattle.turn_client_proto_data.proofs.Request.Peers.{peer_read}
+use Rattle.turn_client_proto_data.specs.Core.Asking.{asked}
+use Rattle.turn_client_proto_data.specs.Core.Binding.{IsBindAnswered, IsBindTried, IsChannelAsked, after_binding, allocation_to, asking_channel, bind_refusal, bind_refusal_in, bind_refused_in, changed_to, permission_beside}
+use Rattle.turn_client_proto_data.specs.Core.Deleting.{is_authenticated}
+use Rattle.turn_client_proto_data.specs.Core.Numbering.{after_number}
+use Rattle.turn_client_proto_data.specs.Core.declared.protocol.Phase.{Phase}
+use Rattle.turn_client_proto_data.specs.Core.declared.protocol.Phase.TheVariants.{Authenticated}
+use Rattle.turn_client_proto_data.specs.Core.declared.protocol.Protocol.{Protocol}
 use Rattle.turn_client_proto_steps.specs.Held.{Allocation, PendingChannel}
 use Rattle.turn_client_proto_steps.specs.RunClient.{Client, Parts, parts_of}
 use Rattle.turn_client_proto_steps.specs.RunSteps.{IsRunStep}

@@ -4,9 +4,9 @@ use Rattle.std.specs.Prelude.{MatchOption}
 use Rattle.std.specs.declared.net.socket_addr.SocketAddr.{SocketAddr}
 use Rattle.stun_types.specs.declared.transport.TransportType.{TransportType}
 use Rattle.stun_types.specs.declared.transport.TransportType.TheVariants.{Tcp, Udp}
-use Rattle.turn_client_proto_poll.specs.Api.declared.error.SendError.{SendError}
-use Rattle.turn_client_proto_poll.specs.Core.declared.protocol.Protocol.{Protocol}
-use Rattle.turn_client_proto_poll.specs.Sending.{Answer, IsPassedOn, IsSendAnswered, IsSentBy, IsSentOver, channel_to, connection_to, send_refusal, standing}
+use Rattle.turn_client_proto_data.specs.Api.declared.error.SendError.{SendError}
+use Rattle.turn_client_proto_data.specs.Core.declared.protocol.Protocol.{Protocol}
+use Rattle.turn_client_proto_data.specs.Sending.{Answer, IsPassedOn, IsSendAnswered, IsSentBy, IsSentOver, channel_to, connection_to, send_refusal, standing}
 use Rattle.turn_client_proto_steps.specs.Held.{Channel, Connection}
 use Rattle.turn_client_proto_steps.specs.RunClient.{Client}
 use Rattle.turn_client_proto_steps.specs.RunSteps.{IsRunStep}

@@ -1,10 +1,10 @@
 -- A call that answers things as held is a step, too, where they are held; and so is one that hands over payloads, where
 -- each was delivered and names something kept.
 use Rattle.std.proofs.Common.{◌≡◌, ℕ, List, refl, subst, inl, inr}
-use Rattle.turn_client_proto_poll.specs.Members.{IsIn}
-use Rattle.turn_client_proto_poll.specs.Messages.{Message, Held, Gain, Holds, Knows, NamesHeld, Payload, FromPeer, Reported, FromChannel, FromConnection}
-use Rattle.turn_client_proto_poll.specs.Words.{Wire, ClientWords}
-use Rattle.turn_client_proto_poll.specs.Steps.{Arrives, Call, ClientStep, IsAnswered, IsDelivered, IsOwnKey, IsTried}
+use Rattle.turn_client_proto_data.specs.Members.{IsIn}
+use Rattle.turn_client_proto_data.specs.Messages.{Message, Held, Gain, Holds, Knows, NamesHeld, Payload, FromPeer, Reported, FromChannel, FromConnection}
+use Rattle.turn_client_proto_data.specs.Words.{Wire, ClientWords}
+use Rattle.turn_client_proto_data.specs.Steps.{Arrives, Call, ClientStep, IsAnswered, IsDelivered, IsOwnKey, IsTried}
 
 -- a call that takes up the same, of the same account, where as much is outstanding
 module _ {V : Wire} {C : Type 0} (K : ClientWords V C) (call other : Call C) (same : call.handled ≡ other.handled) (account : K.account call.before ≡ K.account other.before)

@@ -10,12 +10,12 @@ use Rattle.std.specs.declared.net.ipv6_addr.Ipv6Addr.{Ipv6Addr}
 use Rattle.std.specs.declared.net.socket_addr.SocketAddr.{SocketAddr}
 use Rattle.stun_types.specs.declared.transport.TransportType.{TransportType}
 use Rattle.stun_types.specs.declared.transport.TransportType.TheVariants.{Udp, Tcp}
-use Rattle.turn_client_proto_poll.specs.Members.{IsIn}
-use Rattle.turn_client_proto_poll.specs.Messages as run
-use Rattle.turn_client_proto_poll.specs.Allocation.Listed.{is_shown, relayed_shown}
-use Rattle.turn_client_proto_poll.specs.Permission.Asking.{is_for, permits, permits_over}
-use Rattle.turn_client_proto_poll.specs.Permission.Same.{is_same_ip, is_same_transport}
-use Rattle.turn_client_proto_poll.specs.Permission.Shown.{addresses_of, is_at, permissions_at, permissions_in}
+use Rattle.turn_client_proto_data.specs.Members.{IsIn}
+use Rattle.turn_client_proto_data.specs.Messages as run
+use Rattle.turn_client_proto_data.specs.Allocation.Listed.{is_shown, relayed_shown}
+use Rattle.turn_client_proto_data.specs.Permission.Asking.{is_for, permits, permits_over}
+use Rattle.turn_client_proto_data.specs.Permission.Same.{is_same_ip, is_same_transport}
+use Rattle.turn_client_proto_data.specs.Permission.Shown.{addresses_of, is_at, permissions_at, permissions_in}
 use Rattle.turn_client_proto_steps.specs.ClientWords.{Has, HasItself, HasPermission, HasChannel, HasConnection, IsHeld}
 use Rattle.turn_client_proto_steps.specs.Held.{Allocation, Permission}
 use Rattle.turn_client_proto_steps.proofs.Lists.{any_passes, found_in, found_passes, in_filter, in_map, passes_one}

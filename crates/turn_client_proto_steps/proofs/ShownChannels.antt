@@ -2,9 +2,9 @@
 use Rattle.std.proofs.Common.{◌≡◌, ℕ, false, List, [], ◌∷◌, refl, sym, subst, inl, inr}
 use Rattle.std.proofs.lemmas.Bool.{cases_Bool}
 use Rattle.std.specs.declared.net.socket_addr.SocketAddr.{SocketAddr}
-use Rattle.turn_client_proto_poll.specs.Members.{IsIn}
-use Rattle.turn_client_proto_poll.specs.Messages as run
-use Rattle.turn_client_proto_poll.specs.Channel.Shown.{channels_of, channels_shown, pairs_of}
+use Rattle.turn_client_proto_data.specs.Members.{IsIn}
+use Rattle.turn_client_proto_data.specs.Messages as run
+use Rattle.turn_client_proto_data.specs.Channel.Shown.{channels_of, channels_shown, pairs_of}
 use Rattle.turn_client_proto_steps.specs.ClientWords.{Has, HasChannel, IsHeld}
 use Rattle.turn_client_proto_steps.specs.Held.{Allocation, Channel}
 use Rattle.turn_client_proto_steps.proofs.Lists.{in_either, in_map}

@@ -17,21 +17,21 @@ use Rattle.stun_proto.specs.ClientAuthErrors.{LongTermClientAuthError, Unauthori
 use Rattle.stun_proto.specs.ClientValidations.{LongTermClientValidation, ResendRequest, Validated}
 use Rattle.stun_proto.specs.Handling.{is_awaited, is_response}
 use Rattle.turn_types.specs.TurnRegistry.{channel_bind_method, connect_method, create_permission_method, refresh_method}
-use Rattle.turn_client_proto_poll.specs.Allocation.Refreshing.{ends_by, renewed}
-use Rattle.turn_client_proto_poll.specs.Api.declared.event.TurnEvent.TheVariants.{PermissionCreateFailed}
-use Rattle.turn_client_proto_poll.specs.Channel.Awaited.{asked_by}
-use Rattle.turn_client_proto_poll.specs.Channel.declared.awaited.Asked.{Asked}
-use Rattle.turn_client_proto_poll.specs.Channel.declared.awaited.Asked.TheVariants.{ChannelRenewal, Lifetime, NewChannel, NewConnection, NewPermission, Renewal}
-use Rattle.turn_client_proto_poll.specs.Permission.Granted as granted_again
-use Rattle.turn_client_proto_poll.specs.Permission.Granted.{turned_down}
-use Rattle.turn_client_proto_poll.specs.Request.Judging.{IsJudged}
-use Rattle.turn_client_proto_poll.specs.Response.Told.{lifetime_told}
-use Rattle.turn_client_proto_poll.specs.Core.Permitting as permission
-use Rattle.turn_client_proto_poll.specs.Core.Permitting.{IsGrantedFor, IsPermissionResponded, IsRefusedFor, refused, renews}
-use Rattle.turn_client_proto_poll.specs.Core.Responding.{accepted, is_error_class, judged}
-use Rattle.turn_client_proto_poll.specs.Core.Standing.{IsJudgedStanding, IsRequestAnswered, IsTakenUp, after_refresh, deallocated, is_refreshed, refreshed}
-use Rattle.turn_client_proto_poll.specs.Core.declared.protocol.Phase.TheVariants.{Authenticated, Ended}
-use Rattle.turn_client_proto_poll.specs.Core.declared.protocol.Protocol.{Protocol}
+use Rattle.turn_client_proto_data.specs.Allocation.Refreshing.{ends_by, renewed}
+use Rattle.turn_client_proto_data.specs.Api.declared.event.TurnEvent.TheVariants.{PermissionCreateFailed}
+use Rattle.turn_client_proto_data.specs.Channel.Awaited.{asked_by}
+use Rattle.turn_client_proto_data.specs.Channel.declared.awaited.Asked.{Asked}
+use Rattle.turn_client_proto_data.specs.Channel.declared.awaited.Asked.TheVariants.{ChannelRenewal, Lifetime, NewChannel, NewConnection, NewPermission, Renewal}
+use Rattle.turn_client_proto_data.specs.Permission.Granted as granted_again
+use Rattle.turn_client_proto_data.specs.Permission.Granted.{turned_down}
+use Rattle.turn_client_proto_data.specs.Request.Judging.{IsJudged}
+use Rattle.turn_client_proto_data.specs.Response.Told.{lifetime_told}
+use Rattle.turn_client_proto_data.specs.Core.Permitting as permission
+use Rattle.turn_client_proto_data.specs.Core.Permitting.{IsGrantedFor, IsPermissionResponded, IsRefusedFor, refused, renews}
+use Rattle.turn_client_proto_data.specs.Core.Responding.{accepted, is_error_class, judged}
+use Rattle.turn_client_proto_data.specs.Core.Standing.{IsJudgedStanding, IsRequestAnswered, IsTakenUp, after_refresh, deallocated, is_refreshed, refreshed}
+use Rattle.turn_client_proto_data.specs.Core.declared.protocol.Phase.TheVariants.{Authenticated, Ended}
+use Rattle.turn_client_proto_data.specs.Core.declared.protocol.Protocol.{Protocol}
 use Rattle.turn_client_proto_steps.specs.Held.{Allocation}
 use Rattle.turn_client_proto_steps.specs.RunClient.{Client, Parts, parts_of}
 use Rattle.turn_client_proto_steps.specs.RunSteps.{IsRunStep}

@@ -6,17 +6,17 @@ use Rattle.stun_types.specs.Attributes.{kind_at}
 use Rattle.stun_types.specs.Grammar.{number_at}
 use Rattle.stun_types.specs.Types.{class_of}
 use Rattle.stun_types.specs.declared.transport.TransportType.{TransportType}
-use Rattle.turn_client_proto_poll.specs.Api.declared.event.TurnEvent.TheVariants.{ChannelCreateFailed, PermissionCreateFailed}
-use Rattle.turn_client_proto_poll.specs.Channel.Awaited.{asked_by}
-use Rattle.turn_client_proto_poll.specs.Channel.Granted as channels
-use Rattle.turn_client_proto_poll.specs.Channel.Numbers.{AreDistinct}
-use Rattle.turn_client_proto_poll.specs.Channel.declared.awaited.Asked.{Asked}
-use Rattle.turn_client_proto_poll.specs.Channel.declared.awaited.Asked.TheVariants.{ChannelRenewal, Lifetime, NewChannel, NewConnection, NewPermission, Renewal}
-use Rattle.turn_client_proto_poll.specs.Permission.Granted as permissions
-use Rattle.turn_client_proto_poll.specs.Core.Binding.{IsBindResponded, IsBoundFor, IsUnboundFor, bound, lets_lapse, permission_with, renews_channels, told_with, turned_down_with, unbound}
-use Rattle.turn_client_proto_poll.specs.Core.Responding.{is_error_class}
-use Rattle.turn_client_proto_poll.specs.Core.declared.protocol.Protocol.{Protocol}
-use Rattle.turn_client_proto_poll.proofs.Channel.Distinct.{each_stay_distinct, let_lapse_uses_less, renewed_uses_less, turned_down_uses_less}
+use Rattle.turn_client_proto_data.specs.Api.declared.event.TurnEvent.TheVariants.{ChannelCreateFailed, PermissionCreateFailed}
+use Rattle.turn_client_proto_data.specs.Channel.Awaited.{asked_by}
+use Rattle.turn_client_proto_data.specs.Channel.Granted as channels
+use Rattle.turn_client_proto_data.specs.Channel.Numbers.{AreDistinct}
+use Rattle.turn_client_proto_data.specs.Channel.declared.awaited.Asked.{Asked}
+use Rattle.turn_client_proto_data.specs.Channel.declared.awaited.Asked.TheVariants.{ChannelRenewal, Lifetime, NewChannel, NewConnection, NewPermission, Renewal}
+use Rattle.turn_client_proto_data.specs.Permission.Granted as permissions
+use Rattle.turn_client_proto_data.specs.Core.Binding.{IsBindResponded, IsBoundFor, IsUnboundFor, bound, lets_lapse, permission_with, renews_channels, told_with, turned_down_with, unbound}
+use Rattle.turn_client_proto_data.specs.Core.Responding.{is_error_class}
+use Rattle.turn_client_proto_data.specs.Core.declared.protocol.Protocol.{Protocol}
+use Rattle.turn_client_proto_data.proofs.Channel.Distinct.{each_stay_distinct, let_lapse_uses_less, renewed_uses_less, turned_down_uses_less}
 use Rattle.turn_client_proto_steps.specs.Held.{Allocation}
 use Rattle.turn_client_proto_steps.specs.RunClient.{Client}
 use Rattle.turn_client_proto_steps.specs.RunSteps.{IsRunStep}

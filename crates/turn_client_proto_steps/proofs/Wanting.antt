@@ -4,12 +4,12 @@ use Rattle.std.specs.List.{find}
 use Rattle.std.specs.Option.{option_and_then, option_map, option_or}
 use Rattle.std.specs.declared.net.ip_addr.IpAddr.{IpAddr}
 use Rattle.std.specs.declared.net.socket_addr.SocketAddr.{SocketAddr}
-use Rattle.turn_client_proto_poll.specs.Allocation.Refreshing.{wants_refresh}
-use Rattle.turn_client_proto_poll.specs.Channel.Channels.{wants_renewal}
-use Rattle.turn_client_proto_poll.specs.Channel.Wanting as channels
-use Rattle.turn_client_proto_poll.specs.Permission.Wanting as permissions
-use Rattle.turn_client_proto_poll.specs.Wanting.{want, wanted, wants}
-use Rattle.turn_client_proto_poll.specs.declared.wanting.Want.TheVariants as what
+use Rattle.turn_client_proto_data.specs.Allocation.Refreshing.{wants_refresh}
+use Rattle.turn_client_proto_data.specs.Channel.Channels.{wants_renewal}
+use Rattle.turn_client_proto_data.specs.Channel.Wanting as channels
+use Rattle.turn_client_proto_data.specs.Permission.Wanting as permissions
+use Rattle.turn_client_proto_data.specs.Wanting.{want, wanted, wants}
+use Rattle.turn_client_proto_data.specs.Want.TheVariants as what
 use Rattle.turn_client_proto_steps.specs.Held.{Allocation, Channel}
 use Rattle.turn_client_proto_steps.specs.RunClient.{Parts}
 use Rattle.turn_client_proto_steps.specs.Sound.{IsOrderly, IsWhole}

@@ -2,7 +2,7 @@
 use Rattle.std.specs.Prelude.{ℕ, List, []}
 use Rattle.rand_chacha.specs.ChaCha.{of_seed}
 use Rattle.stun_types.specs.Credentials.{NameAndPassword}
-use Rattle.turn_client_proto_poll.specs.Core.declared.protocol.Protocol.{Protocol}
+use Rattle.turn_client_proto_data.specs.Core.declared.protocol.Protocol.{Protocol}
 use Rattle.turn_client_proto_steps.specs.RunClient.{Client}
 use Rattle.turn_client_proto_steps.specs.Sound.{stream_from}
 

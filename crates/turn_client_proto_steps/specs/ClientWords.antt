@@ -7,15 +7,15 @@ use Rattle.std.specs.declared.net.socket_addr.SocketAddr.{SocketAddr}
 use Rattle.stun_types.specs.Grammar.{number_at}
 use Rattle.stun_proto.specs.Agents.{Transaction}
 use Rattle.stun_proto.specs.State.{Agent}
-use Rattle.turn_client_proto_poll.specs.Members.{IsIn}
-use Rattle.turn_client_proto_poll.specs.Messages as run
-use Rattle.turn_client_proto_poll.specs.Words.{ClientWords, DeskWords, Words}
-use Rattle.turn_client_proto_poll.specs.StunWire.{stun_wire}
+use Rattle.turn_client_proto_data.specs.Members.{IsIn}
+use Rattle.turn_client_proto_data.specs.Messages as run
+use Rattle.turn_client_proto_data.specs.Words.{ClientWords, DeskWords, Words}
+use Rattle.turn_client_proto_data.specs.StunWire.{stun_wire}
 use Rattle.turn_client_proto_steps.specs.Held.{Allocation, Binding, Channel, Connecting, Connection, PendingChannel, PendingPermission, PendingRefresh, Permission, Waiting}
-use Rattle.turn_client_proto_poll.specs.Api.declared.event.TurnEvent.{TurnEvent}
-use Rattle.turn_client_proto_poll.specs.Api.declared.event.TurnEvent.TheVariants.{AllocationCreated, AllocationCreateFailed, PermissionCreated, PermissionCreateFailed, ChannelCreated, ChannelCreateFailed, TcpConnected, TcpConnectFailed}
-use Rattle.turn_client_proto_poll.specs.Core.Authenticating.{numbers_sent}
-use Rattle.turn_client_proto_poll.specs.Core.Waiting.{Queued}
+use Rattle.turn_client_proto_data.specs.Api.declared.event.TurnEvent.{TurnEvent}
+use Rattle.turn_client_proto_data.specs.Api.declared.event.TurnEvent.TheVariants.{AllocationCreated, AllocationCreateFailed, PermissionCreated, PermissionCreateFailed, ChannelCreated, ChannelCreateFailed, TcpConnected, TcpConnectFailed}
+use Rattle.turn_client_proto_data.specs.Core.Authenticating.{numbers_sent}
+use Rattle.turn_client_proto_data.specs.Core.Waiting.{Queued}
 use Rattle.turn_client_proto_steps.specs.RunClient.{Client, Parts, numbers_between, parts_of}
 
 -- ---- requests

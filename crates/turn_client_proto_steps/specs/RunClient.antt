@@ -6,10 +6,10 @@ use Rattle.stun_types.specs.Credentials.{NameAndPassword}
 use Rattle.stun_types.specs.Generated.{number_words}
 use Rattle.stun_types.specs.declared.transport.TransportType.{TransportType}
 use Rattle.stun_proto.specs.State.{Agent}
-use Rattle.turn_client_proto_poll.specs.Allocation.declared.allocation.Allocation.{Allocation}
-use Rattle.turn_client_proto_poll.specs.Core.Waiting.{Queued}
-use Rattle.turn_client_proto_poll.specs.Core.declared.protocol.Phase.{Phase}
-use Rattle.turn_client_proto_poll.specs.Core.declared.protocol.Protocol.{Protocol}
+use Rattle.turn_client_proto_data.specs.Allocation.declared.allocation.Allocation.{Allocation}
+use Rattle.turn_client_proto_data.specs.Core.Waiting.{Queued}
+use Rattle.turn_client_proto_data.specs.Core.declared.protocol.Phase.{Phase}
+use Rattle.turn_client_proto_data.specs.Core.declared.protocol.Protocol.{Protocol}
 
 -- a client in a run: whose it is, which stream its numbers are drawn from, and how many were so far; what its
 -- protocol core keeps; and the whole frames that came over TCP and wait, the oldest first

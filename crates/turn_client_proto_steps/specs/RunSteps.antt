@@ -1,8 +1,8 @@
 -- A call of a client as a step of a run.
 use Rattle.std.specs.Prelude.{◌≡◌, ℕ, List, [], ◌∷◌, Option, None}
-use Rattle.turn_client_proto_poll.specs.Messages.{Notice, Payload}
-use Rattle.turn_client_proto_poll.specs.Steps.{Call, ClientStep}
-use Rattle.turn_client_proto_poll.specs.Core.declared.protocol.Protocol.{Protocol}
+use Rattle.turn_client_proto_data.specs.Messages.{Notice, Payload}
+use Rattle.turn_client_proto_data.specs.Steps.{Call, ClientStep}
+use Rattle.turn_client_proto_data.specs.Core.declared.protocol.Protocol.{Protocol}
 use Rattle.turn_client_proto_steps.specs.ClientWords.{client_words}
 use Rattle.turn_client_proto_steps.specs.RunClient.{Client}
 use Rattle.turn_client_proto_steps.specs.Sound.{IsSound}

@@ -12,16 +12,16 @@ use Rattle.stun_proto.specs.Agents.{Transaction}
 use Rattle.stun_proto.specs.Numbers.{ShowsNumbers}
 use Rattle.stun_proto.specs.State.{Agent}
 use Rattle.turn_types.specs.TurnRegistry.{allocate_method}
-use Rattle.turn_client_proto_poll.specs.Members.{IsIn}
+use Rattle.turn_client_proto_data.specs.Members.{IsIn}
 use Rattle.std.specs.Net.Socket.{IsSocketAddr, socket_flowinfo, socket_scope_id}
 use Rattle.std.specs.declared.net.socket_addr.SocketAddr.{SocketAddr}
-use Rattle.turn_client_proto_poll.specs.Channel.Numbers.{AreDistinct}
-use Rattle.turn_client_proto_poll.specs.Messages.{Asks, Gain, Held, Holds, Knows, Permission, Channel as ChannelHeld}
-use Rattle.turn_client_proto_poll.specs.StunWire.{told_by}
-use Rattle.turn_client_proto_poll.specs.Core.Waiting.{Queued}
-use Rattle.turn_client_proto_poll.specs.Core.declared.protocol.Phase.{Phase}
-use Rattle.turn_client_proto_poll.specs.Core.declared.protocol.Phase.TheVariants.{Initial, InitialSent, Authenticating, Authenticated, Ended}
-use Rattle.turn_client_proto_poll.specs.Request.ShortTexts.{HasShortTexts}
+use Rattle.turn_client_proto_data.specs.Channel.Numbers.{AreDistinct}
+use Rattle.turn_client_proto_data.specs.Messages.{Asks, Gain, Held, Holds, Knows, Permission, Channel as ChannelHeld}
+use Rattle.turn_client_proto_data.specs.StunWire.{told_by}
+use Rattle.turn_client_proto_data.specs.Core.Waiting.{Queued}
+use Rattle.turn_client_proto_data.specs.Core.declared.protocol.Phase.{Phase}
+use Rattle.turn_client_proto_data.specs.Core.declared.protocol.Phase.TheVariants.{Initial, InitialSent, Authenticating, Authenticated, Ended}
+use Rattle.turn_client_proto_data.specs.Request.ShortTexts.{HasShortTexts}
 use Rattle.turn_client_proto_steps.specs.Held.{Allocation, Channel, Connecting, PendingChannel, PendingPermission, PendingRefresh}
 use Rattle.turn_client_proto_steps.specs.RunClient.{Client, Parts, parts_of}
 

@@ -9,26 +9,30 @@ ghost use Rattle.std.specs.Prelude.{◌≡◌, ◌≢◌, ℕ, List, Bool, Optio
 ghost use Rattle.std.specs.declared.net.ip_addr.IpAddr.{IpAddr};
 ghost use Rattle.std.specs.declared.net.socket_addr.SocketAddr.{SocketAddr};
 ghost use Rattle.stun_types.specs.declared.transport.TransportType.{TransportType};
-ghost use Rattle.turn_client_proto_poll.specs.Api.declared.answer.TurnPollRet.{TurnPollRet};
-ghost use Rattle.turn_client_proto_poll.specs.Api.declared.answer.TurnPollRet.TheVariants as poll;
-ghost use Rattle.turn_client_proto_poll.specs.Api.declared.error.BindChannelError.{BindChannelError};
-ghost use Rattle.turn_client_proto_poll.specs.Api.declared.error.BindChannelError.TheVariants as channel;
-ghost use Rattle.turn_client_proto_poll.specs.Api.declared.error.CreatePermissionError.{CreatePermissionError};
-ghost use Rattle.turn_client_proto_poll.specs.Api.declared.error.CreatePermissionError.TheVariants as permission;
-ghost use Rattle.turn_client_proto_poll.specs.Api.declared.error.DeleteError.{DeleteError};
-ghost use Rattle.turn_client_proto_poll.specs.Api.declared.error.DeleteError.TheVariants as deletion;
-ghost use Rattle.turn_client_proto_poll.specs.Api.declared.error.SendError.{SendError};
-ghost use Rattle.turn_client_proto_poll.specs.Api.declared.error.TcpConnectError.{TcpConnectError};
-ghost use Rattle.turn_client_proto_poll.specs.Api.declared.error.TcpConnectError.TheVariants as connection;
-ghost use Rattle.turn_client_proto_poll.specs.Connecting.{IsConnectAnswered};
-ghost use Rattle.turn_client_proto_poll.specs.Core.Binding.{IsBindAnswered};
-ghost use Rattle.turn_client_proto_poll.specs.Core.Deleting.{IsDeleteAnswered};
-ghost use Rattle.turn_client_proto_poll.specs.Core.Permitting.{IsPermissionAnswered};
-ghost use Rattle.turn_client_proto_poll.specs.Core.Receiving.{IsHeard};
-ghost use Rattle.turn_client_proto_poll.specs.Core.declared.protocol.Protocol.{Protocol};
-ghost use Rattle.turn_client_proto_poll.specs.Drawing.{IsDrawn, Sent};
-ghost use Rattle.turn_client_proto_poll.specs.Polling.{IsPolled};
-ghost use Rattle.turn_client_proto_poll.specs.Sending.{IsSendAnswered};
+ghost use Rattle.turn_client_proto_data.specs.Api.declared.answer.TurnPollRet.{TurnPollRet};
+ghost use Rattle.turn_client_proto_data.specs.Api.declared.answer.TurnPollRet.TheVariants as poll;
+ghost use Rattle.turn_client_proto_data.specs.Api.declared.error.BindChannelError.{BindChannelError};
+ghost use Rattle.turn_client_proto_data.specs.Api.declared.error.BindChannelError.TheVariants as channel;
+ghost use Rattle.turn_client_proto_data.specs.Api.declared.error.CreatePermissionError.{CreatePermissionError};
+ghost use Rattle.turn_client_proto_data.specs.Api.declared.error.CreatePermissionError.TheVariants as permission;
+ghost use Rattle.turn_client_proto_data.specs.Api.declared.error.DeleteError.{DeleteError};
+ghost use Rattle.turn_client_proto_data.specs.Api.declared.error.DeleteError.TheVariants as deletion;
+ghost use Rattle.turn_client_proto_data.specs.Api.declared.error.SendError.{SendError};
+ghost use Rattle.turn_client_proto_data.specs.Api.declared.answer.Socket5Tuple.{Socket5Tuple};
+ghost use Rattle.turn_client_proto_data.specs.Api.declared.error.TcpAllocateError.{TcpAllocateError};
+ghost use Rattle.turn_client_proto_data.specs.Api.declared.error.TcpAllocateError.TheVariants as socket;
+ghost use Rattle.turn_client_proto_data.specs.Api.declared.error.TcpConnectError.{TcpConnectError};
+ghost use Rattle.turn_client_proto_data.specs.Api.declared.error.TcpConnectError.TheVariants as connection;
+ghost use Rattle.turn_client_proto_data.specs.Connecting.{IsConnectAnswered};
+ghost use Rattle.turn_client_proto_data.specs.Core.Binding.{IsBindAnswered};
+ghost use Rattle.turn_client_proto_data.specs.Core.Deleting.{IsDeleteAnswered};
+ghost use Rattle.turn_client_proto_data.specs.Core.Permitting.{IsPermissionAnswered};
+ghost use Rattle.turn_client_proto_data.specs.Core.Receiving.{IsHeard};
+ghost use Rattle.turn_client_proto_data.specs.Core.declared.protocol.Protocol.{Protocol};
+ghost use Rattle.turn_client_proto_data.specs.Drawing.{IsDrawn, Sent};
+ghost use Rattle.turn_client_proto_data.specs.Polling.{IsPolled};
+ghost use Rattle.turn_client_proto_data.specs.Sending.{IsSendAnswered};
+ghost use Rattle.turn_client_proto_data.specs.Sockets.{IsSocketAnswered};
 
 /// One message at one moment: whether it was for the client, and what the client is then, are one.
 /// No outcome of this relation is one of a client that was refused memory.
@@ -112,5 +116,17 @@ pub fn connecting_is_definite()
         → again ≢ Err connection.NoMemory
         → IsConnectAnswered old peer now answer one
         → IsConnectAnswered old peer now again other
+        → (answer ≡ again) × (one ≡ other) }
+{}
+
+/// One socket at one moment: what `allocated_tcp_socket` answers, and what the client is then, are one,
+/// unless memory was refused.
+pub fn socketing_is_definite()
+    ensures { (old one other : Protocol) (number : ℕ) (s : Socket5Tuple) (peer : SocketAddr)
+        (here : Option SocketAddr) (now : ℕ) (answer again : Result (Unit {0}) TcpAllocateError)
+        → answer ≢ Err socket.NoMemory
+        → again ≢ Err socket.NoMemory
+        → IsSocketAnswered old number s peer here now answer one
+        → IsSocketAnswered old number s peer here now again other
         → (answer ≡ again) × (one ≡ other) }
 {}

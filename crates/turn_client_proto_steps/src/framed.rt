@@ -4,12 +4,12 @@
 ghost use Rattle.std.specs.Prelude.{◌≡◌, ◌⊎◌, ℕ, List, [], ◌∷◌, Bool, None, Some};
 ghost use Rattle.stun_types.specs.Grammar.{refusal};
 ghost use Rattle.stun_types.specs.Headers.{AreBytes};
-ghost use Rattle.turn_client_proto_poll.specs.Core.Receiving.{IsHeard};
-ghost use Rattle.turn_client_proto_poll.specs.Core.declared.protocol.Protocol.{Protocol};
-ghost use Rattle.turn_client_proto_poll.specs.Members.{IsIn};
-ghost use Rattle.turn_client_proto_poll.specs.OfPeers.{told_of};
-ghost use Rattle.turn_client_proto_poll.specs.Payloads.{payload_of};
-ghost use Rattle.turn_client_proto_poll.specs.declared.payload.Payload.{Payload};
+ghost use Rattle.turn_client_proto_data.specs.Core.Receiving.{IsHeard};
+ghost use Rattle.turn_client_proto_data.specs.Core.declared.protocol.Protocol.{Protocol};
+ghost use Rattle.turn_client_proto_data.specs.Members.{IsIn};
+ghost use Rattle.turn_client_proto_data.specs.OfPeers.{told_of};
+ghost use Rattle.turn_client_proto_data.specs.Payloads.{payload_of};
+ghost use Rattle.turn_client_proto_data.specs.Payload.{Payload};
 ghost use Rattle.turn_client_proto_steps.specs.RunClient.{Client};
 ghost use Rattle.turn_client_proto_steps.specs.RunSteps.{IsComing, IsTakingUp};
 ghost use Rattle.turn_client_proto_steps.specs.Sound.{IsSound};

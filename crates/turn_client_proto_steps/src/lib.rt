@@ -17,19 +17,19 @@ ghost use Rattle.std.specs.declared.net.ip_addr.IpAddr.{IpAddr};
 ghost use Rattle.std.specs.declared.net.socket_addr.SocketAddr.{SocketAddr};
 ghost use Rattle.stun_types.specs.Registry.{longest_username};
 ghost use Rattle.stun_types.specs.declared.transport.TransportType.{TransportType};
-ghost use Rattle.turn_client_proto_poll.specs.Members.{IsIn};
-ghost use Rattle.turn_client_proto_poll.specs.Messages.{Allocation, Channel, Permission};
-ghost use Rattle.turn_client_proto_poll.specs.Runs.{IsNew as IsNewInRun};
-ghost use Rattle.turn_client_proto_poll.specs.Words.{DeskWords};
-ghost use Rattle.turn_client_proto_poll.specs.Allocation.Listed.{relayed_shown};
-ghost use Rattle.turn_client_proto_poll.specs.Api.Config.{Config};
-ghost use Rattle.turn_client_proto_poll.specs.Channel.Numbers.{AreDistinct};
-ghost use Rattle.turn_client_proto_poll.specs.Channel.Shown.{channels_shown};
-ghost use Rattle.turn_client_proto_poll.specs.Permission.Asking.{permits_over};
-ghost use Rattle.turn_client_proto_poll.specs.Permission.Shown.{addresses_of, permissions_at};
-ghost use Rattle.turn_client_proto_poll.specs.Core.Beginning.{IsNew};
-ghost use Rattle.turn_client_proto_poll.specs.Core.Binding.{IsBindAnswered};
-ghost use Rattle.turn_client_proto_poll.specs.Core.declared.protocol.Protocol.{Protocol};
+ghost use Rattle.turn_client_proto_data.specs.Members.{IsIn};
+ghost use Rattle.turn_client_proto_data.specs.Messages.{Allocation, Channel, Connection, Permission};
+ghost use Rattle.turn_client_proto_data.specs.Runs.{IsNew as IsNewInRun};
+ghost use Rattle.turn_client_proto_data.specs.Words.{DeskWords};
+ghost use Rattle.turn_client_proto_data.specs.Allocation.Listed.{relayed_shown};
+ghost use Rattle.turn_client_proto_data.specs.Api.Config.{Config};
+ghost use Rattle.turn_client_proto_data.specs.Channel.Numbers.{AreDistinct};
+ghost use Rattle.turn_client_proto_data.specs.Channel.Shown.{channels_shown};
+ghost use Rattle.turn_client_proto_data.specs.Permission.Asking.{permits_over};
+ghost use Rattle.turn_client_proto_data.specs.Permission.Shown.{addresses_of, permissions_at};
+ghost use Rattle.turn_client_proto_data.specs.Core.Beginning.{IsNew};
+ghost use Rattle.turn_client_proto_data.specs.Core.Binding.{IsBindAnswered};
+ghost use Rattle.turn_client_proto_data.specs.Core.declared.protocol.Protocol.{Protocol};
 ghost use Rattle.turn_client_proto_steps.specs.Beginning.{first_client};
 ghost use Rattle.turn_client_proto_steps.specs.ClientWords.{client_words, run_words, notice_of};
 ghost use Rattle.turn_client_proto_steps.specs.RunClient.{Client};
@@ -38,27 +38,32 @@ ghost use Rattle.std.specs.List.{filter_map, list_any};
 ghost use Rattle.std.specs.Option.{option_map};
 ghost use Rattle.stun_types.specs.Grammar.{refusal};
 ghost use Rattle.stun_types.specs.Headers.{AreBytes};
-ghost use Rattle.turn_client_proto_poll.specs.Api.declared.answer.TurnPollRet.{TurnPollRet};
-ghost use Rattle.turn_client_proto_poll.specs.Api.declared.error.BindChannelError.{BindChannelError};
-ghost use Rattle.turn_client_proto_poll.specs.Api.declared.error.CreatePermissionError.{CreatePermissionError};
-ghost use Rattle.turn_client_proto_poll.specs.Api.declared.error.DeleteError.{DeleteError};
-ghost use Rattle.turn_client_proto_poll.specs.Core.Permitting.{IsPermissionAnswered};
-ghost use Rattle.turn_client_proto_poll.specs.Api.declared.error.SendError.{SendError};
-ghost use Rattle.turn_client_proto_poll.specs.Api.declared.event.TurnEvent.{TurnEvent};
-ghost use Rattle.turn_client_proto_poll.specs.Core.Deleting.{IsDeleteAnswered};
-ghost use Rattle.turn_client_proto_poll.specs.Api.declared.error.TcpConnectError.{TcpConnectError};
-ghost use Rattle.turn_client_proto_poll.specs.Connecting.{IsConnectAnswered};
-ghost use Rattle.turn_client_proto_poll.specs.Drawing.{IsDrawn, Sent};
-ghost use Rattle.turn_client_proto_poll.specs.Core.Ending.{HasFailed, ended};
-ghost use Rattle.turn_client_proto_poll.specs.OfPeers.{told_of};
-ghost use Rattle.turn_client_proto_poll.specs.Payloads.{payload_of};
-ghost use Rattle.turn_client_proto_poll.specs.Polling.{IsPolled};
-ghost use Rattle.turn_client_proto_poll.specs.Sending.{IsSendAnswered};
-ghost use Rattle.turn_client_proto_poll.specs.declared.payload.Payload.{Payload};
-ghost use Rattle.turn_client_proto_poll.specs.Core.Receiving.{IsHeard};
+ghost use Rattle.turn_client_proto_data.specs.Api.declared.answer.TurnPollRet.{TurnPollRet};
+ghost use Rattle.turn_client_proto_data.specs.Api.declared.error.BindChannelError.{BindChannelError};
+ghost use Rattle.turn_client_proto_data.specs.Api.declared.error.CreatePermissionError.{CreatePermissionError};
+ghost use Rattle.turn_client_proto_data.specs.Api.declared.error.DeleteError.{DeleteError};
+ghost use Rattle.turn_client_proto_data.specs.Core.Permitting.{IsPermissionAnswered};
+ghost use Rattle.turn_client_proto_data.specs.Api.declared.error.SendError.{SendError};
+ghost use Rattle.turn_client_proto_data.specs.Api.declared.event.TurnEvent.{TurnEvent};
+ghost use Rattle.turn_client_proto_data.specs.Core.Deleting.{IsDeleteAnswered};
+ghost use Rattle.turn_client_proto_data.specs.Api.declared.answer.Socket5Tuple.{Socket5Tuple};
+ghost use Rattle.turn_client_proto_data.specs.Api.declared.error.TcpAllocateError.{TcpAllocateError};
+ghost use Rattle.turn_client_proto_data.specs.Api.declared.error.TcpConnectError.{TcpConnectError};
+ghost use Rattle.turn_client_proto_data.specs.Closing.{after_close};
+ghost use Rattle.turn_client_proto_data.specs.Connecting.{IsConnectAnswered};
+ghost use Rattle.turn_client_proto_data.specs.Connection.Shown.{connections_shown};
+ghost use Rattle.turn_client_proto_data.specs.Drawing.{IsDrawn, Sent};
+ghost use Rattle.turn_client_proto_data.specs.Core.Ending.{HasFailed, ended};
+ghost use Rattle.turn_client_proto_data.specs.OfPeers.{told_of};
+ghost use Rattle.turn_client_proto_data.specs.Payloads.{payload_of};
+ghost use Rattle.turn_client_proto_data.specs.Polling.{IsPolled};
+ghost use Rattle.turn_client_proto_data.specs.Sending.{IsSendAnswered};
+ghost use Rattle.turn_client_proto_data.specs.Sockets.{IsSocketAnswered};
+ghost use Rattle.turn_client_proto_data.specs.Payload.{Payload};
+ghost use Rattle.turn_client_proto_data.specs.Core.Receiving.{IsHeard};
 ghost use Rattle.turn_client_proto_steps.specs.RunSteps.{IsGiving, IsReceiving, IsRunStep, IsSilent};
 
-pub use turn_client_proto_poll as calls;
+pub use turn_client_proto_data as calls;
 
 /// What a run tells of a desk. It has no code; the law of new clients holds for every one.
 pub trait Desk {
@@ -120,6 +125,14 @@ pub fn shown_channels_are_held()
     ensures { (c : Client) (number : ℕ) (peer : SocketAddr)
         → IsIn (number, peer) (channels_shown c.core.allocations)
         → client_words.IsHeld c (Channel number peer) }
+{}
+
+/// The connections that a client shows as bound are held, in the words of a run, each by its own address,
+/// its peer and its number (`connections`).
+pub fn shown_connections_are_held()
+    ensures { (c : Client) (here peer : SocketAddr) (number : ℕ)
+        → IsIn (here, peer, number, true) (connections_shown c.core.allocations)
+        → client_words.IsHeld c (Connection here peer number) }
 {}
 
 /// No two channels of a sound client have one number, of those that stand and of those that were asked
@@ -190,6 +203,27 @@ pub fn connects_are_steps()
         → IsSound c
         → IsWhole peer
         → IsConnectAnswered c.core peer now answer new
+        → IsSilent c new }
+{}
+
+/// `allocated_tcp_socket` is a step in which a CONNECTION_BIND is made, where it is answered so. Where
+/// there is no socket, or it is refused, nothing is made; where memory is refused, the number that was
+/// drawn counts, and nothing else changes. Nothing is held in addition, for the connection is not bound
+/// yet; and its number was known with its very peer before (RFC 6062, section 4.3).
+pub fn sockets_are_steps()
+    ensures { (c : Client) (connection : ℕ) (socket : Socket5Tuple) (peer : SocketAddr)
+        (here : Option SocketAddr) (now : ℕ) (answer : Result (Unit {0}) TcpAllocateError)
+        (new : Protocol)
+        → IsSound c
+        → IsSocketAnswered c.core connection socket peer here now answer new
+        → IsSilent c new }
+{}
+
+/// `tcp_closed` is a step in which nothing is asked for and nothing gained: a connection may go.
+pub fn closings_are_steps()
+    ensures { (c : Client) (here server : SocketAddr) (new : Protocol)
+        → IsSound c
+        → new ≡ after_close here server c.core
         → IsSilent c new }
 {}
 

@@ -7,7 +7,8 @@ use turn_client_proto_api::Instant;
 use turn_client_proto_api::answer::Socket5Tuple;
 use turn_client_proto_api::data::TurnPeerData;
 use turn_client_proto_api::error::{
-    BindChannelError, CreatePermissionError, DeleteError, SendError, TcpConnectError,
+    BindChannelError, CreatePermissionError, DeleteError, SendError, TcpAllocateError,
+    TcpConnectError,
 };
 use turn_client_proto_api::event::TurnEvent;
 
@@ -22,6 +23,8 @@ pub enum Refusal {
     BindChannel(BindChannelError),
     /// Why no connection is asked for.
     TcpConnect(TcpConnectError),
+    /// Why a socket is not taken.
+    TcpAllocate(TcpAllocateError),
     /// Why nothing is sent to a peer.
     Send(SendError),
 }
@@ -88,6 +91,8 @@ pub enum Answer {
     Permissions(Vec<IpAddr>),
     /// The channels that stand, each with its number and its peer.
     Channels(Vec<(u16, SocketAddr)>),
+    /// The data connections, each with its own address, its peer, its number, and whether it is bound.
+    Connections(Vec<(SocketAddr, SocketAddr, u32, bool)>),
     /// There is no client, or the moment is past `CLIENT_END`. Nothing was done.
     OutOfRange,
 }

@@ -26,6 +26,13 @@ pub enum ClientCall {
     Channels,
     /// `tcp_connect` to the peer.
     TcpConnect(SocketAddr),
+    /// `allocated_tcp_socket` for the connection of this number and to this peer, with the own address
+    /// of the socket that was opened, or none. The five-tuple is that of the client's own connection.
+    AllocatedTcpSocket(u32, SocketAddr, Option<SocketAddr>),
+    /// `tcp_closed` of the socket with this own address and this other side.
+    TcpClosed(SocketAddr, SocketAddr),
+    /// `connections`.
+    Connections,
     /// `send_to` the peer, over this transport between the server and the peers, of these bytes.
     SendTo(TransportType, SocketAddr, Vec<u8>),
     /// `poll_recv`.

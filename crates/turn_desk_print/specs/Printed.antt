@@ -13,6 +13,8 @@ use Rattle.stun_types.specs.declared.transport.TransportType.{TransportType}
 use Rattle.stun_types.specs.declared.transport.TransportType.TheVariants.{Udp, Tcp}
 use Rattle.turn_desk_event.specs.declared.error.BindChannelError.{BindChannelError}
 use Rattle.turn_desk_event.specs.declared.error.BindChannelError.TheVariants as Binds
+use Rattle.turn_desk_event.specs.declared.error.TcpAllocateError.{TcpAllocateError}
+use Rattle.turn_desk_event.specs.declared.error.TcpAllocateError.TheVariants as Sockets
 use Rattle.turn_desk_event.specs.declared.error.TcpConnectError.{TcpConnectError}
 use Rattle.turn_desk_event.specs.declared.error.TcpConnectError.TheVariants as Connects
 use Rattle.turn_desk_event.specs.declared.error.CreatePermissionError.{CreatePermissionError}
@@ -26,7 +28,7 @@ use Rattle.turn_desk_event.specs.declared.api_event.TurnEvent.TheVariants as Eve
 use Rattle.turn_desk_event.specs.declared.answer.Answer.{Answer}
 use Rattle.turn_desk_event.specs.declared.answer.Answer.TheVariants as Answers
 use Rattle.turn_desk_event.specs.declared.answer.Refusal.{Refusal}
-use Rattle.turn_desk_event.specs.declared.answer.Refusal.TheVariants.{BindChannel, CreatePermission, Delete, Send, TcpConnect}
+use Rattle.turn_desk_event.specs.declared.answer.Refusal.TheVariants.{BindChannel, CreatePermission, Delete, Send, TcpAllocate, TcpConnect}
 
 -- the word for a transport
 abbrev pub transport_word : TransportType → List ℕ
@@ -79,6 +81,12 @@ connect_error_text Connects.NoAllocation = codes "NoAllocation"
 connect_error_text Connects.NoPermission = codes "NoPermission"
 connect_error_text Connects.NoMemory = codes "NoMemory"
 
+-- why a socket is not taken
+abbrev pub socket_error_text : TcpAllocateError → List ℕ
+socket_error_text Sockets.AlreadyExists = codes "AlreadyExists"
+socket_error_text Sockets.NoAllocation = codes "NoAllocation"
+socket_error_text Sockets.NoMemory = codes "NoMemory"
+
 -- why nothing is sent to a peer
 abbrev pub send_error_text : SendError → List ℕ
 send_error_text Sends.NoAllocation = codes "NoAllocation"
@@ -93,6 +101,7 @@ refusal_text (Delete error) = delete_error_text error
 refusal_text (CreatePermission error) = permission_error_text error
 refusal_text (BindChannel error) = bind_error_text error
 refusal_text (TcpConnect error) = connect_error_text error
+refusal_text (TcpAllocate error) = socket_error_text error
 refusal_text (Send error) = send_error_text error
 
 -- whether a permission stands
@@ -111,6 +120,16 @@ permitted_text ip = codes " " ++ ip_text ip
 -- a channel's number and its peer, each behind a space
 abbrev pub channel_text : ℕ × SocketAddr → List ℕ
 channel_text channel = codes " " ++ decimal channel.0 ++ codes " " ++ socket_text channel.1
+
+-- whether a connection is bound
+abbrev pub bound_text : Bool → List ℕ
+bound_text true = codes "bound"
+bound_text false = codes "waiting"
+
+-- a connection's own address, its peer, its number and whether it is bound, each behind a space
+abbrev pub connection_text : SocketAddr × SocketAddr × ℕ × Bool → List ℕ
+connection_text c = codes " " ++ socket_text c.0 ++ codes " " ++ socket_text c.1 ++ codes " " ++ decimal c.2
+    ++ codes " " ++ bound_text c.3
 
 -- two addresses with a space between
 abbrev pub between_text : SocketAddr → SocketAddr → List ℕ
@@ -144,6 +163,7 @@ answer_words (Answers.Have stands) = have_text stands
 answer_words (Answers.Relayed list) = codes "relayed" ++ flat_map relayed_text list.items
 answer_words (Answers.Permissions list) = codes "permissions" ++ flat_map permitted_text list.items
 answer_words (Answers.Channels list) = codes "channels" ++ flat_map channel_text list.items
+answer_words (Answers.Connections list) = codes "connections" ++ flat_map connection_text list.items
 answer_words Answers.OutOfRange = codes "out of range"
 
 -- the printed line of an answer

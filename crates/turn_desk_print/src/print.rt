@@ -4,7 +4,7 @@ ghost use Rattle.std.specs.Prelude.{◌≡◌, ◌++◌, IfOk, OnOk, codes, deci
 ghost use Rattle.std.specs.List.{flat_map};
 ghost use Rattle.std.specs.Net.Text.{socket_text};
 ghost use Rattle.program_lines.specs.LowerHex.{hex_text};
-ghost use Rattle.turn_desk_print.specs.Printed.{answer_text, answer_words, between_text, bind_error_text, channel_text, delete_error_text, event_text, family_word, have_text, icmp_text, permission_error_text, permitted_text, placed_text, refusal_text, relayed_text, send_error_text, transport_word, connect_error_text};
+ghost use Rattle.turn_desk_print.specs.Printed.{answer_text, answer_words, between_text, bind_error_text, channel_text, connection_text, delete_error_text, event_text, family_word, have_text, icmp_text, permission_error_text, permitted_text, placed_text, refusal_text, relayed_text, send_error_text, socket_error_text, transport_word, bound_text, connect_error_text};
 
 use program_lines::lower_hex::write_hex;
 use std::alloc::{AllocError, Global};
@@ -14,7 +14,8 @@ use turn_desk_event::answer::{Answer, Refusal};
 use turn_desk_event::api_answer::Socket5Tuple;
 use turn_desk_event::api_event::TurnEvent;
 use turn_desk_event::error::{
-    BindChannelError, CreatePermissionError, DeleteError, SendError, TcpConnectError,
+    BindChannelError, CreatePermissionError, DeleteError, SendError, TcpAllocateError,
+    TcpConnectError,
 };
 
 /// The line that an answer is printed as, with its line feed. Where memory is refused,
@@ -56,6 +57,7 @@ fn print_words(alloc: Global, answer: &Answer) -> Result<String, AllocError>
         Answer::Relayed(list) => print_relayed(alloc, list.as_slice()),
         Answer::Permissions(list) => print_permissions(alloc, list.as_slice()),
         Answer::Channels(list) => print_channels(alloc, list.as_slice()),
+        Answer::Connections(list) => print_connections(alloc, list.as_slice()),
         Answer::OutOfRange => String::from_str(alloc, "out of range"),
     }
 }
@@ -247,6 +249,42 @@ fn push_channel(
     text.push_str(words.as_str())
 }
 
+/// `connections`, and of each the own address, the peer, the number and whether it is bound.
+fn print_connections(
+    alloc: Global,
+    list: &[(SocketAddr, SocketAddr, u32, bool)],
+) -> Result<String, AllocError>
+    ensures { IfOk result (λ text. string_bytes text
+        ≡ codes "connections" ++ flat_map connection_text list.now) }
+{
+    let mut text = String::from_str(alloc, "connections")?;
+    for connection in list {
+        push_connection(alloc, &mut text, *connection)?;
+    }
+    Ok(text)
+}
+
+/// Appends what is shown of a connection, each word behind a space.
+fn push_connection(
+    alloc: Global,
+    text: &mut String,
+    connection: (SocketAddr, SocketAddr, u32, bool),
+) -> Result<(), AllocError>
+    ensures { OnOk result (string_bytes text.new
+        ≡ string_bytes text.old ++ connection_text connection) }
+{
+    let (here, peer, number, is_bound) = connection;
+    let words = format!(in alloc; " {here} {peer} {number} {}", name_of_bound(is_bound))?;
+    text.push_str(words.as_str())
+}
+
+/// The word for whether a connection is bound.
+fn name_of_bound(is_bound: bool) -> &'static str
+    ensures { result.now ≡ bound_text is_bound }
+{
+    if is_bound { "bound" } else { "waiting" }
+}
+
 /// `refused NAME`, and behind the name of an expired channel its moment.
 fn print_refusal(alloc: Global, refusal: Refusal) -> Result<String, AllocError>
     ensures { IfOk result (λ text. string_bytes text ≡ codes "refused " ++ refusal_text refusal) }
@@ -258,6 +296,7 @@ fn print_refusal(alloc: Global, refusal: Refusal) -> Result<String, AllocError>
         }
         Refusal::BindChannel(error) => print_bind_refusal(alloc, error),
         Refusal::TcpConnect(error) => format!(in alloc; "refused {}", name_of_connect_error(error)),
+        Refusal::TcpAllocate(error) => format!(in alloc; "refused {}", name_of_socket_error(error)),
         Refusal::Send(error) => format!(in alloc; "refused {}", name_of_send_error(error)),
     }
 }
@@ -270,6 +309,17 @@ fn name_of_connect_error(error: TcpConnectError) -> &'static str
         TcpConnectError::AlreadyExists => "AlreadyExists",
         TcpConnectError::NoAllocation => "NoAllocation",
         TcpConnectError::NoPermission => "NoPermission",
+        _ => "NoMemory",
+    }
+}
+
+/// The name of the reason for which a socket is not taken.
+fn name_of_socket_error(error: TcpAllocateError) -> &'static str
+    ensures { result.now ≡ socket_error_text error }
+{
+    match error {
+        TcpAllocateError::AlreadyExists => "AlreadyExists",
+        TcpAllocateError::NoAllocation => "NoAllocation",
         _ => "NoMemory",
     }
 }

@@ -11,7 +11,7 @@ use Rattle.turn_desk_trace.specs.declared.line.Line.TheVariants.{Setup, Event}
 use Rattle.turn_desk_trace.specs.declared.setup.Setup.{Setup as SettingUp}
 use Rattle.turn_desk_trace.specs.declared.setup.Setup.TheVariants.{Desk, User, Rto, Client}
 use Rattle.turn_desk_world.specs.declared.event.ClientCall.{ClientCall}
-use Rattle.turn_desk_world.specs.declared.event.ClientCall.TheVariants.{Poll, PollEvent, Delete, CreatePermission, HavePermission, Permissions, BindChannel, Channels, SendTo, PollRecv, ProtocolError, RelayedAddresses, TcpConnect}
+use Rattle.turn_desk_world.specs.declared.event.ClientCall.TheVariants.{Poll, PollEvent, Delete, CreatePermission, HavePermission, Permissions, BindChannel, Channels, SendTo, PollRecv, ProtocolError, RelayedAddresses, TcpConnect, AllocatedTcpSocket, TcpClosed, Connections}
 use Rattle.turn_desk_world.specs.declared.event.Event.{Event as Happening}
 use Rattle.turn_desk_world.specs.declared.event.Event.TheVariants.{Call, Draw, ToClient, ToDesk}
 use Rattle.turn_desk_world.specs.Model.{World}
@@ -31,7 +31,7 @@ third (a ∷ b ∷ c ∷ rest) = c
 
 -- which of the words are `desk`, `rto`, `client` and `user`; and which is not `todesk`
 abbrev sets_up : List ℕ → Bool
-sets_up name = (third name == 115) || (third name == 111) || (third name == 105) || ((third name == 101) && (first name == 117))
+sets_up name = (third name == 115) || ((third name == 111) && (first name == 114)) || (third name == 105) || ((third name == 101) && (first name == 117))
 
 abbrev is_client : List ℕ → Bool
 is_client name = not (third name == 100)
@@ -52,6 +52,9 @@ call_name name rest (HavePermission transport ip) moment is = (ap sets_up is.0, 
 call_name name rest (Permissions transport socket) moment is = (ap sets_up is.0, ap is_client is.0)
 call_name name rest (BindChannel transport peer) moment is = (ap sets_up is.0, ap is_client is.0)
 call_name name rest (TcpConnect peer) moment is = (ap sets_up is.0, ap is_client is.0)
+call_name name rest (AllocatedTcpSocket connection peer here) moment is = (ap sets_up is.0, ap is_client is.0)
+call_name name rest (TcpClosed here there) moment is = (ap sets_up is.0, ap is_client is.0)
+call_name name rest Connections moment is = (ap sets_up is.0, ap is_client is.0)
 call_name name rest Channels moment is = (ap sets_up is.0, ap is_client is.0)
 call_name name rest (SendTo transport to bytes) moment is = absurd is
 call_name name rest PollRecv moment is = (ap sets_up is.0, ap is_client is.0)

@@ -24,6 +24,7 @@ answered_bytes (Answers.Have stands) = None
 answered_bytes (Answers.Relayed list) = None
 answered_bytes (Answers.Permissions list) = None
 answered_bytes (Answers.Channels list) = None
+answered_bytes (Answers.Connections list) = None
 answered_bytes Answers.OutOfRange = None
 
 -- the bytes, or none

@@ -1,16 +1,16 @@
 -- Event lines of a trace.
-use Rattle.std.specs.Prelude.{ℕ, ◌≡◌, List, [], ◌∷◌, ◌⊎◌, Some, codes}
+use Rattle.std.specs.Prelude.{ℕ, ◌≡◌, List, [], ◌∷◌, ◌⊎◌, Option, Some, None, codes}
 use Rattle.std.specs.Net.Grammar.{IsIpText, IsSocketText}
 use Rattle.std.specs.declared.net.ip_addr.IpAddr.{IpAddr}
 use Rattle.std.specs.declared.net.socket_addr.SocketAddr.{SocketAddr}
 use Rattle.stun_types.specs.declared.transport.TransportType.{TransportType}
 use Rattle.turn_desk_event.specs.declared.event.ClientCall.{ClientCall}
-use Rattle.turn_desk_event.specs.declared.event.ClientCall.TheVariants.{Poll, PollEvent, Delete, CreatePermission, HavePermission, Permissions, BindChannel, Channels, SendTo, PollRecv, ProtocolError, RelayedAddresses, TcpConnect}
+use Rattle.turn_desk_event.specs.declared.event.ClientCall.TheVariants.{Poll, PollEvent, Delete, CreatePermission, HavePermission, Permissions, BindChannel, Channels, SendTo, PollRecv, ProtocolError, RelayedAddresses, TcpConnect, AllocatedTcpSocket, TcpClosed, Connections}
 use Rattle.turn_desk_event.specs.declared.event.Event.{Event}
 use Rattle.turn_desk_event.specs.declared.event.Event.TheVariants.{Call, Draw, ToClient, ToDesk}
 use Rattle.turn_desk_print.specs.Printed.{transport_word}
 use Rattle.turn_desk_trace.specs.Bytes.{named_bytes}
-use Rattle.turn_desk_trace.specs.Decision.{IsDecision}
+use Rattle.turn_desk_trace.specs.Decision.{IsDecision, IsU32}
 use Rattle.turn_desk_trace.specs.TraceNumbers.{number, seed_of}
 
 -- the words are one, and it spells this moment
@@ -57,6 +57,23 @@ IsConnect (now ∷ []) peer moment = ⊥
 IsConnect (now ∷ address ∷ []) peer moment = (number now ≡ Some moment) × IsSocketText address peer
 IsConnect (now ∷ address ∷ more ∷ rest) peer moment = ⊥
 
+-- the word spells the own address of a socket, or that there is none
+abbrev pub IsSocket : List ℕ → Option SocketAddr → Type 0
+IsSocket word None = word ≡ codes "none"
+IsSocket word (Some here) = IsSocketText word here
+
+-- the words behind `socket` spell a moment, a number, a peer and a socket
+abbrev pub IsAllocated : List (List ℕ) → ℕ → SocketAddr → Option SocketAddr → ℕ → Type 0
+IsAllocated (now ∷ id ∷ address ∷ local ∷ []) connection peer here moment =
+    (number now ≡ Some moment) × IsU32 id connection × IsSocketText address peer × IsSocket local here
+IsAllocated words connection peer here moment = ⊥
+
+-- the words behind `closed` spell a moment, an own address and that of the other side
+abbrev pub IsClosed : List (List ℕ) → (here there : SocketAddr) → ℕ → Type 0
+IsClosed (now ∷ local ∷ remote ∷ []) here there moment =
+    (number now ≡ Some moment) × IsSocketText local here × IsSocketText remote there
+IsClosed words here there moment = ⊥
+
 -- a name and the words behind it spell a call of the client at a moment; one that sends bytes is spelled below
 abbrev pub IsCall : List ℕ → List (List ℕ) → ClientCall → ℕ → Type 0
 IsCall name rest Poll moment = (name ≡ codes "poll") × IsMoment rest moment
@@ -71,6 +88,10 @@ IsCall name rest (Permissions transport socket) moment =
 IsCall name rest (BindChannel transport peer) moment =
     (name ≡ codes "bind") × IsBind rest transport peer moment
 IsCall name rest (TcpConnect peer) moment = (name ≡ codes "connect") × IsConnect rest peer moment
+IsCall name rest (AllocatedTcpSocket connection peer here) moment =
+    (name ≡ codes "socket") × IsAllocated rest connection peer here moment
+IsCall name rest (TcpClosed here there) moment = (name ≡ codes "closed") × IsClosed rest here there moment
+IsCall name rest Connections moment = (name ≡ codes "connections") × IsNoMoment rest moment
 IsCall name rest Channels moment = (name ≡ codes "channels") × IsNoMoment rest moment
 IsCall name rest (SendTo transport to bytes) moment = ⊥
 IsCall name rest PollRecv moment = (name ≡ codes "recv") × IsMoment rest moment

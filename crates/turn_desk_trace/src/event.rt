@@ -1,18 +1,18 @@
 //! Event lines: what happens to the client or to the desk.
 
-ghost use Rattle.std.specs.Prelude.{◌≡◌, ℕ, Err, IfOk, MatchOption, map};
+ghost use Rattle.std.specs.Prelude.{◌≡◌, ℕ, Err, IfOk, MatchOption, Option, map};
 ghost use Rattle.std.specs.declared.net.ip_addr.IpAddr.{IpAddr};
 ghost use Rattle.std.specs.declared.net.socket_addr.SocketAddr.{SocketAddr};
 ghost use Rattle.stun_types.specs.declared.transport.TransportType.{TransportType};
 ghost use Rattle.turn_desk_event.specs.declared.event.ClientCall.{ClientCall};
 ghost use Rattle.turn_desk_event.specs.declared.event.Event.{Event};
-ghost use Rattle.turn_desk_trace.specs.Event.{IsBind, IsCall, IsEvent, IsMoment, IsNoMoment, IsPermission, IsPlacedIp, IsPlacedSocket, IsSend, IsToClient, IsToClientFrom, IsToClientOf, IsToDesk, IsToDeskFrom, IsToDeskOf, IsConnect};
+ghost use Rattle.turn_desk_trace.specs.Event.{IsBind, IsCall, IsEvent, IsMoment, IsNoMoment, IsPermission, IsPlacedIp, IsPlacedSocket, IsSend, IsToClient, IsToClientFrom, IsToClientOf, IsToDesk, IsToDeskFrom, IsToDeskOf, IsConnect, IsAllocated, IsClosed, IsSocket};
 
 use crate::address::{read_address, read_ip, read_transport};
 use crate::bytes::read_bytes;
 use crate::decision::read_decision;
 use crate::named::Named;
-use crate::number::{read_seed, read_u64};
+use crate::number::{read_seed, read_u32, read_u64};
 use program_lines::refusal::LineError;
 use std::alloc::Global;
 use std::net::{IpAddr, SocketAddr};
@@ -256,6 +256,15 @@ fn read_call(name: &str, words: &[&str]) -> Option<(ClientCall, Instant)>
             let (peer, now) = read_connect(words)?;
             Some((ClientCall::TcpConnect(peer), now))
         }
+        "socket" => {
+            let (id, peer, local, now) = read_allocated(words)?;
+            Some((ClientCall::AllocatedTcpSocket(id, peer, local), now))
+        }
+        "closed" => {
+            let (local, remote, now) = read_closed(words)?;
+            Some((ClientCall::TcpClosed(local, remote), now))
+        }
+        "connections" => Some((ClientCall::Connections, read_no_moment(words)?)),
         "recv" => Some((ClientCall::PollRecv, read_moment(words)?)),
         "error" => Some((ClientCall::ProtocolError, read_no_moment(words)?)),
         "relayed" => Some((ClientCall::RelayedAddresses, read_no_moment(words)?)),
@@ -333,6 +342,52 @@ fn read_connect(words: &[&str]) -> Option<(SocketAddr, Instant)>
             (Some(now), Some(peer)) => Some((peer, Instant::from_nanos(now))),
             _ => None,
         },
+        _ => None,
+    }
+}
+
+/// The own address of a socket, or that there is none.
+fn read_socket(word: &str) -> Option<Option<SocketAddr>>
+    ensures { MatchOption result ((here : Option SocketAddr) → ¬ (IsSocket word.now here))
+        (IsSocket word.now) }
+{
+    match word {
+        "none" => Some(None),
+        _ => match read_address(word) {
+            Some(here) => Some(Some(here)),
+            None => None,
+        },
+    }
+}
+
+/// The number, the peer, the socket and the moment of a line that begins with `socket`, from the
+/// words behind it.
+fn read_allocated(words: &[&str]) -> Option<(u32, SocketAddr, Option<SocketAddr>, Instant)>
+    ensures { MatchOption result ((id : ℕ) (peer : SocketAddr) (here : Option SocketAddr) (moment : ℕ)
+        → ¬ (IsAllocated (map (λ x. x.now) words.now) id peer here moment))
+        (λ read. IsAllocated (map (λ x. x.now) words.now) read.0 read.1 read.2 read.3) }
+{
+    match words {
+        [now, id, peer, local] => {
+            let now = Instant::from_nanos(read_u64(now)?);
+            Some((read_u32(id)?, read_address(peer)?, read_socket(local)?, now))
+        }
+        _ => None,
+    }
+}
+
+/// The own address, that of the other side and the moment of a line that begins with `closed`, from the
+/// words behind it.
+fn read_closed(words: &[&str]) -> Option<(SocketAddr, SocketAddr, Instant)>
+    ensures { MatchOption result ((here there : SocketAddr) (moment : ℕ)
+        → ¬ (IsClosed (map (λ x. x.now) words.now) here there moment))
+        (λ read. IsClosed (map (λ x. x.now) words.now) read.0 read.1 read.2) }
+{
+    match words {
+        [now, local, remote] => {
+            let now = Instant::from_nanos(read_u64(now)?);
+            Some((read_address(local)?, read_address(remote)?, now))
+        }
         _ => None,
     }
 }

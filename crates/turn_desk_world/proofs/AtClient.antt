@@ -1,5 +1,5 @@
 -- What the client of a world answers is a step of a run.
-use Rattle.std.proofs.Common.{Vec, Global, ◌≡◌, ℕ, Bool, true, false, List, [], ◌∷◌, Option, Some, None, Ok, Err, is_none, refl, sym, ap, ◌∙◌, subst, inl, inr}
+use Rattle.std.proofs.Common.{Vec, Global, ◌≡◌, ℕ, Bool, true, false, List, [], ◌∷◌, Option, Some, None, Result, Ok, Err, is_none, refl, sym, ap, ◌∙◌, subst, inl, inr}
 use Rattle.std.specs.Borrow.{Bor}
 use Rattle.std.specs.Prelude.{MatchOption}
 use Rattle.std.specs.declared.net.ip_addr.IpAddr.{IpAddr}
@@ -14,6 +14,10 @@ use Rattle.turn_client_proto.specs.Getters.{has_permission}
 use Rattle.turn_client_proto.specs.Messages.{FromChannel, FromPeer, Held, Notice, Payload as Told}
 use Rattle.turn_client_proto.specs.Allocation.Listed.{relayed_shown}
 use Rattle.turn_client_proto.specs.Channel.Shown.{channels_shown}
+use Rattle.turn_client_proto.specs.Connection.Shown.{connections_shown}
+use Rattle.turn_client_proto.specs.Sockets.{IsSocketAnswered}
+use Rattle.turn_client_proto.specs.Api.declared.answer.Socket5Tuple.{Socket5Tuple}
+use Rattle.turn_client_proto.specs.Api.declared.error.TcpAllocateError.{TcpAllocateError}
 use Rattle.turn_client_proto.specs.Permission.Shown.{addresses_of, permissions_at}
 use Rattle.turn_client_proto.specs.Api.Payloads.{PeerPayload}
 use Rattle.turn_client_proto.specs.Api.declared.answer.TurnPollRet.TheVariants as poll
@@ -39,6 +43,7 @@ use Rattle.turn_client_proto.proofs.Refreshing.{delete_step}
 use Rattle.turn_client_proto.proofs.Requesting.{permission_step}
 use Rattle.turn_client_proto.proofs.RequestingChannels.{bind_step}
 use Rattle.turn_client_proto.proofs.Connecting.{connect_step}
+use Rattle.turn_client_proto.proofs.Socketing.{close_step, socket_step}
 use Rattle.turn_client_proto.proofs.Sending.{send_step}
 use Rattle.turn_desk_event.specs.declared.answer.Answer.{Answer}
 use Rattle.turn_desk_event.specs.declared.answer.Answer.TheVariants as answer
@@ -47,10 +52,10 @@ use Rattle.turn_desk_event.specs.declared.event.ClientCall.{ClientCall}
 use Rattle.turn_desk_event.specs.declared.event.ClientCall.TheVariants as call
 use Rattle.turn_desk_event.specs.declared.event.Event.{Event}
 use Rattle.turn_desk_event.specs.declared.event.Event.TheVariants as event
-use Rattle.turn_desk_world.specs.Calls.{AreChannelsTold, ArePermissionsTold, IsBindTold, IsCalled, IsDeleteTold, IsDrawnAs, IsEndTold, IsEventTold, IsFed, IsHaveTold, IsPermissionTold, IsPolledAs, IsRelayedTold, IsSendTold, IsTold, IsConnectTold}
+use Rattle.turn_desk_world.specs.Calls.{AreChannelsTold, ArePermissionsTold, IsBindTold, IsCalled, IsDeleteTold, IsDrawnAs, IsEndTold, IsEventTold, IsFed, IsHaveTold, IsPermissionTold, IsPolledAs, IsRelayedTold, IsSendTold, IsTold, IsConnectTold, AreConnectionsTold, IsClosedTold}
 use Rattle.turn_desk_world.specs.Told.{IsFairEvent, arriving, bytes_drawn, data_of, given_by, given_of, notices_in, payloads_in}
 use Rattle.turn_desk_world.proofs.Handed.{handed_over}
-use Rattle.turn_desk_world.proofs.Shown.{AreHeld, channels_held, had_is_held, permissions_held, relayed_held}
+use Rattle.turn_desk_world.proofs.Shown.{AreHeld, channels_held, connections_held, had_is_held, permissions_held, relayed_held}
 
 -- what comes by an event came, and what the event is answered is drawn, told and handed over
 abbrev pub telling_call : Event → Client → Answer → Client → Call Client
@@ -113,6 +118,15 @@ module _ (what : ClientCall) (c : Client) (sound : IsSound c) (now : ℕ) (new :
       by_call (answer.Channels list) (still c [] new sound is.1) (channels_held new list.items (is.0 ∙ ap (λ (p : Protocol). channels_shown p.allocations) (sym is.1)))
   channels_told _ is = absurd is
 
+  closed_told : (here there : SocketAddr) (ret : Answer) → IsClosedTold ret here there c.core new → IsAnswered happening c ret new
+  closed_told here there answer.Done is = by_call answer.Done (close_step c here there new sound is) (λ h i. absurd i)
+  closed_told here there _ is = absurd is
+
+  connections_told : (ret : Answer) → AreConnectionsTold ret c.core new → IsAnswered happening c ret new
+  connections_told (answer.Connections list) is =
+      by_call (answer.Connections list) (still c [] new sound is.1) (connections_held new list.items (is.0 ∙ ap (λ (p : Protocol). connections_shown p.allocations) (sym is.1)))
+  connections_told _ is = absurd is
+
   -- what carries bytes to a peer is written for the user, and not drawn
   send_told : (transport : TransportType) (to : SocketAddr) (bytes : List ℕ) (ret : Answer) → IsSendTold ret transport to bytes c.core now new → IsAnswered happening c ret new
   send_told transport to bytes (answer.Transmit transmit) is = by_call (answer.Transmit transmit) (send_step c transport to bytes now (Ok (Some (sent_of transmit))) new sound is) (λ h i. absurd i)
@@ -158,11 +172,21 @@ module _ (c : Client) (sound : IsSound c) (now : ℕ) (new : Protocol) where
   called (call.Permissions transport relayed) ret fair is = permissions_told transport relayed ret is
   called (call.BindChannel transport peer) ret fair is = bind_told (call.BindChannel transport peer) c sound now new transport peer fair ret is
   called (call.TcpConnect peer) ret fair is = connect_told (call.TcpConnect peer) c sound now new peer fair ret is
+  called (call.AllocatedTcpSocket id peer here) ret fair is = absurd is
+  called (call.TcpClosed here there) ret fair is = closed_told (call.TcpClosed here there) c sound now new here there ret is
+  called call.Connections ret fair is = connections_told call.Connections c sound now new ret is
   called call.Channels ret fair is = channels_told call.Channels c sound now new ret is
   called (call.SendTo transport to bytes) ret fair is = send_told (call.SendTo transport to bytes) c sound now new transport to bytes.items ret is
   called call.PollRecv ret fair is = absurd is
   called call.ProtocolError ret fair is = end_told call.ProtocolError c sound now new ret is
   called call.RelayedAddresses ret fair is = relayed_told call.RelayedAddresses c sound now new ret is
+
+  -- a socket, whether the stream of the client's own connection stands on or not
+  pub socket_told : (connection : ℕ) (s : Socket5Tuple) (peer : SocketAddr) (here : Option SocketAddr) (ret : Answer) (answered : Result (Unit {0}) TcpAllocateError) → IsSocketAnswered c.core connection s peer here now answered new
+      → notices_in ret ≡ [] → AreHeld (event.Call (call.AllocatedTcpSocket connection peer here) now) ret new → IsAnswered (event.Call (call.AllocatedTcpSocket connection peer here) now) c ret new
+  socket_told connection s peer here ret answered is tells shows =
+      by_call (call.AllocatedTcpSocket connection peer here) c sound now new ret
+      (subst (λ (l : List Notice). IsRunStep c [] None l new) (sym tells) (socket_step c connection s peer here now answered new sound is)) shows
 
   -- ---- what is sent
 

@@ -174,6 +174,9 @@ module _ (kept : Kept) (ret : Answer) (first first' last last' : Client) (calls 
   call_alike (call.Permissions transport relayed) now a b = one_alike (Call (call.Permissions transport relayed) now) a b
   call_alike (call.BindChannel transport peer) now a b = one_alike (Call (call.BindChannel transport peer) now) a b
   call_alike (call.TcpConnect peer) now a b = one_alike (Call (call.TcpConnect peer) now) a b
+  call_alike (call.AllocatedTcpSocket id peer here) now a b = one_alike (Call (call.AllocatedTcpSocket id peer here) now) a b
+  call_alike (call.TcpClosed here there) now a b = one_alike (Call (call.TcpClosed here there) now) a b
+  call_alike call.Connections now a b = one_alike (Call call.Connections now) a b
   call_alike call.Channels now a b = one_alike (Call call.Channels now) a b
   call_alike (call.SendTo transport to bytes) now a b = one_alike (Call (call.SendTo transport to bytes) now) a b
   call_alike call.ProtocolError now a b = one_alike (Call call.ProtocolError now) a b

@@ -1,5 +1,5 @@
 -- What a client in a world answers is determined.
-use Rattle.std.proofs.Common.{◌≡◌, ◌≢◌, ℕ, Bool, true, false, List, ◌∷◌, Option, Some, None, Result, Ok, Err, refl, sym, ap, ◌∙◌, subst}
+use Rattle.std.proofs.Common.{◌≡◌, ◌≢◌, ℕ, Bool, true, false, List, ◌∷◌, Option, Some, None, Result, Ok, Err, if◌then◌else◌, refl, sym, ap, ◌∙◌, subst}
 use Rattle.std.specs.Bool.{MatchBool}
 use Rattle.std.specs.Borrow.{Bor}
 use Rattle.std.specs.declared.net.ip_addr.IpAddr.{IpAddr}
@@ -11,6 +11,10 @@ use Rattle.turn_client_proto.specs.Api.declared.answer.TurnPollRet.TheVariants a
 use Rattle.turn_client_proto.specs.Api.declared.answer.TurnRecvRet.{TurnRecvRet}
 use Rattle.turn_client_proto.specs.Api.declared.answer.TurnRecvRet.TheVariants as recv
 use Rattle.turn_client_proto.specs.Api.declared.error.BindChannelError.{BindChannelError}
+use Rattle.turn_client_proto.specs.Api.declared.error.TcpAllocateError.{TcpAllocateError}
+use Rattle.turn_client_proto.specs.Api.declared.error.TcpAllocateError.TheVariants as not_taken
+use Rattle.turn_client_proto.specs.SocketsTold.{IsSocketTold, replaced, takes_place}
+use Rattle.turn_client_proto.specs.Control.{Control}
 use Rattle.turn_client_proto.specs.Api.declared.error.TcpConnectError.{TcpConnectError}
 use Rattle.turn_client_proto.specs.Api.declared.error.TcpConnectError.TheVariants as not_connected
 use Rattle.turn_client_proto.specs.Api.declared.error.BindChannelError.TheVariants as not_bound
@@ -40,13 +44,14 @@ use Rattle.turn_client_proto.proofs.Once.Connecting.{connect_same}
 use Rattle.turn_client_proto.proofs.Once.Drawing.{draw_same}
 use Rattle.turn_client_proto.proofs.Once.Polling.{poll_same}
 use Rattle.turn_client_proto.proofs.Once.Sending.{send_same}
+use Rattle.turn_client_proto.proofs.Once.Sockets.{socket_same}
 use Rattle.turn_desk_world.proofs.Receiving.{kept_same, received_same}
 use Rattle.turn_desk_event.specs.declared.answer.Answer.{Answer}
 use Rattle.turn_desk_event.specs.declared.answer.Answer.TheVariants as answer
-use Rattle.turn_desk_event.specs.declared.answer.Refusal.TheVariants.{BindChannel as BindRefused, CreatePermission as PermissionRefused, Delete as DeleteRefused, Send as SendRefused, TcpConnect as ConnectRefused}
+use Rattle.turn_desk_event.specs.declared.answer.Refusal.TheVariants.{BindChannel as BindRefused, CreatePermission as PermissionRefused, Delete as DeleteRefused, Send as SendRefused, TcpAllocate as SocketRefused, TcpConnect as ConnectRefused}
 use Rattle.turn_desk_event.specs.declared.event.ClientCall.{ClientCall}
 use Rattle.turn_desk_event.specs.declared.event.ClientCall.TheVariants as call
-use Rattle.turn_desk_world.specs.Calls.{AreChannelsTold, ArePermissionsTold, IsBindTold, IsCallTold, IsCalled, IsDeleteTold, IsDrawnAs, IsEndTold, IsEventTold, IsFed, IsHaveTold, IsPermissionTold, IsPolledAs, IsRelayedTold, IsSendTold, IsTold, IsWaitingTold, IsConnectTold}
+use Rattle.turn_desk_world.specs.Calls.{AreChannelsTold, ArePermissionsTold, IsBindTold, IsCallTold, IsCalled, IsDeleteTold, IsDrawnAs, IsEndTold, IsEventTold, IsFed, IsHaveTold, IsPermissionTold, IsPolledAs, IsRelayedTold, IsSendTold, IsTold, IsWaitingTold, IsConnectTold, AreConnectionsTold, IsClosedTold, IsSocketTaken, own_tuple}
 use Rattle.turn_desk_world.specs.Determined.{IsSame}
 use Rattle.turn_desk_world.specs.Runs.{IsAtClient, IsInRange, is_in_range}
 
@@ -58,6 +63,7 @@ itself (answer.Transmit transmit) = refl
 itself (answer.Relayed list) = refl
 itself (answer.Permissions list) = refl
 itself (answer.Channels list) = refl
+itself (answer.Connections list) = refl
 itself _ = refl
 
 pub equal_same : (a b : Answer) → a ≡ b → IsSame a b
@@ -237,6 +243,16 @@ channels_told old (answer.Channels list) (answer.Channels more) new other a b = 
 channels_told old (answer.Channels list) _ new other a b = absurd b
 channels_told old _ again new other a b = absurd a
 
+closed_told : (here there : SocketAddr) (old : Protocol) (ret again : Answer) (new other : Protocol) → IsClosedTold ret here there old new → IsClosedTold again here there old other → AreOne ret again new other
+closed_told here there old answer.Done answer.Done new other a b = (refl, a ∙ sym b)
+closed_told here there old answer.Done _ new other a b = absurd b
+closed_told here there old _ again new other a b = absurd a
+
+connections_told : (old : Protocol) (ret again : Answer) (new other : Protocol) → AreConnectionsTold ret old new → AreConnectionsTold again old other → AreOne ret again new other
+connections_told old (answer.Connections list) (answer.Connections more) new other a b = (a.0 ∙ sym b.0, a.1 ∙ sym b.1)
+connections_told old (answer.Connections list) _ new other a b = absurd b
+connections_told old _ again new other a b = absurd a
+
 relayed_told : (old : Protocol) (ret again : Answer) (new other : Protocol) → IsRelayedTold ret old new → IsRelayedTold again old other → AreOne ret again new other
 relayed_told old (answer.Relayed list) (answer.Relayed more) new other a b = (a.0 ∙ sym b.0, a.1 ∙ sym b.1)
 relayed_told old (answer.Relayed list) _ new other a b = absurd b
@@ -260,6 +276,9 @@ called (call.BindChannel transport peer) old now ret again new other a b =
     by_definite answer_of_binding (Binds old now transport peer) (binds old now transport peer) ret again new other (by_binding old now transport peer ret new a) (by_binding old now transport peer again other b)
 called (call.TcpConnect peer) old now ret again new other a b =
     by_definite answer_of_connecting (Connects old now peer) (connects old now peer) ret again new other (by_connecting old now peer ret new a) (by_connecting old now peer again other b)
+called (call.AllocatedTcpSocket id peer here) old now ret again new other a b = absurd a
+called (call.TcpClosed here there) old now ret again new other a b = closed_told here there old ret again new other a b
+called call.Connections old now ret again new other a b = connections_told old ret again new other a b
 called call.Channels old now ret again new other a b = channels_told old ret again new other a b
 called (call.SendTo transport to bytes) old now ret again new other a b = sent_same transport to bytes.items old now ret again new other a b
 called call.PollRecv old now ret again new other a b = absurd a
@@ -298,6 +317,32 @@ waiting_told old now (answer.Peer given) _ new other a b = absurd b
 waiting_told old now answer.Nothing _ new other a b = absurd b
 waiting_told old now _ again new other a b = absurd a
 
+-- ---- `allocated_tcp_socket`
+
+abbrev answer_of_socket : Result (Unit {0}) TcpAllocateError → Answer
+answer_of_socket (Ok x) = answer.Done
+answer_of_socket (Err error) = answer.Refused (SocketRefused error)
+
+module _ (connection : ℕ) (peer : SocketAddr) (here : Option SocketAddr) (old : Kept) (now : ℕ) where
+  abbrev Takes : Result (Unit {0}) TcpAllocateError → Kept → Type 0
+  Takes ret new = (ret ≢ Err not_taken.NoMemory) × IsSocketTold old connection (own_tuple old.core) peer here now ret new
+
+  by_socket : (ret : Answer) (new : Kept) → IsSocketTaken ret connection peer here old now new → IsBy answer_of_socket Takes ret new
+  by_socket answer.Done new is = record { given = Ok tt; gives = ((λ e. Prim.cc e), is); told = refl }
+  by_socket (answer.Refused (SocketRefused error)) new is = record { given = Err error; gives = ((λ e. is.1 (inside_err error not_taken.NoMemory (Err error) (Err not_taken.NoMemory) refl refl e)), is.0); told = refl }
+  by_socket _ new is = absurd is
+
+  takes : IsDefinite Takes
+  unfolding IsDefinite
+  takes one other new left a b =
+      let same = socket_same old.core connection peer now (own_tuple old.core) here one other new.core left.core a.0 b.0 a.1.core b.1.core in
+      let control : new.control ≡ left.control =
+      a.1.control ∙ ap (λ (r : Result (Unit {0}) TcpAllocateError). if takes_place old.core here r then replaced old.control else old.control) same.0 ∙ sym b.1.control in
+      (same.0, kept_same new left same.1 control)
+
+  socket_told : (ret again : Answer) (new other : Kept) → IsSocketTaken ret connection peer here old now new → IsSocketTaken again connection peer here old now other → AreOne ret again new other
+  socket_told ret again new other a b = by_definite answer_of_socket Takes takes ret again new other (by_socket ret new a) (by_socket again other b)
+
 left_once : (what : ClientCall) (old : Kept) (now : ℕ) (ret again : Answer) (new other : Kept) → Leaves (λ p q. IsCalled what ret p now q) old new → Leaves (λ p q. IsCalled what again p now q) old other → AreOne ret again new other
 left_once what old now ret again new other a b = leaves (λ x p q. IsCalled what x p now q) (λ p x y q r. called what p now x y q r) old ret again new other a b
 
@@ -312,6 +357,9 @@ called_once (call.HavePermission transport ip) old now ret again new other a b =
 called_once (call.Permissions transport relayed) old now ret again new other a b = left_once (call.Permissions transport relayed) old now ret again new other a b
 called_once (call.BindChannel transport peer) old now ret again new other a b = left_once (call.BindChannel transport peer) old now ret again new other a b
 called_once (call.TcpConnect peer) old now ret again new other a b = left_once (call.TcpConnect peer) old now ret again new other a b
+called_once (call.AllocatedTcpSocket id peer here) old now ret again new other a b = socket_told id peer here old now ret again new other a b
+called_once (call.TcpClosed here there) old now ret again new other a b = left_once (call.TcpClosed here there) old now ret again new other a b
+called_once call.Connections old now ret again new other a b = left_once call.Connections old now ret again new other a b
 called_once call.Channels old now ret again new other a b = left_once call.Channels old now ret again new other a b
 called_once (call.SendTo transport to bytes) old now ret again new other a b = left_once (call.SendTo transport to bytes) old now ret again new other a b
 called_once call.ProtocolError old now ret again new other a b = left_once call.ProtocolError old now ret again new other a b

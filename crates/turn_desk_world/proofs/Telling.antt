@@ -1,5 +1,5 @@
 -- The answers to some events are steps of a run, each lawful.
-use Rattle.std.proofs.Common.{Vec, Global, ◌≡◌, ℕ, true, false, List, [], ◌∷◌, ◌++◌, Option, Some, None, refl, sym, ap, ◌∙◌, subst, inr}
+use Rattle.std.proofs.Common.{Vec, Global, ◌≡◌, ℕ, Bool, true, false, if◌then◌else◌, List, [], ◌∷◌, ◌++◌, Option, Some, None, Ok, Err, refl, sym, ap, ◌∙◌, subst, inr}
 use Rattle.std.specs.Borrow.{Bor}
 use Rattle.std.specs.List.{AllByRecursion}
 use Rattle.std.specs.declared.net.socket_addr.SocketAddr.{SocketAddr}
@@ -23,7 +23,7 @@ use Rattle.turn_client_proto.specs.ClientWords.{IsHeld, client_words}
 use Rattle.turn_client_proto.specs.RunClient.{Client}
 use Rattle.turn_client_proto.specs.RunSteps.{IsComing}
 use Rattle.turn_client_proto.specs.Sound.{IsSound}
-use Rattle.turn_client_proto.proofs.Frames.{coming_step}
+use Rattle.turn_client_proto.proofs.Frames.{coming_step, losing_step, waits_sound}
 use Rattle.turn_client_proto.proofs.Lists.{inside, nothing_behind}
 use Rattle.turn_client_proto.proofs.Polling.{by_test}
 use Rattle.turn_client_proto.proofs.Showing.{shows_step}
@@ -37,11 +37,13 @@ use Rattle.turn_desk_event.specs.declared.event.Event.TheVariants as event
 use Rattle.turn_desk_event.specs.declared.event.Event.TheVariants.{Draw, ToClient, ToDesk}
 use Rattle.turn_desk_steps.specs.DeskRun.{DeskCall}
 use Rattle.turn_desk_world.specs.Model.{World}
-use Rattle.turn_desk_world.specs.Calls.{IsCallTold, IsFed, IsWaitingTold}
+use Rattle.turn_client_proto.specs.SocketsTold.{replaced, takes_place}
+use Rattle.turn_desk_event.specs.declared.answer.Refusal.TheVariants.{TcpAllocate as SocketRefused}
+use Rattle.turn_desk_world.specs.Calls.{IsCallTold, IsFed, IsSocketTaken, IsWaitingTold, own_tuple}
 use Rattle.turn_desk_world.specs.Runs.{IsAtClient, IsInRange, IsRun, IsStep, is_in_range}
 use Rattle.turn_desk_world.specs.Safety.{words}
 use Rattle.turn_desk_world.specs.Told.{AreBrought, AreCallsBy, AreCallsOfPiece, AreStepsBy, AreStepsOfClient, ByEnd, ByNone, ByOthers, ByPiece, HandsNothing, IsAt, IsFair, IsFairEvent, IsKeptAs, IsOneCall, IsPieceOf, IsToldBy, desk_call, given_by, given_of, shown_in}
-use Rattle.turn_desk_world.proofs.AtClient.{IsAnswered, called, drawn, fed, nothing_done, telling_call}
+use Rattle.turn_desk_world.proofs.AtClient.{IsAnswered, called, drawn, fed, nothing_done, socket_told, telling_call}
 use Rattle.turn_desk_world.proofs.AtDesk.{desk_step}
 use Rattle.turn_desk_world.proofs.AtStream.{AreLed, are_coming, coming_call, data_list, none_led, nothing_hands, piece_comes, piece_led, pulled_led}
 use Rattle.turn_desk_world.proofs.Chain.{each_behind, leads_behind}
@@ -104,6 +106,40 @@ module _ (c : Client) (sound : IsSound c) (control : Control) (keeps : IsKeptAs 
         );
         chain = (refl, refl);
         lawful = (shows_step client_words (telling_call event c ret is.after) (shown_in event ret) shows is.step, tt);
+      }
+
+  -- one call by which the stream ends, and what waited in it is lost
+  by_lost : (event : Event) (ret : Answer) (k : Kept) → ((calls : List (Call Client)) (last : Client) → IsOneCall event ret c calls last → AreCallsBy event (held c control) ret c calls last)
+      → k.control ≡ Closed → IsAnswered event c ret k.core → IsLeft event c control ret k
+  by_lost event ret k by closed is =
+      let after : Client = record is.after { waiting = [] } in
+      let call : Call Client = record (telling_call event c ret after) { shown = shown_in event ret } in
+      let shows : (x : Held) → IsIn x (shown_in event ret) → client_words.IsHeld after x = λ x i. subst (λ (p : Protocol). IsHeld p.allocations x) (sym is.core_is) (is.shows x i) in
+      record {
+        calls = call ∷ [];
+        last = after;
+        keeps = record {
+          core = sym is.core_is;
+          waits = ap frames_waiting closed;
+          are_bytes = subst (λ (o : Control). AreBytes (bytes_waiting o)) (sym closed) refl;
+        };
+        sound = waits_sound [] is.after is.sound;
+        are = by (call ∷ []) after (
+          call,
+          refl,
+          refl,
+          refl,
+          record {
+            came_is = refl;
+            handled_is = refl;
+            drawn_is = refl;
+            answered_is = refl;
+            payloads_are = refl;
+            shown_is = refl;
+          },
+        );
+        chain = (refl, refl);
+        lawful = (shows_step client_words (telling_call event c ret after) (shown_in event ret) shows (losing_step (telling_call event c ret is.after) is.step), tt);
       }
 
   -- ---- what waits
@@ -228,6 +264,29 @@ module _ (c : Client) (sound : IsSound c) (bytes : Vec ℕ Global) (from to : So
   fed_left (Open stream) keeps is = fed_stream stream keeps is
   fed_left Closed keeps is = fed_closed keeps is
 
+-- ---- a socket is told
+
+-- the stream of the client's own connection stands on, or another one has taken its place
+module _ (c : Client) (sound : IsSound c) (connection : ℕ) (peer : SocketAddr) (here : Option SocketAddr) (now : ℕ) (ret : Answer) (k : Kept) where
+  abbrev telling : Event
+  telling = event.Call (call.AllocatedTcpSocket connection peer here) now
+
+  socket_by : (control : Control) → IsKeptAs c (held c control) → (b : Bool) → k.control ≡ (if b then replaced control else control) → IsAnswered telling c ret k.core → IsLeft telling c control ret k
+  socket_by control keeps false same is = by_one c sound control keeps telling ret k (λ calls last one. one) (same, is)
+  socket_by Datagrams keeps true same is = by_one c sound Datagrams keeps telling ret k (λ calls last one. one) (same, is)
+  socket_by (Open stream) keeps true same is = by_lost c sound (Open stream) keeps telling ret k (λ calls last one. one) same is
+  socket_by Closed keeps true same is = by_one c sound Closed keeps telling ret k (λ calls last one. one) (same, is)
+
+socket_left : (c : Client) (sound : IsSound c) (connection : ℕ) (peer : SocketAddr) (here : Option SocketAddr) (now : ℕ) (ret : Answer) (control : Control) (k : Kept) → IsKeptAs c (held c control)
+    → IsSocketTaken ret connection peer here (held c control) now k → IsLeft (event.Call (call.AllocatedTcpSocket connection peer here) now) c control ret k
+socket_left c sound connection peer here now answer.Done control k keeps is =
+    socket_by c sound connection peer here now answer.Done k control keeps (takes_place c.core here (Ok tt)) is.control
+    (socket_told c sound now k.core connection (own_tuple c.core) peer here answer.Done (Ok tt) is.core refl (λ h i. absurd i))
+socket_left c sound connection peer here now (answer.Refused (SocketRefused error)) control k keeps is =
+    socket_by c sound connection peer here now (answer.Refused (SocketRefused error)) k control keeps (takes_place c.core here (Err error)) is.0.control
+    (socket_told c sound now k.core connection (own_tuple c.core) peer here (answer.Refused (SocketRefused error)) (Err error) is.0.core refl (λ h i. absurd i))
+socket_left c sound connection peer here now _ control k keeps is = absurd is
+
 -- ---- nothing happens
 
 module _ (c : Client) (sound : IsSound c) where
@@ -251,6 +310,9 @@ module _ (c : Client) (sound : IsSound c) where
   call_out (call.Permissions transport relayed) now control keeps = idle (event.Call (call.Permissions transport relayed) now) control keeps (λ calls last one. one)
   call_out (call.BindChannel transport peer) now control keeps = idle (event.Call (call.BindChannel transport peer) now) control keeps (λ calls last one. one)
   call_out (call.TcpConnect peer) now control keeps = idle (event.Call (call.TcpConnect peer) now) control keeps (λ calls last one. one)
+  call_out (call.AllocatedTcpSocket id peer here) now control keeps = idle (event.Call (call.AllocatedTcpSocket id peer here) now) control keeps (λ calls last one. one)
+  call_out (call.TcpClosed here there) now control keeps = idle (event.Call (call.TcpClosed here there) now) control keeps (λ calls last one. one)
+  call_out call.Connections now control keeps = idle (event.Call call.Connections now) control keeps (λ calls last one. one)
   call_out call.Channels now control keeps = idle (event.Call call.Channels now) control keeps (λ calls last one. one)
   call_out (call.SendTo transport to bytes) now control keeps = idle (event.Call (call.SendTo transport to bytes) now) control keeps (λ calls last one. one)
   call_out call.ProtocolError now control keeps = idle (event.Call call.ProtocolError now) control keeps (λ calls last one. one)
@@ -267,6 +329,9 @@ module _ (c : Client) (sound : IsSound c) where
   call_left (call.Permissions transport relayed) now ret control k keeps fair is = by_one c sound control keeps (event.Call (call.Permissions transport relayed) now) ret k (λ calls last one. one) (is.1, called c sound now k.core (call.Permissions transport relayed) ret fair is.0)
   call_left (call.BindChannel transport peer) now ret control k keeps fair is = by_one c sound control keeps (event.Call (call.BindChannel transport peer) now) ret k (λ calls last one. one) (is.1, called c sound now k.core (call.BindChannel transport peer) ret fair is.0)
   call_left (call.TcpConnect peer) now ret control k keeps fair is = by_one c sound control keeps (event.Call (call.TcpConnect peer) now) ret k (λ calls last one. one) (is.1, called c sound now k.core (call.TcpConnect peer) ret fair is.0)
+  call_left (call.AllocatedTcpSocket id peer here) now ret control k keeps fair is = socket_left c sound id peer here now ret control k keeps is
+  call_left (call.TcpClosed here there) now ret control k keeps fair is = by_one c sound control keeps (event.Call (call.TcpClosed here there) now) ret k (λ calls last one. one) (is.1, called c sound now k.core (call.TcpClosed here there) ret fair is.0)
+  call_left call.Connections now ret control k keeps fair is = by_one c sound control keeps (event.Call call.Connections now) ret k (λ calls last one. one) (is.1, called c sound now k.core call.Connections ret fair is.0)
   call_left call.Channels now ret control k keeps fair is = by_one c sound control keeps (event.Call call.Channels now) ret k (λ calls last one. one) (is.1, called c sound now k.core call.Channels ret fair is.0)
   call_left (call.SendTo transport to bytes) now ret control k keeps fair is = by_one c sound control keeps (event.Call (call.SendTo transport to bytes) now) ret k (λ calls last one. one) (is.1, called c sound now k.core (call.SendTo transport to bytes) ret fair is.0)
   call_left call.ProtocolError now ret control k keeps fair is = by_one c sound control keeps (event.Call call.ProtocolError now) ret k (λ calls last one. one) (is.1, called c sound now k.core call.ProtocolError ret fair is.0)

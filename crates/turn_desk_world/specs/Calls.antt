@@ -1,5 +1,5 @@
 -- What a client answers in a world.
-use Rattle.std.specs.Prelude.{◌≡◌, ◌≢◌, ℕ, true, List, [], ◌∷◌, Some, None, Ok, Err}
+use Rattle.std.specs.Prelude.{◌≡◌, ◌≢◌, ℕ, true, List, [], ◌∷◌, Option, Some, None, Ok, Err}
 use Rattle.std.specs.Borrow.{Bor}
 use Rattle.std.specs.declared.net.ip_addr.IpAddr.{IpAddr}
 use Rattle.std.specs.declared.net.socket_addr.SocketAddr.{SocketAddr}
@@ -13,9 +13,12 @@ use Rattle.turn_client_proto.specs.Api.declared.error.BindChannelError.TheVarian
 use Rattle.turn_client_proto.specs.Api.declared.error.CreatePermissionError.TheVariants as not_permitted
 use Rattle.turn_client_proto.specs.Api.declared.error.DeleteError.TheVariants as not_deleted
 use Rattle.turn_client_proto.specs.Api.declared.error.SendError.TheVariants as not_sent
+use Rattle.turn_client_proto.specs.Api.declared.answer.Socket5Tuple.{Socket5Tuple}
+use Rattle.turn_client_proto.specs.Api.declared.error.TcpAllocateError.TheVariants as not_taken
 use Rattle.turn_client_proto.specs.Api.declared.error.TcpConnectError.TheVariants as not_connected
+use Rattle.turn_client_proto.specs.Closing.{after_close}
 use Rattle.turn_client_proto.specs.Connecting.{IsConnectAnswered}
-use Rattle.turn_client_proto.specs.Getters.{channels_of, has_permission, permissions_of, relayed_of}
+use Rattle.turn_client_proto.specs.Getters.{channels_of, connections_of, has_permission, permissions_of, relayed_of}
 use Rattle.turn_client_proto.specs.Receipts.{IsReceived, IsWaitingGiven}
 use Rattle.turn_client_proto.specs.Binding.{IsBindAnswered}
 use Rattle.turn_client_proto.specs.Deleting.{IsDeleteAnswered}
@@ -25,11 +28,12 @@ use Rattle.turn_client_proto.specs.Permitting.{IsPermissionAnswered}
 use Rattle.turn_client_proto.specs.Polling.{IsPolled}
 use Rattle.turn_client_proto.specs.Kept.{Kept, Leaves, Protocol}
 use Rattle.turn_client_proto.specs.Sending.{IsSendAnswered}
+use Rattle.turn_client_proto.specs.SocketsTold.{IsSocketTold}
 use Rattle.turn_desk_event.specs.declared.answer.Answer.{Answer}
 use Rattle.turn_desk_event.specs.declared.answer.Answer.TheVariants as answer
-use Rattle.turn_desk_event.specs.declared.answer.Refusal.TheVariants.{BindChannel as BindRefused, CreatePermission as PermissionRefused, Delete as DeleteRefused, Send as SendRefused, TcpConnect as ConnectRefused}
+use Rattle.turn_desk_event.specs.declared.answer.Refusal.TheVariants.{BindChannel as BindRefused, CreatePermission as PermissionRefused, Delete as DeleteRefused, Send as SendRefused, TcpAllocate as SocketRefused, TcpConnect as ConnectRefused}
 use Rattle.turn_desk_event.specs.declared.event.ClientCall.{ClientCall}
-use Rattle.turn_desk_event.specs.declared.event.ClientCall.TheVariants.{Poll, PollEvent, Delete, CreatePermission, HavePermission, Permissions, BindChannel, Channels, SendTo, PollRecv, ProtocolError, RelayedAddresses, TcpConnect}
+use Rattle.turn_desk_event.specs.declared.event.ClientCall.TheVariants.{Poll, PollEvent, Delete, CreatePermission, HavePermission, Permissions, BindChannel, Channels, SendTo, PollRecv, ProtocolError, RelayedAddresses, TcpConnect, AllocatedTcpSocket, TcpClosed, Connections}
 
 -- ---- calls
 
@@ -87,6 +91,16 @@ IsConnectTold (answer.Refused (ConnectRefused error)) peer old now new =
     IsConnectAnswered old peer now (Err error) new × (error ≢ not_connected.NoMemory)
 IsConnectTold _ peer old now new = ⊥
 
+-- `tcp_closed`
+abbrev pub IsClosedTold : Answer → (here there : SocketAddr) → Protocol → Protocol → Type 0
+IsClosedTold answer.Done here there old new = new ≡ after_close here there old
+IsClosedTold _ here there old new = ⊥
+
+-- `connections`
+abbrev pub AreConnectionsTold : Answer → Protocol → Protocol → Type 0
+AreConnectionsTold (answer.Connections list) old new = (list.items ≡ connections_of old) × (new ≡ old)
+AreConnectionsTold _ old new = ⊥
+
 -- `channels`
 abbrev pub AreChannelsTold : Answer → Protocol → Protocol → Type 0
 AreChannelsTold (answer.Channels list) old new = (list.items ≡ channels_of old) × (new ≡ old)
@@ -120,6 +134,9 @@ IsCalled (HavePermission transport ip) answer old now new = IsHaveTold answer tr
 IsCalled (Permissions transport relayed) answer old now new = ArePermissionsTold answer transport relayed old new
 IsCalled (BindChannel transport peer) answer old now new = IsBindTold answer transport peer old now new
 IsCalled (TcpConnect peer) answer old now new = IsConnectTold answer peer old now new
+IsCalled (AllocatedTcpSocket connection peer here) answer old now new = ⊥
+IsCalled (TcpClosed here there) answer old now new = IsClosedTold answer here there old new
+IsCalled Connections answer old now new = AreConnectionsTold answer old new
 IsCalled Channels answer old now new = AreChannelsTold answer old new
 IsCalled (SendTo transport to bytes) answer old now new = IsSendTold answer transport to bytes.items old now new
 IsCalled PollRecv answer old now new = ⊥
@@ -132,9 +149,23 @@ IsWaitingTold (answer.Peer given) old now new = IsWaitingGiven old now (Some giv
 IsWaitingTold answer.Nothing old now new = IsWaitingGiven old now None new
 IsWaitingTold _ old now new = ⊥
 
+-- the client's own connection to the server
+abbrev pub own_tuple : Protocol → Socket5Tuple
+own_tuple p = record { transport = p.agent.transport; from = p.agent.here; to = p.server }
+
+-- `allocated_tcp_socket`, told of that connection; want of memory is no answer
+abbrev pub IsSocketTaken : Answer → (connection : ℕ) → SocketAddr → Option SocketAddr → Kept → ℕ → Kept → Type 0
+IsSocketTaken answer.Done connection peer here old now new =
+    IsSocketTold old connection (own_tuple old.core) peer here now (Ok tt) new
+IsSocketTaken (answer.Refused (SocketRefused error)) connection peer here old now new =
+    IsSocketTold old connection (own_tuple old.core) peer here now (Err error) new × (error ≢ not_taken.NoMemory)
+IsSocketTaken _ connection peer here old now new = ⊥
+
 -- a call of a client, by its contract
 unfoldable pub IsCallTold : ClientCall → Answer → Kept → ℕ → Kept → Type 0
 IsCallTold PollRecv answer old now new = IsWaitingTold answer old now new
+IsCallTold (AllocatedTcpSocket connection peer here) answer old now new =
+    IsSocketTaken answer connection peer here old now new
 IsCallTold call answer old now new = Leaves (λ p q. IsCalled call answer p now q) old new
 
 -- ---- what is sent, and what comes

@@ -12,6 +12,7 @@ IsSame (answer.Transmit one) (answer.Transmit other) = sent_of one ≡ sent_of o
 IsSame (answer.Relayed one) (answer.Relayed other) = one.items ≡ other.items
 IsSame (answer.Permissions one) (answer.Permissions other) = one.items ≡ other.items
 IsSame (answer.Channels one) (answer.Channels other) = one.items ≡ other.items
+IsSame (answer.Connections one) (answer.Connections other) = one.items ≡ other.items
 IsSame one other = one ≡ other
 
 -- the same events, one by one answered the same

@@ -1,5 +1,5 @@
 -- What the events of a world and their answers are in a run of a client and a desk.
-use Rattle.std.specs.Prelude.{◌≡◌, ◌≢◌, ℕ, Bool, true, false, ◌++◌, List, [], ◌∷◌, map, Option, Some, None, is_none, Vec}
+use Rattle.std.specs.Prelude.{◌≡◌, ◌≢◌, ℕ, Bool, true, false, ◌++◌, List, [], ◌∷◌, filter, map, Option, Some, None, is_none, Vec}
 use Rattle.std.specs.List.{filter_map}
 use Rattle.std.specs.declared.alloc.Global.{Global}
 use Rattle.std.specs.declared.net.ip_addr.IpAddr.{IpAddr}
@@ -22,7 +22,7 @@ use Rattle.turn_client_proto.specs.Kept.{Kept, Protocol}
 use Rattle.turn_client_proto.specs.Receipts.{has_failed}
 use Rattle.turn_client_proto.specs.Taken.{Taken}
 use Rattle.turn_client_proto.specs.Waiting.{bytes_waiting, completed, frames_waiting, whole_frames}
-use Rattle.turn_client_proto.specs.Messages.{Held, Allocation, Permission, Channel, Notice, Payload, FromPeer, Reported, FromChannel}
+use Rattle.turn_client_proto.specs.Messages.{Held, Allocation, Permission, Channel, Connection, Notice, Payload, FromPeer, Reported, FromChannel}
 use Rattle.turn_client_proto.specs.Runs.{Step, AtDesk}
 use Rattle.turn_runs.specs.Chains.{steps_of}
 use Rattle.turn_client_proto.specs.Steps.{Call}
@@ -97,12 +97,17 @@ abbrev pub permission_had : Event → Bool → List Held
 permission_had (event.Call (call.HavePermission transport ip) now) true = Permission transport ip ∷ []
 permission_had _ _ = []
 
+-- the connections that are shown as bound
+abbrev pub connections_bound : List (SocketAddr × SocketAddr × ℕ × Bool) → List Held
+connections_bound rows = map (λ r. Connection r.0 r.1 r.2) (filter (λ r. r.3) rows)
+
 -- what the client shows as held, where an event asks for it
 abbrev pub shown_in : Event → Answer → List Held
 shown_in happening (answer.Relayed list) = map (λ (p : TransportType × SocketAddr). Allocation p.0 p.1) list.items
 shown_in happening (answer.Permissions list) = permissions_listed happening list.items
 shown_in happening (answer.Have is) = permission_had happening is
 shown_in happening (answer.Channels list) = map (λ (p : ℕ × SocketAddr). Channel p.0 p.1) list.items
+shown_in happening (answer.Connections list) = connections_bound list.items
 shown_in happening _ = []
 
 -- ---- a client
@@ -126,7 +131,7 @@ abbrev pub arriving : Event → List (List ℕ)
 arriving (event.ToClient bytes from to now) = bytes.items ∷ []
 arriving _ = []
 
--- a call of the client, to which exactly those bytes came, and by which no frame that waits is touched: it draws, tells,
+-- a call of the client, to which exactly those bytes came, and by which no frame that waits is taken up: it draws, tells,
 -- hands over and shows what the answer says
 pub record IsCallOf (happening : Event) (answer : Answer) (call : Call Client) : Type 0 where
   pub came_is : call.came ≡ arriving happening

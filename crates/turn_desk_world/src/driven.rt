@@ -3,7 +3,7 @@
 ghost use Rattle.std.specs.Prelude.{◌≡◌, IfOk};
 ghost use Rattle.turn_client_proto.specs.Clients.{kept_of};
 ghost use Rattle.turn_client_proto.specs.Kept.{Leaves};
-ghost use Rattle.turn_desk_world.specs.Calls.{AreChannelsTold, ArePermissionsTold, IsBindTold, IsCallTold, IsDeleteTold, IsDrawnAs, IsEventTold, IsFed, IsPermissionTold, IsPolledAs, IsRelayedTold, IsSendTold, IsWaitingTold, IsConnectTold};
+ghost use Rattle.turn_desk_world.specs.Calls.{AreChannelsTold, ArePermissionsTold, IsBindTold, IsCallTold, IsDeleteTold, IsDrawnAs, IsEventTold, IsFed, IsPermissionTold, IsPolledAs, IsRelayedTold, IsSendTold, IsWaitingTold, IsConnectTold, AreConnectionsTold, IsClosedTold, IsSocketTaken};
 ghost use Rattle.turn_desk_world.specs.Runs.{IsAtClient, IsInRange, is_in_range};
 
 use crate::typed::are_bytes;
@@ -14,8 +14,8 @@ use stun_proto::Instant;
 use stun_types::data::{Data, DataOwned};
 use stun_types::{NoMemory, Transmit, TransportType};
 use turn_client_proto::api::{
-    BindChannelError, CLIENT_END, CreatePermissionError, DeleteError, SendError, TcpConnectError,
-    TurnPollRet, TurnRecvRet,
+    BindChannelError, CLIENT_END, CreatePermissionError, DeleteError, SendError, Socket5Tuple,
+    TcpAllocateError, TcpConnectError, TurnPollRet, TurnRecvRet,
 };
 use turn_client_proto::client::TurnClient;
 use turn_client_proto::prelude::TurnClientApi;
@@ -49,6 +49,11 @@ fn call(
         ClientCall::BindChannel(transport, peer) => bind_channel(client, *transport, *peer, now),
         ClientCall::Channels => channels(alloc, client),
         ClientCall::TcpConnect(peer) => tcp_connect(client, *peer, now),
+        ClientCall::AllocatedTcpSocket(id, peer, local) => {
+            allocated_tcp_socket(client, *id, *peer, *local, now)
+        }
+        ClientCall::TcpClosed(local, remote) => tcp_closed(client, *local, *remote, now),
+        ClientCall::Connections => connections(alloc, client),
         ClientCall::SendTo(transport, peer, bytes) => {
             send_to(alloc, client, *transport, *peer, bytes.as_slice(), now)
         }
@@ -174,6 +179,55 @@ fn tcp_connect(client: &mut TurnClient, peer: SocketAddr, now: Instant) -> Resul
         Err(TcpConnectError::NoMemory) => Err(NoMemory),
         Err(error) => Ok(Answer::Refused(Refusal::TcpConnect(error))),
     }
+}
+
+/// The client is told of the socket for a connection.
+fn allocated_tcp_socket(
+    client: &mut TurnClient,
+    id: u32,
+    peer: SocketAddr,
+    local: Option<SocketAddr>,
+    now: Instant,
+) -> Result<Answer, NoMemory>
+    ensures { IfOk result (λ answer. IsSocketTaken answer id peer local (kept_of client.old) now
+        (kept_of client.new)) }
+{
+    let own = Socket5Tuple {
+        transport: client.transport(),
+        from: client.local_addr(),
+        to: client.remote_addr(),
+    };
+    match client.allocated_tcp_socket(id, own, peer, local, now) {
+        Ok(()) => Ok(Answer::Done),
+        Err(TcpAllocateError::NoMemory) => Err(NoMemory),
+        Err(error) => Ok(Answer::Refused(Refusal::TcpAllocate(error))),
+    }
+}
+
+/// The client is told that a socket was closed.
+fn tcp_closed(
+    client: &mut TurnClient,
+    local: SocketAddr,
+    remote: SocketAddr,
+    now: Instant,
+) -> Result<Answer, NoMemory>
+    ensures { IfOk result (λ answer. Leaves (IsClosedTold answer local remote)
+        (kept_of client.old) (kept_of client.new)) }
+{
+    client.tcp_closed(local, remote, now)?;
+    Ok(Answer::Done)
+}
+
+/// The data connections that the client shows.
+fn connections(alloc: Global, client: &TurnClient) -> Result<Answer, NoMemory>
+    ensures { IfOk result (λ answer.
+        AreConnectionsTold answer (kept_of client.now).core (kept_of client.now).core) }
+{
+    let mut list = Vec::new(alloc);
+    for connection in client.connections() {
+        list.push(connection)?;
+    }
+    Ok(Answer::Connections(list))
 }
 
 /// The channels that the client shows.

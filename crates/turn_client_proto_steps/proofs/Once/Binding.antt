@@ -3,12 +3,12 @@ use Rattle.std.proofs.Common.{ℕ, List, Option, Some, None}
 use Rattle.stun_types.specs.Attributes.{kind_at}
 use Rattle.stun_types.specs.Grammar.{number_at}
 use Rattle.stun_types.specs.Types.{class_of}
-use Rattle.turn_client_proto_poll.specs.Channel.Awaited.{asked_by}
-use Rattle.turn_client_proto_poll.specs.Channel.declared.awaited.Asked.{Asked}
-use Rattle.turn_client_proto_poll.specs.Channel.declared.awaited.Asked.TheVariants.{ChannelRenewal, Lifetime, NewChannel, NewConnection, NewPermission, Renewal}
-use Rattle.turn_client_proto_poll.specs.Core.Binding.{IsBindResponded, IsBoundFor, IsUnboundFor, bound, lets_lapse, permission_with, renews_channels, unbound}
-use Rattle.turn_client_proto_poll.specs.Core.Responding.{is_error_class}
-use Rattle.turn_client_proto_poll.specs.Core.declared.protocol.Protocol.{Protocol}
+use Rattle.turn_client_proto_data.specs.Channel.Awaited.{asked_by}
+use Rattle.turn_client_proto_data.specs.Channel.declared.awaited.Asked.{Asked}
+use Rattle.turn_client_proto_data.specs.Channel.declared.awaited.Asked.TheVariants.{ChannelRenewal, Lifetime, NewChannel, NewConnection, NewPermission, Renewal}
+use Rattle.turn_client_proto_data.specs.Core.Binding.{IsBindResponded, IsBoundFor, IsUnboundFor, bound, lets_lapse, permission_with, renews_channels, unbound}
+use Rattle.turn_client_proto_data.specs.Core.Responding.{is_error_class}
+use Rattle.turn_client_proto_data.specs.Core.declared.protocol.Protocol.{Protocol}
 use Rattle.turn_client_proto_steps.proofs.Once.Outcomes.{IsDefinite, handled, ignored, tested}
 
 module _ (p : Protocol) (now number : ℕ) where

@@ -3,14 +3,14 @@
 use Rattle.std.proofs.Common.{◌≡◌, ◌≢◌, ℕ, Option, Some, None, Result, Ok, Err, IfNone, IfSome, MatchResult, refl, sym, ap, ◌∙◌}
 use Rattle.std.specs.declared.net.ip_addr.IpAddr.{IpAddr}
 use Rattle.stun_types.specs.declared.transport.TransportType.{TransportType}
-use Rattle.turn_client_proto_poll.specs.Api.declared.error.CreatePermissionError.{CreatePermissionError}
-use Rattle.turn_client_proto_poll.specs.Api.declared.error.CreatePermissionError.TheVariants as permission
-use Rattle.turn_client_proto_poll.specs.Api.declared.error.DeleteError.{DeleteError}
-use Rattle.turn_client_proto_poll.specs.Api.declared.error.DeleteError.TheVariants as deletion
-use Rattle.turn_client_proto_poll.specs.Core.Deleting.{IsDeleteAnswered, IsDeleted, after_delete, delete_refusal}
-use Rattle.turn_client_proto_poll.specs.Core.Numbering.{after_number}
-use Rattle.turn_client_proto_poll.specs.Core.Permitting.{IsPermissionAnswered, IsPermissionAsked, after_asking, allocation_for, permission_refusal, refused_in}
-use Rattle.turn_client_proto_poll.specs.Core.declared.protocol.Protocol.{Protocol}
+use Rattle.turn_client_proto_data.specs.Api.declared.error.CreatePermissionError.{CreatePermissionError}
+use Rattle.turn_client_proto_data.specs.Api.declared.error.CreatePermissionError.TheVariants as permission
+use Rattle.turn_client_proto_data.specs.Api.declared.error.DeleteError.{DeleteError}
+use Rattle.turn_client_proto_data.specs.Api.declared.error.DeleteError.TheVariants as deletion
+use Rattle.turn_client_proto_data.specs.Core.Deleting.{IsDeleteAnswered, IsDeleted, after_delete, delete_refusal}
+use Rattle.turn_client_proto_data.specs.Core.Numbering.{after_number}
+use Rattle.turn_client_proto_data.specs.Core.Permitting.{IsPermissionAnswered, IsPermissionAsked, after_asking, allocation_for, permission_refusal, refused_in}
+use Rattle.turn_client_proto_data.specs.Core.declared.protocol.Protocol.{Protocol}
 use Rattle.turn_client_proto_steps.proofs.Once.Numbering.{next_same}
 
 -- a call that is refused for a reason, or else answered: what is done, or memory was refused

@@ -4,12 +4,12 @@ use Rattle.std.proofs.lemmas.Bool.{cases_order}
 use Rattle.std.specs.Prelude.{MatchOption, MatchResult}
 use Rattle.std.specs.declared.net.socket_addr.SocketAddr.{SocketAddr}
 use Rattle.stun_types.specs.declared.transport.TransportType.{TransportType}
-use Rattle.turn_client_proto_poll.specs.Api.declared.error.BindChannelError.{BindChannelError}
-use Rattle.turn_client_proto_poll.specs.Api.declared.error.BindChannelError.TheVariants as channels
-use Rattle.turn_client_proto_poll.specs.Channel.Numbers.{IsLeastUntaken, is_taken}
-use Rattle.turn_client_proto_poll.specs.Core.Binding.{IsBindAnswered, IsBindTried, IsChannelAsked, after_binding, allocation_to, bind_refusal, bind_refused_in}
-use Rattle.turn_client_proto_poll.specs.Core.Numbering.{after_number}
-use Rattle.turn_client_proto_poll.specs.Core.declared.protocol.Protocol.{Protocol}
+use Rattle.turn_client_proto_data.specs.Api.declared.error.BindChannelError.{BindChannelError}
+use Rattle.turn_client_proto_data.specs.Api.declared.error.BindChannelError.TheVariants as channels
+use Rattle.turn_client_proto_data.specs.Channel.Numbers.{IsLeastUntaken, is_taken}
+use Rattle.turn_client_proto_data.specs.Core.Binding.{IsBindAnswered, IsBindTried, IsChannelAsked, after_binding, allocation_to, bind_refusal, bind_refused_in}
+use Rattle.turn_client_proto_data.specs.Core.Numbering.{after_number}
+use Rattle.turn_client_proto_data.specs.Core.declared.protocol.Protocol.{Protocol}
 use Rattle.turn_client_proto_steps.proofs.Once.Numbering.{next_same}
 
 -- ---- the least number that is free

@@ -1,11 +1,11 @@
 -- What a call for a connection is answered, and what the client is then, are one, but for want of memory.
 use Rattle.std.proofs.Common.{◌≡◌, ◌≢◌, ℕ, Result, Err, sym, ap, ◌∙◌}
 use Rattle.std.specs.declared.net.socket_addr.SocketAddr.{SocketAddr}
-use Rattle.turn_client_proto_poll.specs.Api.declared.error.TcpConnectError.{TcpConnectError}
-use Rattle.turn_client_proto_poll.specs.Api.declared.error.TcpConnectError.TheVariants.{NoMemory}
-use Rattle.turn_client_proto_poll.specs.Connecting.{IsConnectAnswered, IsConnectionAsked, after_connecting, allocation_towards, connect_refusal, connect_refused_in}
-use Rattle.turn_client_proto_poll.specs.Core.Numbering.{after_number}
-use Rattle.turn_client_proto_poll.specs.Core.declared.protocol.Protocol.{Protocol}
+use Rattle.turn_client_proto_data.specs.Api.declared.error.TcpConnectError.{TcpConnectError}
+use Rattle.turn_client_proto_data.specs.Api.declared.error.TcpConnectError.TheVariants.{NoMemory}
+use Rattle.turn_client_proto_data.specs.Connecting.{IsConnectAnswered, IsConnectionAsked, after_connecting, allocation_towards, connect_refusal, connect_refused_in}
+use Rattle.turn_client_proto_data.specs.Core.Numbering.{after_number}
+use Rattle.turn_client_proto_data.specs.Core.declared.protocol.Protocol.{Protocol}
 use Rattle.turn_client_proto_steps.proofs.Once.Calling.{call_same}
 use Rattle.turn_client_proto_steps.proofs.Once.Numbering.{next_same}
 

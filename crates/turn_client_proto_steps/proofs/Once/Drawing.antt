@@ -5,18 +5,18 @@ use Rattle.std.specs.declared.net.socket_addr.SocketAddr.{SocketAddr}
 use Rattle.stun_proto.specs.Agents.{Transaction, transmitted}
 use Rattle.stun_proto.specs.Sending.{NoneDue, is_due_of, kept_under}
 use Rattle.stun_proto.specs.State.{is_tcp}
-use Rattle.turn_client_proto_poll.specs.Drawing.{Again, Fresh, IsBegun, IsChannelRenewalSent, IsDrawn, IsFirstSent, IsFreshSent, IsMade, IsNextSent, IsQueuedSent, IsRefreshSent, IsRenewalSent, IsRenewed, IsRepeated, IsStill, Sends, Sent, after_sending, first_allocated, first_bound, first_permitted, first_refreshed, is_resting}
-use Rattle.turn_client_proto_poll.specs.Wanting.{wanted}
-use Rattle.turn_client_proto_poll.specs.declared.wanting.Want.{Want}
-use Rattle.turn_client_proto_poll.specs.declared.wanting.Want.TheVariants.{Refresh, Channel, Permission}
-use Rattle.turn_client_proto_poll.specs.Request.Requests.{allocation_lifetime, request_text}
-use Rattle.turn_client_proto_poll.specs.Request.declared.request.TurnRequest.{TurnRequest}
-use Rattle.turn_client_proto_poll.specs.Request.declared.request.TurnRequest.TheVariants.{ChannelBind, CreatePermission, FirstAllocate}
-use Rattle.turn_client_proto_poll.specs.Request.declared.request.TurnRequest.TheVariants.{Refresh as RefreshRequest}
-use Rattle.turn_client_proto_poll.specs.Core.Waiting.{Queued}
-use Rattle.turn_client_proto_poll.specs.Core.declared.protocol.Phase.{Phase}
-use Rattle.turn_client_proto_poll.specs.Core.declared.protocol.Phase.TheVariants.{Initial, InitialSent, Authenticating, Authenticated, Ended}
-use Rattle.turn_client_proto_poll.specs.Core.declared.protocol.Protocol.{Protocol}
+use Rattle.turn_client_proto_data.specs.Drawing.{Again, Fresh, IsBegun, IsChannelRenewalSent, IsDrawn, IsFirstSent, IsFreshSent, IsMade, IsNextSent, IsQueuedSent, IsRefreshSent, IsRenewalSent, IsRenewed, IsRepeated, IsStill, Sends, Sent, after_sending, first_allocated, first_bound, first_permitted, first_refreshed, is_resting}
+use Rattle.turn_client_proto_data.specs.Wanting.{wanted}
+use Rattle.turn_client_proto_data.specs.Want.{Want}
+use Rattle.turn_client_proto_data.specs.Want.TheVariants.{Refresh, Channel, Permission}
+use Rattle.turn_client_proto_data.specs.Request.Requests.{allocation_lifetime, request_text}
+use Rattle.turn_client_proto_data.specs.Request.declared.request.TurnRequest.{TurnRequest}
+use Rattle.turn_client_proto_data.specs.Request.declared.request.TurnRequest.TheVariants.{ChannelBind, CreatePermission, FirstAllocate}
+use Rattle.turn_client_proto_data.specs.Request.declared.request.TurnRequest.TheVariants.{Refresh as RefreshRequest}
+use Rattle.turn_client_proto_data.specs.Core.Waiting.{Queued}
+use Rattle.turn_client_proto_data.specs.Core.declared.protocol.Phase.{Phase}
+use Rattle.turn_client_proto_data.specs.Core.declared.protocol.Phase.TheVariants.{Initial, InitialSent, Authenticating, Authenticated, Ended}
+use Rattle.turn_client_proto_data.specs.Core.declared.protocol.Protocol.{Protocol}
 use Rattle.turn_client_proto_steps.proofs.Once.Outcomes.{IsDefinite, only, tested}
 use Rattle.turn_client_proto_steps.proofs.Once.Least.{least_number, least_value}
 use Rattle.turn_client_proto_steps.proofs.Once.Numbering.{next_same}

@@ -5,15 +5,15 @@ use Rattle.stun_types.specs.Grammar.{number_at}
 use Rattle.stun_types.specs.Types.{class_of}
 use Rattle.stun_proto.specs.Client.{Client}
 use Rattle.stun_proto.specs.Handling.{is_response}
-use Rattle.turn_client_proto_poll.specs.Allocation.Awaited.{has_number}
-use Rattle.turn_client_proto_poll.specs.Core.Authenticating.{IsFirstJudged, IsSignedJudged}
-use Rattle.turn_client_proto_poll.specs.Core.Receiving.{Follows, IsFollowed, IsHeard, IsHeardIn}
-use Rattle.turn_client_proto_poll.specs.Indications.{is_indication}
-use Rattle.turn_client_proto_poll.specs.Core.Responding.{judged}
-use Rattle.turn_client_proto_poll.specs.Core.Standing.{IsJudgedStanding}
-use Rattle.turn_client_proto_poll.specs.Core.declared.protocol.Phase.{Phase}
-use Rattle.turn_client_proto_poll.specs.Core.declared.protocol.Phase.TheVariants.{Initial, InitialSent, Authenticating, Authenticated, Ended}
-use Rattle.turn_client_proto_poll.specs.Core.declared.protocol.Protocol.{Protocol}
+use Rattle.turn_client_proto_data.specs.Allocation.Awaited.{has_number}
+use Rattle.turn_client_proto_data.specs.Core.Authenticating.{IsFirstJudged, IsSignedJudged}
+use Rattle.turn_client_proto_data.specs.Core.Receiving.{Follows, IsFollowed, IsHeard, IsHeardIn}
+use Rattle.turn_client_proto_data.specs.Indications.{is_indication}
+use Rattle.turn_client_proto_data.specs.Core.Responding.{judged}
+use Rattle.turn_client_proto_data.specs.Core.Standing.{IsJudgedStanding}
+use Rattle.turn_client_proto_data.specs.Core.declared.protocol.Phase.{Phase}
+use Rattle.turn_client_proto_data.specs.Core.declared.protocol.Phase.TheVariants.{Initial, InitialSent, Authenticating, Authenticated, Ended}
+use Rattle.turn_client_proto_data.specs.Core.declared.protocol.Protocol.{Protocol}
 use Rattle.turn_client_proto_steps.proofs.Once.Allocating.{first_definite, signed_definite}
 use Rattle.turn_client_proto_steps.proofs.Once.Outcomes.{IsDefinite, ignored, tested}
 use Rattle.turn_client_proto_steps.proofs.Once.Judging.{Verdict, judged_same, no_memory}

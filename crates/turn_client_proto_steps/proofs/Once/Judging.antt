@@ -9,7 +9,7 @@ use Rattle.stun_proto.specs.ClientAuthErrors.{LongTermClientAuthError, Unauthori
 use Rattle.stun_proto.specs.ClientValidation.{IsAnswerable, IsForged, IsResent, IsUnanswerable, IsUnauthorized, IsUnsupported, IsValidated, going_by, keeping}
 use Rattle.stun_proto.specs.ClientValidations.{LongTermClientValidation, ResendRequest, Validated}
 use Rattle.stun_proto.specs.Digests.{IsRight}
-use Rattle.turn_client_proto_poll.specs.Request.Judging.{IsJudged}
+use Rattle.turn_client_proto_data.specs.Request.Judging.{IsJudged}
 use Rattle.turn_client_proto_steps.proofs.Once.Outcomes.{some_none, some_some}
 
 abbrev pub Verdict : Type 0

@@ -1,9 +1,9 @@
 -- The number of the next message is one.
 use Rattle.std.proofs.Common.{◌≡◌, ℕ, ◌<◌, Bool, true, sym, ap, ◌∙◌, inl, inr}
 use Rattle.std.proofs.lemmas.Bool.{cases_order}
-use Rattle.turn_client_proto_poll.specs.Core.Numbering.{IsFirstFree, IsNextNumber, behind, drawn, is_taken}
-use Rattle.turn_client_proto_poll.specs.Core.Outcomes.{IsHandled}
-use Rattle.turn_client_proto_poll.specs.Core.declared.protocol.Protocol.{Protocol}
+use Rattle.turn_client_proto_data.specs.Core.Numbering.{IsFirstFree, IsNextNumber, behind, drawn, is_taken}
+use Rattle.turn_client_proto_data.specs.Core.Outcomes.{IsHandled}
+use Rattle.turn_client_proto_data.specs.Core.declared.protocol.Protocol.{Protocol}
 
 -- the number at which the shorter way ends is passed by on the longer one, so it is taken
 no_shorter : (p : Protocol) (from number other : ℕ) (a : IsFirstFree p from number) (b : IsFirstFree p from other) → a.steps < b.steps → ⊥

@@ -1,8 +1,8 @@
 -- A relation between an answer and the client after it that leaves no choice.
 use Rattle.std.proofs.Common.{◌≡◌, Bool, true, false, Option, Some, None, sym, ◌∙◌}
 use Rattle.std.specs.Bool.{MatchBool}
-use Rattle.turn_client_proto_poll.specs.Core.Outcomes.{IsHandled, IsIgnored}
-use Rattle.turn_client_proto_poll.specs.Core.declared.protocol.Protocol.{Protocol}
+use Rattle.turn_client_proto_data.specs.Core.Outcomes.{IsHandled, IsIgnored}
+use Rattle.turn_client_proto_data.specs.Core.declared.protocol.Protocol.{Protocol}
 
 -- two answers, each with the client after it, are equal where both are in the relation
 pub record IsDefinite {A : Type 0} (leads : A → Protocol → Type 0) : Type 0 where

@@ -1,23 +1,25 @@
 -- What a client answers when it is polled, and what it is then, are one, but for want of memory.
-use Rattle.std.proofs.Common.{◌≡◌, ◌≢◌, ℕ, List, [], ◌∷◌, Option, Some, None, MatchOption, refl, sym, ap, ◌∙◌, subst}
+use Rattle.std.proofs.Common.{◌≡◌, ◌≢◌, ℕ, List, [], ◌∷◌, ◌++◌, Option, Some, None, MatchOption, refl, subst}
+use Rattle.std.specs.declared.net.socket_addr.SocketAddr.{SocketAddr}
 use Rattle.stun_proto.specs.AgentPolls.{StunAgentPollRet}
 use Rattle.stun_proto.specs.Least.{IsLeastOf}
 use Rattle.stun_proto.specs.Moments.{moment_after}
 use Rattle.stun_proto.specs.State as agents
-use Rattle.turn_client_proto_poll.specs.Allocation.Awaited.{is_among}
-use Rattle.turn_client_proto_poll.specs.Allocation.Polling.{kept, nexts}
-use Rattle.turn_client_proto_poll.specs.Api.declared.answer.TurnPollRet.{TurnPollRet}
-use Rattle.turn_client_proto_poll.specs.Api.declared.answer.TurnPollRet.TheVariants as answer
-use Rattle.turn_client_proto_poll.specs.Api.declared.event.TurnEvent.{TurnEvent}
-use Rattle.turn_client_proto_poll.specs.Channel.Lapsing as channels
-use Rattle.turn_client_proto_poll.specs.Permission.Telling as permissions
-use Rattle.turn_client_proto_poll.specs.Connection.Waiting.{unasked}
-use Rattle.turn_client_proto_poll.specs.Core.Ending.{ended}
+use Rattle.turn_client_proto_data.specs.Allocation.Awaited.{is_among}
+use Rattle.turn_client_proto_data.specs.Allocation.Polling.{kept, nexts}
+use Rattle.turn_client_proto_data.specs.Api.declared.answer.TurnPollRet.{TurnPollRet}
+use Rattle.turn_client_proto_data.specs.Api.declared.answer.TurnPollRet.TheVariants as answer
+use Rattle.turn_client_proto_data.specs.Api.declared.event.TurnEvent.{TurnEvent}
+use Rattle.turn_client_proto_data.specs.Channel.Lapsing as channels
+use Rattle.turn_client_proto_data.specs.Permission.Telling as permissions
+use Rattle.turn_client_proto_data.specs.Connection.Lapsing as joined
+use Rattle.turn_client_proto_data.specs.Connection.Waiting.{unasked}
+use Rattle.turn_client_proto_data.specs.Core.Ending.{ended}
 use Rattle.turn_client_proto_steps.specs.Held.{Waiting}
-use Rattle.turn_client_proto_poll.specs.Polling.{IsPolled, IsPolledBy, IsPolledIn, IsPolledSent, IsPolledStanding, IsTicked, IsWalked, after_asking, answer_of, ended_of, left, longest_pause, ready_after, socket_for, wait_of, wait_to_send, waits_until}
-use Rattle.turn_client_proto_poll.specs.Core.declared.protocol.Phase.{Phase}
-use Rattle.turn_client_proto_poll.specs.Core.declared.protocol.Phase.TheVariants.{Initial, InitialSent, Authenticating, Authenticated, Ended}
-use Rattle.turn_client_proto_poll.specs.Core.declared.protocol.Protocol.{Protocol}
+use Rattle.turn_client_proto_data.specs.Polling.{IsClosing, IsPolled, IsPolledBy, IsPolledIn, IsPolledSent, IsPolledStanding, IsTicked, IsWalked, after_asking, after_time, answer_of, ended_of, left, longest_pause, ready_after, socket_for, wait_of, wait_to_send, waits_until}
+use Rattle.turn_client_proto_data.specs.Core.declared.protocol.Phase.{Phase}
+use Rattle.turn_client_proto_data.specs.Core.declared.protocol.Phase.TheVariants.{Initial, InitialSent, Authenticating, Authenticated, Ended}
+use Rattle.turn_client_proto_data.specs.Core.declared.protocol.Protocol.{Protocol}
 use Rattle.turn_client_proto_steps.proofs.Once.Agents.{polled_same}
 use Rattle.turn_client_proto_steps.proofs.Once.Outcomes.{IsDefinite, only, tested}
 use Rattle.turn_client_proto_steps.proofs.Once.Least.{least_of_same}
@@ -25,6 +27,14 @@ use Rattle.turn_client_proto_steps.proofs.Once.Least.{least_of_same}
 module _ (over : Option ℕ) (wait : ℕ) (p : Protocol) (now : ℕ) where
   sent_definite : (numbers : List ℕ) → IsDefinite (IsPolledSent numbers over wait p now)
   sent_definite numbers = tested (is_among over numbers) (only answer.Closed (ended p)) (only (waits_until over now wait) p)
+
+  -- the sockets that are to be closed
+  abbrev sockets : List SocketAddr
+  sockets = p.closing ++ joined.all_gone over now (left over now p)
+
+  closing_definite : (all : List SocketAddr) (wanted : TurnPollRet) (q : Protocol) → IsDefinite (IsClosing all wanted q)
+  closing_definite [] wanted q = record { same = (only wanted q).same }
+  closing_definite (here ∷ rest) wanted q = record { same = (only (answer.TcpClose here q.server) (record q { closing = rest })).same }
 
   walked_definite : IsDefinite (IsWalked over wait p now)
   walked_definite = record {
@@ -36,7 +46,11 @@ module _ (over : Option ℕ) (wait : ℕ) (p : Protocol) (now : ℕ) where
         let each : List ℕ = channels.all_nexts over (ready_after p.last_send now) now (left over now p) in
         let again_moved = subst (λ (n : ℕ). IsLeastOf n each a.earliest) sooner a.least_of_channels in
         let earliest : a.earliest ≡ b.earliest = least_of_same b.sooner each a.earliest b.earliest again_moved b.least_of_channels in
-        (a.outcome.0 ∙ ap (answer_of (left over now p) over now) earliest ∙ sym b.outcome.0, a.outcome.1 ∙ sym b.outcome.1);
+        let ends : List ℕ = joined.all_nexts (left over now p) in
+        let last_moved = subst (λ (n : ℕ). IsLeastOf n ends a.first) earliest a.least_of_connections in
+        let first : a.first ≡ b.first = least_of_same b.earliest ends a.first b.first last_moved b.least_of_connections in
+        let outcome = subst (λ (n : ℕ). IsClosing sockets (answer_of (left over now p) over now n) (after_time over now p) ret one) first a.outcome in
+        (closing_definite sockets (answer_of (left over now p) over now b.first) (after_time over now p)).same ret again one other outcome b.outcome;
   }
 
   -- a socket is asked for, or time goes on

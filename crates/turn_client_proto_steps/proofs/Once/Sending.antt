@@ -4,10 +4,10 @@ use Rattle.std.specs.Prelude.{MatchOption}
 use Rattle.std.specs.declared.net.socket_addr.SocketAddr.{SocketAddr}
 use Rattle.stun_types.specs.declared.transport.TransportType.{TransportType}
 use Rattle.stun_types.specs.declared.transport.TransportType.TheVariants.{Tcp, Udp}
-use Rattle.turn_client_proto_poll.specs.Api.declared.error.SendError.{SendError}
-use Rattle.turn_client_proto_poll.specs.Core.Numbering.{AreAllTaken, IsNextNumber}
-use Rattle.turn_client_proto_poll.specs.Core.declared.protocol.Protocol.{Protocol}
-use Rattle.turn_client_proto_poll.specs.Sending.{Answer, Full, IsIndicated, IsPassedOn, IsSendAnswered, IsSentBy, IsSentOver, Numbered, by_control, channel_to, connection_to, indication_to, send_refusal, standing}
+use Rattle.turn_client_proto_data.specs.Api.declared.error.SendError.{SendError}
+use Rattle.turn_client_proto_data.specs.Core.Numbering.{AreAllTaken, IsNextNumber}
+use Rattle.turn_client_proto_data.specs.Core.declared.protocol.Protocol.{Protocol}
+use Rattle.turn_client_proto_data.specs.Sending.{Answer, Full, IsIndicated, IsPassedOn, IsSendAnswered, IsSentBy, IsSentOver, Numbered, by_control, channel_to, connection_to, indication_to, send_refusal, standing}
 use Rattle.turn_client_proto_steps.specs.Held.{Channel, Connection}
 use Rattle.turn_client_proto_steps.proofs.Numbers.{number_small}
 use Rattle.turn_client_proto_steps.proofs.Once.Numbering.{next_same}

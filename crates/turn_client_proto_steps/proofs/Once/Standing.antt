@@ -7,13 +7,13 @@ use Rattle.stun_proto.specs.ClientAuthErrors.{Unauthorized, IntegrityFailed, Uns
 use Rattle.stun_proto.specs.ClientValidations.{ResendRequest, Validated}
 use Rattle.stun_proto.specs.Handling.{is_awaited, is_response}
 use Rattle.turn_types.specs.TurnRegistry.{channel_bind_method, connect_method, create_permission_method, refresh_method}
-use Rattle.turn_client_proto_poll.specs.Channel.Awaited.{asked_by}
-use Rattle.turn_client_proto_poll.specs.Channel.declared.awaited.Asked.{Asked}
-use Rattle.turn_client_proto_poll.specs.Connection.Told.{is_connect}
-use Rattle.turn_client_proto_poll.specs.Core.Ending.{ended}
-use Rattle.turn_client_proto_poll.specs.Core.Responding.{accepted, challenged, is_tired}
-use Rattle.turn_client_proto_poll.specs.Core.Standing.{IsAskedAgain, IsJudgedStanding, IsRechallenged, IsRequestAnswered, IsSentAgain, IsTakenUp, after_connect, after_refresh, asks_again}
-use Rattle.turn_client_proto_poll.specs.Core.declared.protocol.Protocol.{Protocol}
+use Rattle.turn_client_proto_data.specs.Channel.Awaited.{asked_by}
+use Rattle.turn_client_proto_data.specs.Channel.declared.awaited.Asked.{Asked}
+use Rattle.turn_client_proto_data.specs.Connection.Told.{is_connect}
+use Rattle.turn_client_proto_data.specs.Core.Ending.{ended}
+use Rattle.turn_client_proto_data.specs.Core.Responding.{accepted, challenged, is_tired}
+use Rattle.turn_client_proto_data.specs.Core.Standing.{IsAskedAgain, IsJudgedStanding, IsRechallenged, IsRequestAnswered, IsSentAgain, IsTakenUp, after_connect, after_refresh, asks_again}
+use Rattle.turn_client_proto_data.specs.Core.declared.protocol.Protocol.{Protocol}
 use Rattle.turn_client_proto_steps.proofs.Once.Outcomes.{IsDefinite, handled, ignored, never, only, tested}
 use Rattle.turn_client_proto_steps.proofs.Once.Judging.{Verdict}
 use Rattle.turn_client_proto_steps.proofs.Once.Numbering.{numbered}

@@ -1,5 +1,4 @@
-use Rattle.std.proofs.Common.{length, rules, subst}
-use Rattle.std.specs.Prelude.{ℕ, List, ◌+◌, ◌≤◌}
+use Rattle.std.proofs.Common.{rules}
 use Rattle.turn_types.specs.TurnRegistry.{data_kind}
 use Rattle.turn_client_proto_poll.proofs.Parts.{place_fits}
 use Rattle.turn_client_proto_poll.proofs.payload.payload_in.Goals as goal

@@ -2,7 +2,7 @@ use Rattle.std.proofs.Common.{[], map, ap, subst, ◌∙◌}
 use Rattle.std.specs.Prelude.{◌≢◌, OnErr}
 use Rattle.turn_client_proto_core.proofs.Channel.Permission.Told.{always_told}
 use Rattle.turn_client_proto_core.specs.Channel.Lapsing as channels
-use Rattle.turn_client_proto_core.specs.Connection.Told as connections
+use Rattle.turn_client_proto_core.specs.Connection.Lapsing as joined
 use Rattle.turn_client_proto_core.specs.Permission.Telling as permissions
 use Rattle.turn_client_proto_poll.proofs.Lapses.{lapsing_told}
 use Rattle.turn_client_proto_poll.proofs.Tells.{each_changed}
@@ -13,7 +13,7 @@ returns-clause-ok c =
     let ended = c.args.ended.now in
     let now = c.args.now in
     let relays = c.in_ok-poll.ensures.ok ∙ ap (map (channels.polled ended now)) c.poll.ensures ∙ each_changed (channels.polled ended now) (permissions.polled ended now) c.args.allocations.now in
-    c.give_up.ensures ∙ ap (map (connections.given_up ended)) relays ∙ each_changed (connections.given_up ended) (λ a. channels.polled ended now (permissions.polled ended now a)) c.args.allocations.now
+    c.poll-3.ensures ∙ ap (map (joined.polled ended now)) relays ∙ each_changed (joined.polled ended now) (λ a. channels.polled ended now (permissions.polled ended now a)) c.args.allocations.now
 
 pub returns-in_err-poll-clause-told : goal.returns-in_err-poll-clause-told
 returns-in_err-poll-clause-told c =

@@ -1,21 +1,18 @@
-use Rattle.std.proofs.Common.{List, [], subst}
+use Rattle.std.proofs.Common.{[], subst}
 use Rattle.std.specs.Prelude.{◌≢◌, OnErr}
 use Rattle.turn_client_proto_core.proofs.Allocation.Changes.{on_ok}
 use Rattle.turn_client_proto_core.proofs.Channel.Permission.Told.{always_told}
 use Rattle.turn_client_proto_core.proofs.Results.{if_err}
-use Rattle.turn_client_proto_core.specs.Allocation.declared.connection.Connecting.{Connecting}
-use Rattle.turn_client_proto_core.specs.Connection.Told.{peers_over}
 use Rattle.turn_client_proto_poll.specs.Telling.{relay_failures}
 use Rattle.turn_client_proto_poll.proofs.Lapses.{told_both, told_connections, told_relays}
 use Rattle.turn_client_proto_poll.proofs.telling.tell_of.Goals as goal
 
 pub returns-clause-ok : goal.returns-clause-ok
 returns-clause-ok c =
-    on_ok c.tell_over.result (told_both c.args.ended.now c.args.now c.args.a.now c.args.events.now c.tell_relays.new.events c.tell_over.new.events c.as_slice.result.now c.as_slice.ensures c.in_ok-tell_relays.ensures.ok) c.tell_over.ensures.ok
+    on_ok c.tell_connections.result (told_both c.args.ended.now c.args.now c.args.a.now c.args.events.now c.tell_relays.new.events c.tell_connections.new.events c.in_ok-tell_relays.ensures.ok) c.tell_connections.ensures.ok
 
 pub returns-clause-told : goal.returns-clause-told
-returns-clause-told c =
-    if_err c.tell_over.result (λ some. told_connections c.args.ended.now c.args.now c.args.a.now (subst (λ (l : List Connecting). peers_over c.args.ended.now l ≢ []) c.as_slice.ensures some)) c.tell_over.ensures.told
+returns-clause-told c = if_err c.tell_connections.result (told_connections c.args.ended.now c.args.now c.args.a.now) c.tell_connections.ensures.told
 
 pub returns-in_err-tell_relays-clause-told : goal.returns-in_err-tell_relays-clause-told
 returns-in_err-tell_relays-clause-told c =

@@ -1,0 +1,27 @@
+-- How a client's calls that tell of sockets are answered (RFC 6062, sections 4.3 and 4.6).
+use Rattle.std.specs.Prelude.{◌≡◌, ℕ, Bool, false, Option, Some, None, Result, Ok, Err, if◌then◌else◌}
+use Rattle.std.specs.declared.net.socket_addr.SocketAddr.{SocketAddr}
+use Rattle.turn_client_proto_receipt.specs.Api.declared.answer.Socket5Tuple.{Socket5Tuple}
+use Rattle.turn_client_proto_receipt.specs.Api.declared.error.TcpAllocateError.{TcpAllocateError}
+use Rattle.turn_client_proto_receipt.specs.Control.{Control, Datagrams, Open, Closed}
+use Rattle.turn_client_proto_receipt.specs.Kept.{Kept, Protocol}
+use Rattle.turn_client_proto_receipt.specs.Permission.Same.{is_same_address}
+use Rattle.turn_client_proto_receipt.specs.Sockets.{IsSocketAnswered}
+
+-- a socket was taken that has the own address of the client's connection to the server
+abbrev pub takes_place : Protocol → Option SocketAddr → Result (Unit {0}) TcpAllocateError → Bool
+takes_place p here (Err error) = false
+takes_place p None (Ok x) = false
+takes_place p (Some here) (Ok x) = is_same_address here p.agent.here
+
+-- the stream of that connection ends then, for what comes to the address is the new one's
+abbrev pub replaced : Control → Control
+replaced Datagrams = Datagrams
+replaced (Open stream) = Closed
+replaced Closed = Closed
+
+-- a call that tells of a socket, as it is answered
+pub record IsSocketTold (old : Kept) (connection : ℕ) (s : Socket5Tuple) (peer : SocketAddr)
+    (here : Option SocketAddr) (now : ℕ) (answer : Result (Unit {0}) TcpAllocateError) (new : Kept) : Type 0 where
+  pub core : IsSocketAnswered old.core connection s peer here now answer new.core
+  pub control : new.control ≡ (if takes_place old.core here answer then replaced old.control else old.control)

@@ -1,0 +1,15 @@
+use Rattle.std.proofs.Common.{List, [], arith, subst}
+use Rattle.std.specs.Prelude.{◌≢◌, OnErr}
+use Rattle.turn_client_proto_channel.specs.Permission.Allocation.declared.allocation.Allocation.{Allocation}
+use Rattle.turn_client_proto_channel.specs.Permission.Allocation.declared.connection.Connection.{Connection}
+use Rattle.turn_client_proto_channel.proofs.Permission.Told.{always_told, some_told}
+use Rattle.turn_client_proto_connection.specs.Lapsing.{sockets_gone}
+use Rattle.turn_client_proto_connection.proofs.lapse.close_all_gone.Goals as goal
+
+pub returns-in_err-close_gone-clause-told : goal.returns-in_err-close_gone-clause-told
+returns-in_err-close_gone-clause-told c =
+    let gone : Allocation → _ = λ (a : Allocation). sockets_gone c.args.ended.now c.args.now a.connections in
+    let told = subst (λ r. OnErr r (sockets_gone c.args.ended.now c.args.now c.as_slice.result.now ≢ [])) c.in_err-close_gone.was c.close_gone.ensures.told in
+    let own = subst (λ (l : List Connection). sockets_gone c.args.ended.now c.args.now l ≢ []) c.as_slice.ensures told in
+    let there = subst (λ (a : Allocation). gone a ≢ []) c.allocation-item.is own in
+    always_told c.from_residual.result (some_told gone c.args.allocations.now c.loop-allocation.allocation-index c.allocation-item.result (omega arith) there)

@@ -1,0 +1,21 @@
+-- The connections that a client shows (RFC 6062, section 4).
+use Rattle.std.specs.Prelude.{ℕ, Bool, List, [], map, is_none, if◌then◌else◌}
+use Rattle.std.specs.List.{flat_map}
+use Rattle.std.specs.declared.net.socket_addr.SocketAddr.{SocketAddr}
+use Rattle.turn_client_proto_channel.specs.Permission.Allocation.declared.allocation.Allocation.{Allocation}
+use Rattle.turn_client_proto_channel.specs.Permission.Allocation.declared.connection.Connection.{Connection}
+
+-- the connections of an allocation which is not marked as expired
+abbrev pub connections_of : Allocation → List Connection
+connections_of a = if a.is_expired then [] else a.connections
+
+-- what is shown of one: its own address, its peer, the number by which the server knows it, and whether it is bound
+abbrev pub row_of : Connection → SocketAddr × SocketAddr × ℕ × Bool
+row_of c = (c.here, c.peer, c.connection, is_none c.awaited)
+
+abbrev pub rows_of : List Connection → List (SocketAddr × SocketAddr × ℕ × Bool)
+rows_of connections = map row_of connections
+
+-- those of all allocations, in order
+abbrev pub connections_shown : List Allocation → List (SocketAddr × SocketAddr × ℕ × Bool)
+connections_shown allocations = flat_map (λ a. rows_of (connections_of a)) allocations

@@ -1,0 +1,47 @@
+-- Sockets for connections to peers, and their end (RFC 6062, sections 4.3 and 4.6).
+use Rattle.std.specs.Prelude.{ℕ, ◌==◌, Bool, not, ◌&&◌, List, [], ◌∷◌, ◌++◌, filter, Some}
+use Rattle.std.specs.List.{list_any}
+use Rattle.std.specs.declared.net.socket_addr.SocketAddr.{SocketAddr}
+use Rattle.turn_client_proto_channel.specs.Permission.Allocation.declared.allocation.Allocation.{Allocation}
+use Rattle.turn_client_proto_channel.specs.Permission.Allocation.declared.connection.Binding.{Binding}
+use Rattle.turn_client_proto_channel.specs.Permission.Allocation.declared.connection.Connection.{Connection}
+use Rattle.turn_client_proto_channel.specs.Permission.Allocation.declared.connection.Waiting.{Waiting}
+use Rattle.turn_client_proto_channel.specs.Permission.Same.{is_same_address}
+
+-- ---- a connection that waits for its socket
+
+-- it is that of a number and to a peer, whether the caller was asked for its socket or not
+abbrev pub is_socket_for : (connection : ℕ) → SocketAddr → Waiting → Bool
+is_socket_for connection peer w = (w.connection == connection) && is_same_address w.peer peer
+
+abbrev pub awaits_socket : (connection : ℕ) → SocketAddr → Allocation → Bool
+awaits_socket connection peer a = list_any (is_socket_for connection peer) a.waiting
+
+-- an allocation in which it waits no more
+unfoldable pub let_go : (connection : ℕ) → SocketAddr → Allocation → Allocation
+let_go connection peer a = record a { waiting = filter (λ w. not (is_socket_for connection peer w)) a.waiting }
+
+-- ---- a connection that has its socket
+
+-- its socket has this own address
+abbrev pub is_from : SocketAddr → Connection → Bool
+is_from here c = is_same_address c.here here
+
+abbrev pub has_from : SocketAddr → Allocation → Bool
+has_from here a = list_any (is_from here) a.connections
+
+abbrev pub is_any_from : SocketAddr → List Allocation → Bool
+is_any_from here allocations = list_any (has_from here) allocations
+
+-- a connection that a request is to bind
+abbrev pub to_bind : (here peer : SocketAddr) → (connection : ℕ) → Binding → Connection
+to_bind here peer connection awaited =
+    record { here = here; peer = peer; connection = connection; awaited = Some awaited }
+
+-- an allocation with one more
+abbrev pub binding : Connection → Allocation → Allocation
+binding c a = record a { connections = a.connections ++ c ∷ [] }
+
+-- an allocation without that of an own address
+unfoldable pub closed : SocketAddr → Allocation → Allocation
+closed here a = record a { connections = filter (λ c. not (is_from here c)) a.connections }

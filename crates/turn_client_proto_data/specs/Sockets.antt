@@ -1,0 +1,90 @@
+-- A socket that a client is told of (RFC 6062, section 4.3).
+use Rattle.std.specs.Prelude.{◌≡◌, ℕ, Bool, false, not, ◌&&◌, List, map, position, Option, Some, None, Result, Ok, Err, MatchResult, IfSome, IfNone, if◌then◌else◌}
+use Rattle.std.specs.declared.net.socket_addr.SocketAddr.{SocketAddr}
+use Rattle.stun_types.specs.declared.transport.TransportType.TheVariants.{Tcp}
+use Rattle.turn_client_proto_poll.specs.Allocation.Changes.{change_first}
+use Rattle.turn_client_proto_poll.specs.Allocation.declared.allocation.Allocation.{Allocation}
+use Rattle.turn_client_proto_poll.specs.Api.declared.answer.Socket5Tuple.{Socket5Tuple}
+use Rattle.turn_client_proto_poll.specs.Api.declared.error.TcpAllocateError.{TcpAllocateError}
+use Rattle.turn_client_proto_poll.specs.Api.declared.error.TcpAllocateError.TheVariants.{AlreadyExists, NoAllocation, NoMemory}
+use Rattle.turn_client_proto_poll.specs.Connection.Sockets.{awaits_socket, binding, is_any_from, let_go, to_bind}
+use Rattle.turn_client_proto_poll.specs.Core.Asking.{asked_from}
+use Rattle.turn_client_proto_poll.specs.Core.Deleting.{is_authenticated}
+use Rattle.turn_client_proto_poll.specs.Core.Moments.{moment_after}
+use Rattle.turn_client_proto_poll.specs.Core.Numbering.{IsNextNumber, after_number}
+use Rattle.turn_client_proto_poll.specs.Core.declared.protocol.Protocol.{Protocol}
+use Rattle.turn_client_proto_poll.specs.Permission.Same.{is_same_address, is_same_transport}
+use Rattle.turn_client_proto_poll.specs.Request.ToldRequests.{IsLawfulRequest}
+use Rattle.turn_client_proto_poll.specs.Request.declared.request.TurnRequest.TheVariants.{ConnectionBind}
+
+-- so long a CONNECTION_BIND may be answered, in nanoseconds: 39.5 seconds
+abbrev pub binding_time : ℕ
+binding_time = 39_500_000_000
+
+-- a socket is that of the client's own connection to the server
+abbrev pub is_own : Protocol → Socket5Tuple → Bool
+is_own p s = is_same_transport s.transport p.agent.transport
+    && (is_same_address s.from p.agent.here && is_same_address s.to p.server)
+
+-- a client that has allocated over TCP takes sockets where it is told which connection to the
+-- server is meant
+abbrev pub takes_sockets : Protocol → Socket5Tuple → Bool
+takes_sockets p s = is_same_transport p.allocates Tcp && (is_own p s && is_authenticated p.phase)
+
+-- a connection has this own address already
+abbrev pub is_used : Option SocketAddr → List Allocation → Bool
+is_used None allocations = false
+is_used (Some here) allocations = is_any_from here allocations
+
+-- why a socket is not taken, of the reasons that hold the first: in no allocation, of several at
+-- the place of the first, a connection of the number and to the peer waits for its socket, or the
+-- client takes none; or another connection has the socket's own address
+abbrev pub socket_refusal_in : (place : Option ℕ) → (takes used : Bool) → Option TcpAllocateError
+socket_refusal_in None takes used = Some NoAllocation
+socket_refusal_in (Some place) takes used = if not takes then Some NoAllocation
+    else if used then Some AlreadyExists
+    else None
+
+abbrev pub socket_refusal : Protocol → (connection : ℕ) → Socket5Tuple → SocketAddr
+    → Option SocketAddr → Option TcpAllocateError
+socket_refusal p connection s peer here =
+    socket_refusal_in (position (awaits_socket connection peer) p.allocations) (takes_sockets p s)
+    (is_used here p.allocations)
+
+-- a client in which the connection of a number and to a peer waits for its socket no more
+unfoldable pub unsocketed : (connection : ℕ) → SocketAddr → Protocol → Protocol
+unsocketed connection peer p = record p { allocations = map (let_go connection peer) p.allocations }
+
+-- a client that has a socket for it, and asks from that, at a moment and by a request of this
+-- number, that it be bound
+unfoldable pub after_socket : (here peer : SocketAddr) → (connection number now : ℕ)
+    → Protocol → Protocol
+after_socket here peer connection number now p =
+    record (asked_from here (after_number p) (ConnectionBind connection) number now) {
+      allocations = map (let_go connection peer) (change_first (awaits_socket connection peer)
+          (binding (to_bind here peer connection (record { number = number; expiry = moment_after now binding_time })))
+          p.allocations);
+    }
+
+-- so it asks, by a request of the next number
+pub record IsBindingAsked (old : Protocol) (here peer : SocketAddr) (connection now : ℕ) (new : Protocol) : Type 0 where
+  pub number : ℕ
+  pub is_next : IsNextNumber old number
+  pub lawful : IsLawfulRequest (ConnectionBind connection)
+  pub after : new ≡ after_socket here peer connection number now old
+
+-- no socket was opened; or one was, and it is asked for; or memory was refused, and nothing changed but the words that
+-- were drawn
+abbrev pub IsSocketTaken : Option SocketAddr → Protocol → (connection : ℕ) → SocketAddr → (now : ℕ)
+    → Result (Unit {0}) TcpAllocateError → Protocol → Type 0
+IsSocketTaken None old connection peer now answer new = (answer ≡ Ok tt) × (new ≡ unsocketed connection peer old)
+IsSocketTaken (Some here) old connection peer now answer new = MatchResult answer
+    (λ _. IsBindingAsked old here peer connection now new)
+    (λ error. (error ≡ NoMemory) × (new ≡ after_number old))
+
+-- a call that tells of a socket, as it is answered
+pub record IsSocketAnswered (old : Protocol) (connection : ℕ) (s : Socket5Tuple) (peer : SocketAddr)
+    (here : Option SocketAddr) (now : ℕ) (answer : Result (Unit {0}) TcpAllocateError) (new : Protocol) : Type 0 where
+  pub refused : IfSome (socket_refusal old connection s peer here) (λ error. (answer ≡ Err error) × (new ≡ old))
+  pub taken : IfNone (socket_refusal old connection s peer here)
+      (IsSocketTaken here old connection peer now answer new)

@@ -1,0 +1,13 @@
+//! The data connections of a TURN client (RFC 6062): [`connecting`] asks for a connection to a peer,
+//! [`socket`] takes the socket for one, and [`closing`] that a socket was closed.
+#![tactic(auto, using(crate::proofs::Usual::usual), unfolding(crate::proofs::Usual::opened))]
+
+pub mod closing;
+pub mod connecting;
+pub mod socket;
+
+// What stands above this crate has these through it.
+pub use turn_client_proto_poll::{
+    allocation, api, channel, connection, deleting, drawing, indication, known, laws, payload,
+    permission, polling, protocol, sending,
+};
