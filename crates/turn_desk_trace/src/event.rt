@@ -363,7 +363,8 @@ fn read_socket(word: &str) -> Option<Option<SocketAddr>>
 /// The number, the peer, the socket and the moment of a line that begins with `socket`, from the
 /// words behind it.
 fn read_allocated(words: &[&str]) -> Option<(u32, SocketAddr, Option<SocketAddr>, Instant)>
-    ensures { MatchOption result ((id : ℕ) (peer : SocketAddr) (here : Option SocketAddr) (moment : ℕ)
+    ensures { MatchOption result
+        ((id : ℕ) (peer : SocketAddr) (here : Option SocketAddr) (moment : ℕ)
         → ¬ (IsAllocated (map (λ x. x.now) words.now) id peer here moment))
         (λ read. IsAllocated (map (λ x. x.now) words.now) read.0 read.1 read.2 read.3) }
 {
@@ -376,8 +377,8 @@ fn read_allocated(words: &[&str]) -> Option<(u32, SocketAddr, Option<SocketAddr>
     }
 }
 
-/// The own address, that of the other side and the moment of a line that begins with `closed`, from the
-/// words behind it.
+/// The own address, that of the other side and the moment of a line that begins with `closed`, from
+/// the words behind it.
 fn read_closed(words: &[&str]) -> Option<(SocketAddr, SocketAddr, Instant)>
     ensures { MatchOption result ((here there : SocketAddr) (moment : ℕ)
         → ¬ (IsClosed (map (λ x. x.now) words.now) here there moment))
