@@ -6,7 +6,7 @@ import struct
 
 from permissions import DUE, NAMED_ANEW, OTHER_NONCE, PEER_3, PEER_6
 from streams import of_tcp
-from streams_base import LONGEST, over
+from streams_base import LONGEST, Piped, over
 from traces import (
     CLIENT, ERROR, HASHED, MS, PEER, SECOND, SERVER, SHA1, code, create_permission, error, lifetime,
     message, number, refresh, success, unsigned, xored, CREATE_PERMISSION, REFRESH,
@@ -45,9 +45,9 @@ def unreached(t, now, k, peer):
     decided(t, now, connect(k, peer), "refuse 447", error(CONNECT, k, code(447, b"Connection Timeout or Failure")))
 
 
-def permitted():
+def permitted(kind=Piped):
     """A client with an allocation over TCP and a permission for a peer, granted at 100 ms."""
-    t = of_tcp()
+    t = of_tcp(kind=kind)
     t.permission(50 * MS, PEER_3, transport="tcp")
     decided(t, 100 * MS, create_permission(2, PEER_3), "grant", success(CREATE_PERMISSION, 2))
     t.event(f"PermissionCreated tcp {PEER_3}")

@@ -1,9 +1,8 @@
 """The traces of sockets for connections to peers (`docs/TRACE.md`): what is asked over them, until when, and what
-becomes of them (RFC 6062, sections 4.3 and 4.6). What the server answers over a socket isn't taken yet. `world.py` puts
-them behind those of connections.
+becomes of them (RFC 6062, sections 4.3 and 4.6). No connection is bound here: what comes over the sockets is in
+`bound.py`. `world.py` puts them behind those of connections.
 """
 
-import connections
 from connections import AT, NEXT_TO, OVER, THIRD, asking, asks, asks_socket, connect, connected, named
 from permissions import DUE, NAMED_ANEW, OTHER_NONCE
 from streams_base import LONGEST, over
@@ -39,7 +38,10 @@ def closed(t, now, local, server=SERVER):
 
 
 def lists(t, *rows):
-    return t.say("connections", " ".join(["connections", *(f"{here} {peer} {k} waiting" for here, peer, k in rows)]))
+    """The client shows these connections, each by its own address, its peer and its number, and `bound` where it isn't
+    waiting."""
+    shown = (f"{here} {peer} {k} {how[0] if how else 'waiting'}" for here, peer, k, *how in rows)
+    return t.say("connections", " ".join(["connections", *shown]))
 
 
 def awaiting():
@@ -266,7 +268,7 @@ def in_place_of_control():
     t.hear(150 * MS, piece[:10])
     opens(t, 150 * MS, 7, AT, CLIENT)
     lists(t, (CLIENT, AT, 7))
-    t.hear(150 * MS, piece[10:], "ignored")
+    t.hear(150 * MS, piece[10:])
     t.say(f"recv {150 * MS}", "none")
     draws_from(t, 200 * MS, CLIENT, bind(4, 7))
     closes(t, UNTIL, CLIENT)
@@ -321,29 +323,9 @@ def ends_with_allocation():
     return "An allocation's time is over while a connection is to be bound: it goes without an event", t
 
 
-def example():
-    """Both sockets of the connections of `connections.example` are opened, and no connection is bound."""
-    t = connections.example()
-    now, until = 300 * MS, LONGEST + 300 * MS
-    opens(t, now, 7, AT, ONE)
-    opens(t, now, 8, NEXT_TO, ONE, "refused AlreadyExists")
-    opens(t, now, 8, NEXT_TO, TWO)
-    lists(t, (ONE, AT, 7), (TWO, NEXT_TO, 8))
-    for i, (here, k) in enumerate(((ONE, 7), (TWO, 8))):
-        draws_from(t, 350 * MS + 50 * MS * i, here, bind(7 + i, k, NAMED_ANEW))
-    closed(t, 400 * MS, TWO)
-    closes(t, 400 * MS, TWO)
-    t.poll(400 * MS, until)
-    closes(t, until + 1, ONE)
-    t.event(f"TcpConnectFailed {AT}")
-    t.event("none")
-    lists(t)
-    return "Connections to two peers, one of them granted at the third request: their sockets are told, and closed", t
-
-
 def socket_traces():
     yield from (
         never_answered(), not_asked_yet(), without(), *refused_in_order(), late(), closed_by_user(), middle_closed(),
         closed_first(), over_control(), challenged_over_control(), in_place_of_control(), closed_then_ended(),
-        closed_behind_events(), deleted(), ends_with_allocation(), example(),
+        closed_behind_events(), deleted(), ends_with_allocation(),
     )

@@ -8,7 +8,7 @@ from channels import A, B, ONE, ONE_IP, SIX, bound, created
 from payloads import AT_1, AT_2, HI, indicates, not_sent
 from permissions import DUE, NAMED_ANEW, OTHER_NONCE, PEER_1, PEER_6, RELAYED_6
 from streams_base import (
-    DATA_OF_1, LONGEST, NEXT, NOW, OVER_TCP, REPORT_OF_1, carrying, over, padded, places_within,
+    DATA_OF_1, LONGEST, NEXT, NOW, OVER_TCP, REPORT_OF_1, Piped, carrying, over, padded, places_within,
 )
 from streams_frames import (
     channel_behind_its_grant, dead_behind_a_frame, end_and_beginning, end_of_the_stream, end_within_a_frame,
@@ -352,9 +352,9 @@ def forged_grant():
 # ---- an allocation over TCP
 
 
-def of_tcp(seconds=600):
+def of_tcp(seconds=600, kind=Piped):
     """A client that is granted an allocation over TCP."""
-    t = over("tcp")
+    t = over("tcp", kind)
     asked = message(ALLOCATE, number(0), [lifetime(1800), OVER_TCP, (DONT_FRAGMENT, b"")])
     drawn = t.draw(0, asked)
     line = t.ask(0, f"@{drawn}", "refuse 400", challenge(0))

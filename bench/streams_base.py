@@ -43,17 +43,34 @@ def places_within(size, seed):
     return [at for at in places if at < size]
 
 
-class Piped(Trace):
+def spans(size, places):
+    """Where the pieces of so many bytes begin and end that are cut at these places."""
+    return zip((0, *places), (*places, size))
+
+
+class Pieces:
+    """What takes pieces of a stream one by one, by `piece`."""
+
+    def pieces(self, now, *pieces):
+        """They come one behind another, and nothing of them is asked for: what each is answered."""
+        return [self.piece(now, it) for it in pieces]
+
+    def cut(self, now, line, text, *places):
+        """The answer of a line comes cut at these places."""
+        return [self.piece(now, text[a:b], f"@{line}:{a}:{b}") for a, b in spans(len(text), places)]
+
+
+class Piped(Pieces, Trace):
     """Of a client over TCP: what is kept of the stream to it, and what its frames give.
 
     `peers` has the peers of the channels that stand, and `means` what messages are answered, the last answer of each
-    again and again. Another message is for nobody.
+    again and again. Another message is for nobody. `sockets` has those of its connections to peers.
     """
 
     def __init__(self, lines):
         super().__init__(lines)
         self.kept, self.is_dead, self.is_over = b"", False, False
-        self.peers = {}
+        self.peers, self.sockets = {}, []
         self.means = {it: [GARBLED] for it in (BROKEN, MARKED, ODD)}
 
     def look(self):
@@ -103,13 +120,9 @@ class Piped(Trace):
         self.hear(now, piece if what is None else what, answer)
         return answer
 
-    def pieces(self, now, *pieces):
-        """They come one behind another, and nothing of them is asked for: what each is answered."""
-        return [self.piece(now, it) for it in pieces]
-
     def recv(self, now):
-        """What waits is asked for: what is answered."""
-        answer = self.pulled() or "none"
+        """What waits is asked for: what is answered. Bytes that came over a socket are given first."""
+        answer = next(filter(None, (it.given() for it in self.sockets)), None) or self.pulled() or "none"
         self.say(f"recv {now}", answer)
         return answer
 
@@ -126,9 +139,7 @@ class Piped(Trace):
 
     def comes(self, now, line, text, *places):
         """The answer of a line, which the client handles, comes cut at these places."""
-        self.is_handled_once(text)
-        places = (0, *places, len(text))
-        return [self.piece(now, text[a:b], f"@{line}:{a}:{b}") for a, b in zip(places, places[1:])]
+        return self.cut(now, line, self.is_handled_once(text), *places)
 
     def lets(self, *peers, transport="udp"):
         """These have permissions from now on."""
@@ -138,10 +149,10 @@ class Piped(Trace):
             self.means[told(of(peer), OTHER_REPORT)] = [f"icmp {transport} {peer} 1 2 3"]
 
 
-def over(transport="udp", **how):
+def over(transport="udp", kind=Piped, **how):
     """A client over TCP that asks for an allocation over a transport."""
     made = setup(**how).replace("client udp", "client tcp")
-    return Piped(made.replace(f"{SERVER} udp", f"{SERVER} {transport}"))
+    return kind(made.replace(f"{SERVER} udp", f"{SERVER} {transport}"))
 
 
 def holding(*peers):

@@ -8,7 +8,7 @@ from payloads import AT_1, AT_2, HI, OTHER_REPORT, REPORT, data, indicates, not_
 from permissions import DUE, LAPSE, PEER_1, PEER_2
 from streams_base import (
     BROKEN, DATA_OF_1, LONGEST, MARKED, NEXT, NOW, ODD, REPORT_OF_1, carrying, holding, over, padded, peer_gives,
-    places_within,
+    places_within, spans,
 )
 from traces import (
     CHANNEL_BIND, CLIENT, CREATE_PERMISSION, HASHED, MS, RELAYED, SECOND, SERVER, Trace, challenge, setup,
@@ -25,8 +25,8 @@ def cut(t, now, k, ip, *places):
     t.asks(now, k, ip)
     now += 50 * MS
     stream = DATA_OF_1 + padded(A, b"hello") + t.is_handled_once(success(CREATE_PERMISSION, k))
-    places, given = (0, *places, len(stream)), []
-    for a, b in zip(places, places[1:]):
+    given = []
+    for a, b in spans(len(stream), places):
         given += [t.piece(now, stream[a:b]), *t.rest(now)]
     wanted = [peer_gives(AT_1, HI), peer_gives(ONE, b"hello")]
     assert [it for it in given if it.startswith("peer")] == wanted, given

@@ -6,7 +6,8 @@ were worked out by hand, from the waits that a client is documented to have. It 
 wrote is stored: eight examples, and the traces of a client and a desk in the stored run of `turn_traces`,
 behind those of a desk alone. The traces of permissions are in `permissions.py`, those of channels in
 `channels.py` and `channels_later.py`, those of sends and payloads in `payloads.py`, those of a client over
-TCP in `streams.py`, those of connections in `connections.py`, and those of their sockets in `sockets.py`.
+TCP in `streams.py`, those of connections in `connections.py`, those of their sockets in `sockets.py`, and
+those of what comes over these in `bound.py`.
 """
 
 import hashlib
@@ -556,6 +557,7 @@ def each_setting():
 
 def good_traces():
     # they take their words from this file
+    from bound import bound_traces
     from channels_later import channel_traces
     from payloads import payload_traces
     from permissions import permission_traces
@@ -575,6 +577,7 @@ def good_traces():
         *refreshes_answered(), stale_refresh(), stale_refresh_lost(), stale_deletion(),
         mismatched_deletion(), *each_setting(), *permission_traces(), *channel_traces(),
         *payload_traces(), *stream_traces(), *connection_traces(), *socket_traces(),
+        *bound_traces(),
     )
 
 
@@ -688,8 +691,8 @@ def all_traces():
 
 
 def examples():
+    from bound import example as example_of_connections
     from channels import granted_channel_again
-    from sockets import example as example_of_connections
     from payloads import example
     from permissions import granted_reply_again
     from streams import example as example_over_tcp

@@ -25,3 +25,5 @@ pub use Rattle.turn_client_proto_receipt.proofs.Shown
 pub use Rattle.turn_client_proto_receipt.proofs.ShownChannels
 pub use Rattle.turn_client_proto_receipt.proofs.ShownConnections
 pub use Rattle.turn_client_proto_receipt.proofs.Socketing
+pub use Rattle.turn_client_proto_receipt.proofs.Answering
+pub use Rattle.turn_client_proto_receipt.proofs.Streaming

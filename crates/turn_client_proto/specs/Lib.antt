@@ -12,6 +12,8 @@ pub use Rattle.turn_client_proto_receipt.specs.Order
 pub use Rattle.turn_client_proto_receipt.specs.Pieces
 pub use Rattle.turn_client_proto_receipt.specs.Pulls
 pub use Rattle.turn_client_proto_receipt.specs.Receipts
+pub use Rattle.turn_client_proto_receipt.specs.SocketCuts
+pub use Rattle.turn_client_proto_receipt.specs.SocketPieces
 pub use Rattle.turn_client_proto_receipt.specs.Waiting
 pub use Rattle.turn_client_proto_receipt.specs.declared.handing.Taken
 pub use Rattle.turn_client_proto_receipt.specs.Core.Beginning
@@ -21,12 +23,14 @@ pub use Rattle.turn_client_proto_receipt.specs.Connection
 pub use Rattle.turn_client_proto_receipt.specs.Core.Binding
 pub use Rattle.turn_client_proto_receipt.specs.Core.Deleting
 pub use Rattle.turn_client_proto_receipt.specs.Drawing
+pub use Rattle.turn_client_proto_receipt.specs.Hearing
 pub use Rattle.turn_client_proto_receipt.specs.OfPeers
 pub use Rattle.turn_client_proto_receipt.specs.Payloads
 pub use Rattle.turn_client_proto_receipt.specs.Sending
 pub use Rattle.turn_client_proto_receipt.specs.Sockets
 pub use Rattle.turn_client_proto_receipt.specs.Core.Ending
 pub use Rattle.turn_client_proto_receipt.specs.Core.Permitting
+pub use Rattle.turn_client_proto_receipt.specs.Core.Receiving
 pub use Rattle.turn_client_proto_receipt.specs.Polling
 pub use Rattle.turn_client_proto_receipt.specs.Api.Config
 pub use Rattle.turn_client_proto_receipt.specs.Allocation

@@ -1,6 +1,6 @@
 //! The settings of a client, the trait of its calls, and what they answer.
 
-ghost use Rattle.std.specs.Prelude.{◌≡◌, ◌≢◌, ◌++◌, ℕ, [], true, IfNone, IfOk, OnErr, OnOk, option_to_list};
+ghost use Rattle.std.specs.Prelude.{◌≡◌, ◌≢◌, ◌++◌, [], true, IfNone, IfOk, OnErr, OnOk, option_to_list};
 ghost use Rattle.std.specs.Option.{option_map};
 ghost use Rattle.turn_client_proto_receipt.specs.Closing.{after_close, is_joined};
 ghost use Rattle.turn_client_proto_receipt.specs.Connecting.{IsConnectAnswered};
@@ -50,10 +50,11 @@ pub const CLIENT_END: u64 = 1 << 62;
 /// first frame gives that a piece makes whole, and `poll_recv` what the others do: it is to be called after
 /// each piece until it answers `None`.
 ///
-/// A client asks for connections to peers, tells for which it needs a socket, and asks over that socket that
-/// the connection be bound; but what the server answers there is not taken yet: `recv` gives back what comes
-/// to another address than the client's own. So no connection is bound, and after 39.5 seconds `poll` gives
-/// it up.
+/// A client over TCP asks for connections to peers (RFC 6062): `tcp_connect` asks for one, `poll` for its
+/// socket, `allocated_tcp_socket` takes that, and the client asks over it that the connection be bound. What
+/// comes over the socket is handed in by `recv`, as a piece that came to the socket's own address. The event
+/// `TcpConnected` tells that the connection is bound: from then on bytes are the peer's, as they are, and
+/// `send_to` carries bytes to it. Where nothing binds it within 39.5 seconds, `poll` gives it up.
 pub trait TurnClientApi: Debug + Send {
     ghost kept: { Self → Kept };
 
@@ -229,10 +230,11 @@ pub trait TurnClientApi: Debug + Send {
             IsSendAnswered old transport to (T.items «data») now (answered_as T.items result) new)
             (kept self.old) (kept self.new) };
 
-    /// The data of a peer that has come in the stream and waits. The frames that wait are taken up in
-    /// order, until one carries data; `None`, where none is whole any more, or the client has failed. What
-    /// is neither a message nor a channel frame is passed over, and so is a report in ICMP. A client over
-    /// UDP has no stream.
+    /// The data of a peer that has come over TCP and waits. First come bytes that wait of the peer of a
+    /// bound connection, of the first that has some, in the order of `connections`: they stood behind the
+    /// response that bound it. Then the frames of the stream that wait are taken up in order, until one
+    /// carries data; `None`, where none is whole any more, or the client has failed. What is neither a message
+    /// nor a channel frame is passed over, and so is a report in ICMP. A client over UDP has no stream.
     ///
     /// Where memory is refused, `NoMemory`, and the client has failed: it is asked for where a message
     /// makes the client grow, and for the data that is answered.
@@ -241,10 +243,10 @@ pub trait TurnClientApi: Debug + Send {
             IsWaitingGiven (kept self.old) now given (kept self.new)) }
         ensures err { OnErr result (IsWaitingLost (kept self.old) now (kept self.new)) };
 
-    /// Hands in what came at a moment: over UDP a datagram, over TCP a piece of the stream. What didn't
-    /// come from the server to the client's own address, by the client's transport, is given back as
-    /// `Ignored`, and so is a datagram that is neither a message nor a channel frame, or not for the
-    /// client.
+    /// Hands in what came at a moment: over UDP a datagram, over TCP a piece of the stream, or of what comes
+    /// over the socket of a connection. What didn't come from the server, by the client's transport, to the
+    /// client's own address or that of such a socket, is given back as `Ignored`, and so is a datagram that
+    /// is neither a message nor a channel frame, or not for the client.
     ///
     /// A channel frame gives its data as `PeerData`, in every state of the client, if and only if a
     /// channel of its number stands; what stands behind the data is not looked at (RFC 8656, section
@@ -264,12 +266,22 @@ pub trait TurnClientApi: Debug + Send {
     /// failed, all is `Ignored`. Where the two top bits of a frame are 10 or 11, or a byte of a message's
     /// cookie is wrong, the stream gives nothing more, and pieces of it are `Handled`.
     ///
+    /// Over the socket of a connection that is not bound the frames are taken up that are whole then, one
+    /// behind another, as long as it is to be bound (RFC 6062, section 4.3): `hear_at` of
+    /// `turn_client_proto_data` has what messages of CONNECTION_BIND make of it; other frames are passed
+    /// over. The piece is `Handled`, unless the first frame is of a channel: then it is `Ignored`. What
+    /// stands behind the response that binds it is no frame, but bytes of the peer, which `poll_recv` gives.
+    /// Once it is bound, a piece is `PeerData`, as it is, with what waited before it. A piece of no bytes is
+    /// the end of the socket, as `tcp_closed`, and `Handled`; behind it all is `Ignored`. A socket that has
+    /// the client's own address takes the place of the stream, and its messages are the stream's; its
+    /// connection is never bound.
+    ///
     /// Where memory is refused, `NoMemory`, with what came: the client has failed. It is asked for
     /// where there is something to keep or to tell of a message: `handle_message` of
     /// `turn_client_proto_core` has it. So a datagram of another host, bytes that are no message, an
     /// indication, and any message that comes to a client that has sent nothing or has ended are never
-    /// answered so. Over TCP it is asked for besides where bytes of the stream are kept, and for data in a
-    /// vector of its own.
+    /// answered so. Over TCP it is asked for besides where bytes are kept, for data in a vector of its own,
+    /// and to tell that a socket is to be closed.
     fn recv<T: AsSlice<u8> + Debug + Drop>(
         &mut self,
         transmit: Transmit<T>,

@@ -12,7 +12,8 @@ ghost use Rattle.turn_client_proto.specs.Getters.{channels_of};
 
 pub use turn_client_proto_receipt::calls::laws::nothing_is_sent_before;
 pub use turn_client_proto_receipt::laws::{
-    cuts_do_not_matter, failed_clients_give_nothing, whole_frames_are_taken_in_order,
+    cuts_do_not_matter, cuts_of_sockets_do_not_matter, failed_clients_give_nothing,
+    whole_frames_are_taken_in_order,
 };
 
 /// No two channels that a client shows have one number (RFC 8656, section 12). It is so where no two have

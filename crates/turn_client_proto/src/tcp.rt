@@ -34,9 +34,9 @@ use turn_types::tcp::TurnTcpBuffer;
 use turn_types::transmit::TransmitBuild;
 
 /// A TURN client over TCP: a connection to the server, in which messages and channel frames come one behind
-/// another (RFC 8656, section 12.5), and an allocation over UDP or TCP. Connections to peers over an
-/// allocation over TCP are asked for, but none is bound yet (RFC 6062). Contracts see the record `Kept`:
-/// the protocol core, and what is kept of the stream while it stands.
+/// another (RFC 8656, section 12.5), and an allocation over UDP or TCP. Over an allocation over TCP it has
+/// connections to peers, each with a socket of its own (RFC 6062, section 4). Contracts see the record
+/// `Kept`: the protocol core, which has the connections, and what is kept of the stream while it stands.
 #[derive(Debug, Drop)]
 pub struct TurnClientTcp {
     protocol: Protocol,

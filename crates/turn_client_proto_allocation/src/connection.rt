@@ -7,6 +7,7 @@ ghost use Rattle.turn_client_proto_allocation.specs.Awaited.{is_attempt, is_bind
 use std::net::SocketAddr;
 use stun_proto::Instant;
 use stun_types::message::TransactionId;
+use turn_types::tcp::TurnTcpBuffer;
 
 /// A CONNECT that is not answered (RFC 6062, section 4.3).
 #[derive(Clone, Copy, Debug)]
@@ -41,7 +42,7 @@ pub struct Binding {
 }
 
 /// A data connection. It is bound where no CONNECTION_BIND is awaited.
-#[derive(Clone, Copy, Debug)]
+#[derive(Debug, Drop)]
 pub struct Connection {
     /// The own address of the connection to the server.
     pub here: SocketAddr,
@@ -51,6 +52,9 @@ pub struct Connection {
     pub connection: u32,
     /// The CONNECTION_BIND that is not answered.
     pub awaited: Option<Binding>,
+    /// What came over its socket and was not taken up: until it is bound, what may yet be a whole frame;
+    /// and then bytes of the peer, which wait to be given.
+    pub stream: TurnTcpBuffer,
 }
 
 /// Whether one of the CONNECTs has this number.

@@ -11,3 +11,6 @@ pub mod numbers;
 pub mod permission;
 pub mod permissions;
 pub mod refresh;
+
+// What stands above this crate has these through it.
+pub use turn_types::{message, tcp};

@@ -2,6 +2,7 @@ pub mod Asking
 pub mod Lapsing
 pub mod Shown
 pub mod Sockets
+pub mod Streams
 pub mod Told
 pub mod Waiting
 -- What stands above this crate has these through it.

@@ -2,6 +2,7 @@
 use Rattle.std.specs.Prelude.{ℕ, ◌==◌, Bool, not, ◌&&◌, List, [], ◌∷◌, ◌++◌, filter, Some}
 use Rattle.std.specs.List.{list_any}
 use Rattle.std.specs.declared.net.socket_addr.SocketAddr.{SocketAddr}
+use Rattle.turn_client_proto_channel.specs.Permission.Allocation.Streams.{alive}
 use Rattle.turn_client_proto_channel.specs.Permission.Allocation.declared.allocation.Allocation.{Allocation}
 use Rattle.turn_client_proto_channel.specs.Permission.Allocation.declared.connection.Binding.{Binding}
 use Rattle.turn_client_proto_channel.specs.Permission.Allocation.declared.connection.Connection.{Connection}
@@ -33,10 +34,15 @@ has_from here a = list_any (is_from here) a.connections
 abbrev pub is_any_from : SocketAddr → List Allocation → Bool
 is_any_from here allocations = list_any (has_from here) allocations
 
--- a connection that a request is to bind
+-- a connection that a request is to bind: nothing came over its socket yet
 abbrev pub to_bind : (here peer : SocketAddr) → (connection : ℕ) → Binding → Connection
-to_bind here peer connection awaited =
-    record { here = here; peer = peer; connection = connection; awaited = Some awaited }
+to_bind here peer connection awaited = record {
+  here = here;
+  peer = peer;
+  connection = connection;
+  awaited = Some awaited;
+  stream = alive [];
+}
 
 -- an allocation with one more
 abbrev pub binding : Connection → Allocation → Allocation

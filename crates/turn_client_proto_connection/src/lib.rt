@@ -7,6 +7,7 @@ pub mod asking;
 pub mod lapse;
 pub mod shown;
 pub mod sockets;
+pub mod streams;
 pub mod told;
 pub mod waiting;
 

@@ -5,11 +5,13 @@ ghost use Rattle.turn_client_proto_channel.specs.Permission.Allocation.declared.
 ghost use Rattle.turn_client_proto_channel.specs.Permission.Allocation.declared.connection.Connection.{Connection as Joined};
 ghost use Rattle.turn_client_proto_connection.specs.Sockets.{awaits_socket, binding, closed, has_from, is_any_from, let_go, to_bind};
 
+use std::alloc::Global;
 use std::net::SocketAddr;
 use stun_types::NoMemory;
 use turn_client_proto_channel::permission::allocation::allocation::Allocation;
 use turn_client_proto_channel::permission::allocation::connection::{Binding, Connection};
 use turn_client_proto_channel::permission::allocation::listed::Allocations;
+use turn_client_proto_channel::permission::allocation::tcp::TurnTcpBuffer;
 
 /// Whether a connection of a number and to a peer waits for its socket in an allocation.
 fn awaits_socket(a: &Allocation, connection: u32, peer: SocketAddr) -> bool
@@ -31,7 +33,7 @@ pub fn place_of(allocations: &[Allocation], connection: u32, peer: SocketAddr) -
 }
 
 /// Whether a connection of an allocation has this own address.
-fn has_from(a: &Allocation, here: SocketAddr) -> bool
+pub(crate) fn has_from(a: &Allocation, here: SocketAddr) -> bool
     ensures { result ≡ has_from here a.now }
 {
     a.connections.as_slice().iter().any(|c| c.here == here)
@@ -47,6 +49,7 @@ pub fn is_any_from(allocations: &[Allocation], here: SocketAddr) -> bool
 /// A connection from an own address to a peer, which the server knows by a number, is to be bound in the
 /// allocation at a place. Where memory is refused, nothing changes.
 pub fn bind(
+    alloc: Global,
     allocations: &mut Allocations,
     place: usize,
     here: SocketAddr,
@@ -66,6 +69,7 @@ pub fn bind(
         peer,
         connection,
         awaited: Some(awaited),
+        stream: TurnTcpBuffer::new(alloc),
     })
 }
 

@@ -17,7 +17,7 @@ const MOST_RESENDS: u32 = 8;
 
 impl Protocol {
     /// Whether a request of a message's number is outstanding.
-    pub(crate) fn is_awaited(&self, message: &Message<'_>) -> bool
+    pub fn is_awaited(&self, message: &Message<'_>) -> bool
         ensures { result ≡ is_awaited self.now.agent message.now }
     {
         self.agent
@@ -33,7 +33,7 @@ impl Protocol {
     }
 
     /// A response ends its transaction. Where memory is refused, nothing changes.
-    pub(crate) fn answer(&mut self, message: &Message<'_>) -> Result<(), NoMemory>
+    pub fn answer(&mut self, message: &Message<'_>) -> Result<(), NoMemory>
         ensures ok { OnOk result (self.new ≡ answered message.now self.old) }
         ensures err { OnErr result (self.new ≡ self.old) }
     {
@@ -43,7 +43,7 @@ impl Protocol {
 
     /// A response is accepted: its transaction ends, and the challenges before it count no more.
     /// Where memory is refused, nothing changes.
-    pub(crate) fn accept(&mut self, message: &Message<'_>) -> Result<(), NoMemory>
+    pub fn accept(&mut self, message: &Message<'_>) -> Result<(), NoMemory>
         ensures ok { OnOk result (self.new ≡ accepted message.now self.old) }
         ensures err { OnErr result (self.new ≡ self.old) }
     {

@@ -1,5 +1,6 @@
 pub mod Closing
 pub mod Connecting
+pub mod Hearing
 pub mod Sockets
 -- What stands above this crate has these through it.
 pub use Rattle.turn_client_proto_poll.specs.Allocation

@@ -1,9 +1,11 @@
 //! The data connections of a TURN client (RFC 6062): [`connecting`] asks for a connection to a peer,
-//! [`socket`] takes the socket for one, and [`closing`] that a socket was closed.
+//! [`socket`] takes the socket for one, [`hearing`] what comes over it until the connection is bound, and
+//! [`closing`] that a socket was closed.
 #![tactic(auto, using(crate::proofs::Usual::usual), unfolding(crate::proofs::Usual::opened))]
 
 pub mod closing;
 pub mod connecting;
+pub mod hearing;
 pub mod socket;
 
 // What stands above this crate has these through it.

@@ -22,7 +22,7 @@ use turn_client_proto_poll::request::laws::requests_are_lawful;
 use turn_client_proto_poll::request::request::TurnRequest;
 
 /// So long a CONNECTION_BIND may be answered, in milliseconds.
-const BINDING_TIME: u64 = 39_500;
+pub(crate) const BINDING_TIME: u64 = 39_500;
 
 /// Whether a socket is that of the client's own connection to the server.
 fn is_own(protocol: &Protocol, socket: Socket5Tuple) -> bool
@@ -107,8 +107,8 @@ fn bind(
     let number = protocol.draw_number()?;
     let expiry = now.saturating_add(Duration::from_millis(BINDING_TIME));
     let awaited = Binding { number, expiry };
-    let allocations = &mut protocol.allocations;
-    sockets::bind(allocations, place, here, peer, connection, awaited)?;
+    let (alloc, allocations) = (protocol.alloc, &mut protocol.allocations);
+    sockets::bind(alloc, allocations, place, here, peer, connection, awaited)?;
     let request = TurnRequest::ConnectionBind(connection);
     requests_are_lawful(&request);
     match protocol.ask_from(here, number, request, now) {

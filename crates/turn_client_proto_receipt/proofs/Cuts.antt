@@ -20,28 +20,37 @@ use Rattle.turn_client_proto_receipt.specs.Datagrams.{IsHandledAs}
 use Rattle.turn_client_proto_receipt.specs.Kept.{Kept}
 use Rattle.turn_client_proto_receipt.specs.Pieces.{Behind, Broken, First, IsAnsweredBehind, IsFirstTaken, IsFrameHandled, IsHandedAs, IsPieceTaken, Lost, Takes, Waits, apart, data_given, data_taken, owned_if}
 use Rattle.turn_client_proto_receipt.specs.Pulls.{AreFed, Ends, Gives, Goes, IsDrained, IsPulled, Last, More, frame_of}
-use Rattle.turn_client_proto_receipt.specs.Receipts.{End, IsGivenBy, IsOfStream, IsReceivedBy, IsStreamed, Piece, Strange}
+use Rattle.turn_client_proto_receipt.specs.Receipts.{End, IsAskedFor, IsGivenBy, IsOfStream, IsReceivedBy, IsStreamed, Piece, Strange}
+use Rattle.turn_client_proto_receipt.specs.SocketPieces.{raw_waiting}
 use Rattle.turn_client_proto_receipt.specs.declared.handing.Taken.{Taken}
 use Rattle.turn_client_proto_receipt.specs.declared.handing.Taken.TheVariants.{Given, Handled, Ignored, Garbled}
 use Rattle.turn_client_proto_receipt.proofs.Definite.{frames_definite}
 use Rattle.turn_client_proto_receipt.proofs.Draining.{drained_behind, drained_first, drained_none, drained_out}
 use Rattle.turn_client_proto_receipt.proofs.Cutting.{every_cut}
+use Rattle.turn_client_proto_receipt.proofs.NoneRaw.{piece_none, pulled_none}
+use Rattle.turn_client_proto_receipt.proofs.Order.{none_first}
 
 module _ (now : ℕ) where
-  -- what waits was asked for until there was nothing: the stream was drained
+  -- what waits was asked for until there was nothing: the stream was drained, and no bytes of a peer wait
   pub record IsDrainedTo (stream : Stream) (old : Protocol) (given : List PeerPayload) (new : Kept) : Type 0 where
     pub left : Stream
     pub stands : new.control ≡ Open left
     pub drained : IsDrained (IsFrameHandled now) stream old given left new.core
+    pub still : raw_waiting new.core ≡ None
 
-  asked : (old : Kept) (given : List PeerPayload) (new : Kept) → IsAskedOut now old given new → (stream : Stream) → old.control ≡ Open stream → IsDrainedTo stream old.core given new
-  asked _ _ _ (NoMore old new is) stream opens =
-      let by = subst (λ (c : Control). IsGivenBy now c old.core None new) opens is in
-      record { left = by.left; stands = by.stands; drained = Last stream old.core by.left new.core by.pulled }
-  asked _ _ _ (OneMore old between new payload others is rest) stream opens =
-      let by = subst (λ (c : Control). IsGivenBy now c old.core (Some payload) between) opens is in
-      let after = asked between others new rest by.left by.stands in
-      record { left = after.left; stands = after.stands; drained = More stream old.core payload by.left between.core others after.left new.core by.pulled after.drained }
+  -- the stream itself is asked
+  of_stream : (control : Control) (stream : Stream) (old : Protocol) (given : Option PeerPayload) (new : Kept) → control ≡ Open stream → raw_waiting old ≡ None → IsGivenBy now control old given new → IsAskedFor now stream old given new
+  of_stream control stream old given new opens none is =
+      none_first now (raw_waiting old) (Open stream) old given new none (subst (λ (c : Control). IsGivenBy now c old given new) opens is)
+
+  asked : (old : Kept) (given : List PeerPayload) (new : Kept) → IsAskedOut now old given new → (stream : Stream) → old.control ≡ Open stream → raw_waiting old.core ≡ None → IsDrainedTo stream old.core given new
+  asked _ _ _ (NoMore old new is) stream opens none =
+      let by = of_stream old.control stream old.core None new opens none is in
+      record { left = by.left; stands = by.stands; drained = Last stream old.core by.left new.core by.pulled; still = pulled_none now stream old.core None by.left new.core by.pulled none }
+  asked _ _ _ (OneMore old between new payload others is rest) stream opens none =
+      let by = of_stream old.control stream old.core (Some payload) between opens none is in
+      let after = asked between others new rest by.left by.stands (pulled_none now stream old.core (Some payload) by.left between.core by.pulled none) in
+      record { left = after.left; stands = after.stands; drained = More stream old.core payload by.left between.core others after.left new.core by.pulled after.drained; still = after.still }
 
 -- a payload that is given is that frame's outcome
 gave : (old : Protocol) (frame : List ℕ) (now : ℕ) (payload : Payload) → payload_of old frame ≡ Some payload → IsFrameTaken old frame now (Given payload) old
@@ -128,17 +137,17 @@ module _ {T : Type 0} (items : T → List ℕ) (now : ℕ) where
   taken stream old came answer left new (Lost told lost) ample ps last after drains = absurd (ample told)
 
   streamed : (stream : Stream) (old : Protocol) (came : Transmit T) (answer : TurnRecvRet T) (between : Kept) → IsStreamed items now stream old came answer between → IsOfStream old came → items came.bytes ≢ [] → answer ≢ recv.NoMemory came
-      → (waiting : List PeerPayload) (new : Kept) → IsAskedOut now between waiting new → IsDrainedTo now (grown stream (items came.bytes)) old (data_answered answer ++ waiting) new
-  streamed stream old came answer between (Piece is some left stands takes) of_stream has ample waiting new asks =
-      let by = asked now between waiting new asks left stands in
-      record { left = by.left; stands = by.stands; drained = taken stream old came answer left between.core takes ample waiting by.left new.core by.drained }
-  streamed stream old came answer between (End is none told same closed) of_stream has ample waiting new asks = absurd (has none)
-  streamed stream old came answer between (Strange other given stays) of_stream has ample waiting new asks = absurd (other of_stream)
+      → raw_waiting old ≡ None → (waiting : List PeerPayload) (new : Kept) → IsAskedOut now between waiting new → IsDrainedTo now (grown stream (items came.bytes)) old (data_answered answer ++ waiting) new
+  streamed stream old came answer between (Piece is some left stands takes) of_server has ample none waiting new asks =
+      let by = asked now between waiting new asks left stands (piece_none now items came answer left old between.core none stream ample takes) in
+      record { left = by.left; stands = by.stands; drained = taken stream old came answer left between.core takes ample waiting by.left new.core by.drained; still = by.still }
+  streamed stream old came answer between (End is none told same closed) of_server has ample none_raw waiting new asks = absurd (has none)
+  streamed stream old came answer between (Strange other given stays) of_server has ample none waiting new asks = absurd (other of_server)
 
-  piece : (old : Kept) (came : Transmit T) (given : List PeerPayload) (new : Kept) → IsPieceDrained items now old came given new → (stream : Stream) → old.control ≡ Open stream
+  piece : (old : Kept) (came : Transmit T) (given : List PeerPayload) (new : Kept) → IsPieceDrained items now old came given new → (stream : Stream) → old.control ≡ Open stream → raw_waiting old.core ≡ None
       → IsDrainedTo now (grown stream (items came.bytes)) old.core given new
-  piece old came given new is stream opens =
-      let by = streamed stream old.core came is.answer is.between (subst (λ (c : Control). IsReceivedBy items now c old.core came is.answer is.between) opens is.received) is.of_stream is.has_bytes is.ample is.waiting new is.asked in
+  piece old came given new is stream opens none =
+      let by = streamed stream old.core came is.answer is.between (subst (λ (c : Control). IsReceivedBy items now c old.core came is.answer is.between) opens is.received) is.of_stream is.has_bytes is.ample none is.waiting new is.asked in
       subst (λ (l : List PeerPayload). IsDrainedTo now (grown stream (items came.bytes)) old.core l new) (sym is.gives) by
 
   -- so it is of all pieces
@@ -147,15 +156,15 @@ module _ {T : Type 0} (items : T → List ℕ) (now : ℕ) where
     stands : new.control ≡ Open left
     feeds : AreFed (IsFrameHandled now) stream old (pieces_of items pieces) given left new.core
 
-  pieces : (all : List (Transmit T)) (old : Kept) (given : List PeerPayload) (new : Kept) → AreDrained items now old all given new → (stream : Stream) → old.control ≡ Open stream → IsFedTo stream old.core all given new
-  pieces [] old given new (none, same) stream opens = record {
+  pieces : (all : List (Transmit T)) (old : Kept) (given : List PeerPayload) (new : Kept) → AreDrained items now old all given new → (stream : Stream) → old.control ≡ Open stream → raw_waiting old.core ≡ None → IsFedTo stream old.core all given new
+  pieces [] old given new (none, same) stream opens none_raw = record {
     left = stream;
     stands = ap (λ (k : Kept). k.control) same ∙ opens;
     feeds = (none, refl, ap (λ (k : Kept). k.core) same);
   }
-  pieces (came ∷ others) old given new (between, first, later, is, parts, rest) stream opens =
-      let one = piece old came first between is stream opens in
-      let more = pieces others between later new rest one.left one.stands in
+  pieces (came ∷ others) old given new (between, first, later, is, parts, rest) stream opens none =
+      let one = piece old came first between is stream opens none in
+      let more = pieces others between later new rest one.left one.stands one.still in
       record {
         left = more.left;
         stands = more.stands;
@@ -165,8 +174,8 @@ module _ {T : Type 0} (items : T → List ℕ) (now : ℕ) where
   pub cut_anywhere : (old one other : Kept) (all cuts : List (Transmit T)) (given again : List PeerPayload) → IsDrainedOut old → concat (pieces_of items all) ≡ concat (pieces_of items cuts)
       → AreDrained items now old all given one → AreDrained items now old cuts again other → (given ≡ again) × (one ≡ other)
   cut_anywhere old one other all cuts given again out same first second =
-      let a = pieces all old given one first (alive out.kept) out.stream in
-      let b = pieces cuts old again other second (alive out.kept) out.stream in
+      let a = pieces all old given one first (alive out.kept) out.stream out.none_raw in
+      let b = pieces cuts old again other second (alive out.kept) out.stream out.none_raw in
       let both = every_cut (IsFrameHandled now) old.core one.core other.core out.kept (pieces_of items all) (pieces_of items cuts) given again a.left b.left (frames_definite now) out.none out.left same a.feeds b.feeds in (
         both.0,
         alike both.2 (a.stands ∙ ap Open both.1 ∙ sym b.stands),

@@ -1,18 +1,28 @@
+pub mod Asking
 pub mod Behind
+pub mod Bytes
 pub mod Cuts
 pub mod Definite
 pub mod Draining
+pub mod Exchanging
+pub mod Feeding
 pub mod Failed
 pub mod Failing
+pub mod Longer
 pub mod Loops
+pub mod NoneRaw
 pub mod Cutting
 pub mod Received
+pub mod SameHere
+pub mod SocketCuts
+pub mod SocketFed
 pub mod Steps
 pub mod Streamed
 pub mod Taking
 pub mod Waiting
 pub mod Order
 pub mod Usual
+pub mod WithKept
 -- What stands above this crate has these through it.
 pub use Rattle.turn_client_proto_steps.proofs.Keeps
 pub use Rattle.turn_client_proto_steps.proofs.Request
@@ -37,3 +47,5 @@ pub use Rattle.turn_client_proto_steps.proofs.Shown
 pub use Rattle.turn_client_proto_steps.proofs.ShownChannels
 pub use Rattle.turn_client_proto_steps.proofs.ShownConnections
 pub use Rattle.turn_client_proto_steps.proofs.Socketing
+pub use Rattle.turn_client_proto_steps.proofs.Answering
+pub use Rattle.turn_client_proto_steps.proofs.Streaming

@@ -4,6 +4,7 @@ use Rattle.std.specs.Prelude.{MatchOption}
 use Rattle.stun_types.specs.declared.transmit.Transmit.{Transmit}
 use Rattle.turn_types.specs.StreamAnswers.{after_look, joined, looked, IsNone}
 use Rattle.turn_types.specs.Streams.{Stream}
+use Rattle.turn_client_proto_steps.specs.Allocation.declared.connection.Connection.{Connection}
 use Rattle.turn_client_proto_steps.specs.Api.Payloads.{PeerPayload}
 use Rattle.turn_client_proto_steps.specs.Api.declared.answer.TurnRecvRet.{TurnRecvRet}
 use Rattle.turn_client_proto_steps.specs.Api.declared.answer.TurnRecvRet.TheVariants as recv
@@ -16,7 +17,8 @@ use Rattle.turn_client_proto_receipt.specs.Kept.{Kept}
 use Rattle.turn_client_proto_receipt.specs.Order.{AreFirstGiven, AreFirstTaken, AreTaken, AreTakenUntil}
 use Rattle.turn_client_proto_receipt.specs.Pieces.{Behind, Broken, First, IsFirstTaken, IsFrameHandled, IsPieceTaken, Lost, Takes, Waits}
 use Rattle.turn_client_proto_receipt.specs.Pulls.{Ends, Gives, Goes, IsPulled, frame_of}
-use Rattle.turn_client_proto_receipt.specs.Receipts.{End, IsGivenBy, IsOfStream, IsReceivedBy, IsStreamed, Piece, Strange}
+use Rattle.turn_client_proto_receipt.specs.Receipts.{End, IsFirstGiven, IsGivenBy, IsOfStream, IsReceivedBy, IsStreamAsked, IsStreamed, Piece, Strange}
+use Rattle.turn_client_proto_receipt.specs.SocketPieces.{IsRawGiven, raw_waiting}
 use Rattle.turn_client_proto_receipt.specs.Waiting.{frames_waiting, whole_frames}
 use Rattle.turn_client_proto_receipt.specs.declared.handing.Taken.TheVariants.{Given, Garbled}
 use Rattle.turn_client_proto_receipt.proofs.Waiting.{first_waits, none_behind, none_waits}
@@ -108,8 +110,30 @@ module _ (now : ℕ) where
 
   -- ---- what waits
 
-  pub waiting_in_order : (control : Control) (old : Protocol) (given : Option PeerPayload) (new : Kept) → IsGivenBy now control old given new → AreFirstGiven now (frames_waiting control) old given (frames_waiting new.control) new.core
-  waiting_in_order Datagrams old given new (none, core, same) = record { taken = []; parts = sym (ap frames_waiting same); in_order = (none, core); all = λ _. ap frames_waiting same }
-  waiting_in_order Closed old given new (none, core, same) = record { taken = []; parts = sym (ap frames_waiting same); in_order = (none, core); all = λ _. ap frames_waiting same }
-  waiting_in_order (Open stream) old given new is =
+  pub stream_in_order : (control : Control) (old : Protocol) (given : Option PeerPayload) (new : Kept) → IsStreamAsked now control old given new → AreFirstGiven now (frames_waiting control) old given (frames_waiting new.control) new.core
+  stream_in_order Datagrams old given new (none, core, same) = record { taken = []; parts = sym (ap frames_waiting same); in_order = (none, core); all = λ _. ap frames_waiting same }
+  stream_in_order Closed old given new (none, core, same) = record { taken = []; parts = sym (ap frames_waiting same); in_order = (none, core); all = λ _. ap frames_waiting same }
+  stream_in_order (Open stream) old given new is =
       subst (λ (o : Control). AreFirstGiven now (whole_frames stream) old given (frames_waiting o) new.core) (sym is.stands) (pulled_in_order stream old given is.left new.core is.pulled)
+
+  -- where no bytes of a peer wait
+  pub none_first : (raw : Option Connection) (control : Control) (old : Protocol) (given : Option PeerPayload) (new : Kept) → raw ≡ None → IsFirstGiven now raw control old given new → IsStreamAsked now control old given new
+  none_first None control old given new none is = is
+  none_first (Some c) control old given new none is = absurd (Prim.cc none)
+
+  pub waiting_in_order : (control : Control) (old : Protocol) (given : Option PeerPayload) (new : Kept) → (control ≢ Datagrams → raw_waiting old ≡ None) → IsGivenBy now control old given new → AreFirstGiven now (frames_waiting control) old given (frames_waiting new.control) new.core
+  waiting_in_order Datagrams old given new none is = stream_in_order Datagrams old given new is
+  waiting_in_order Closed old given new none is = stream_in_order Closed old given new (none_first (raw_waiting old) Closed old given new (none (λ e. Prim.cc e)) is)
+  waiting_in_order (Open stream) old given new none is = stream_in_order (Open stream) old given new (none_first (raw_waiting old) (Open stream) old given new (none (λ e. Prim.cc e)) is)
+
+  -- where some do
+  some_first : (raw : Option Connection) (c : Connection) (control : Control) (old : Protocol) (given : Option PeerPayload) (new : Kept) → raw ≡ Some c → IsFirstGiven now raw control old given new → IsRawGiven c old given new.core × (new.control ≡ control)
+  some_first None c control old given new some is = absurd (Prim.cc some)
+  some_first (Some k) c control old given new some is =
+      let same : k ≡ c = Prim.cc some in
+      subst (λ (x : Connection). IsRawGiven x old given new.core × (new.control ≡ control)) same is
+
+  pub raw_first : (control : Control) (old : Protocol) (given : Option PeerPayload) (new : Kept) (c : Connection) → control ≢ Datagrams → raw_waiting old ≡ Some c → IsGivenBy now control old given new → IsRawGiven c old given new.core × (new.control ≡ control)
+  raw_first Datagrams old given new c tcp some is = absurd (tcp refl)
+  raw_first Closed old given new c tcp some is = some_first (raw_waiting old) c Closed old given new some is
+  raw_first (Open stream) old given new c tcp some is = some_first (raw_waiting old) c (Open stream) old given new some is

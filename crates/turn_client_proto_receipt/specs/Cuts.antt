@@ -9,6 +9,7 @@ use Rattle.turn_client_proto_receipt.specs.Control.{Open}
 use Rattle.turn_client_proto_receipt.specs.Kept.{Kept}
 use Rattle.turn_client_proto_receipt.specs.Pieces.{owned_if}
 use Rattle.turn_client_proto_receipt.specs.Receipts.{IsOfStream, IsReceived, IsWaitingGiven}
+use Rattle.turn_client_proto_receipt.specs.SocketPieces.{raw_waiting}
 
 -- the data that `recv` answers, wherever it stands; reports in ICMP aside
 abbrev pub data_answered : {T : Type 0} → TurnRecvRet T → List PeerPayload
@@ -50,9 +51,10 @@ AreDrained items now old (came ∷ others) given new =
 abbrev pub pieces_of : {T : Type 0} → (T → List ℕ) → List (Transmit T) → List (List ℕ)
 pieces_of items pieces = map (λ came. items came.bytes) pieces
 
--- a client in whose stream no whole frame waits
+-- a client in whose stream no whole frame waits, and no bytes of the peer of a connection
 pub record IsDrainedOut (k : Kept) : Type 0 where
   pub kept : List ℕ
   pub stream : k.control ≡ Open (alive kept)
   pub none : (fed kept).frames ≡ []
   pub left : (fed kept).stream ≡ alive kept
+  pub none_raw : raw_waiting k.core ≡ None

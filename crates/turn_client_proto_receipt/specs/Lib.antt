@@ -8,6 +8,8 @@ pub mod Order
 pub mod Pieces
 pub mod Pulls
 pub mod Receipts
+pub mod SocketCuts
+pub mod SocketPieces
 pub mod Waiting
 -- What stands above this crate has these through it.
 pub use Rattle.turn_client_proto_steps.specs.Core
@@ -20,6 +22,7 @@ pub use Rattle.turn_client_proto_steps.specs.Connecting
 pub use Rattle.turn_client_proto_steps.specs.Connection
 pub use Rattle.turn_client_proto_steps.specs.Drawing
 pub use Rattle.turn_client_proto_steps.specs.Headline
+pub use Rattle.turn_client_proto_steps.specs.Hearing
 pub use Rattle.turn_client_proto_steps.specs.Indications
 pub use Rattle.turn_client_proto_steps.specs.Members
 pub use Rattle.turn_client_proto_steps.specs.Messages

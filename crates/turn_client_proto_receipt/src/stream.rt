@@ -8,6 +8,7 @@ ghost use Rattle.turn_client_proto_receipt.specs.Receipts.{IsGivenBy, IsLostBy, 
 use crate::datagram::is_of_server;
 use crate::piece::take_piece;
 use crate::pulling::pull;
+use crate::sockets::{receive_at, take_waiting};
 use std::convert::AsSlice;
 use std::fmt::Debug;
 use stun_proto::Instant;
@@ -25,8 +26,8 @@ fn is_of_stream<T>(protocol: &Protocol, transmit: &Transmit<T>) -> bool
     protocol.agent.remote_addr().is_some() && is_of_server(protocol, transmit)
 }
 
-/// Bytes came at a moment. What isn't a piece of the server's stream is given back; a piece of no bytes
-/// ends the stream.
+/// Bytes came at a moment. A piece of no bytes ends the server's stream; what is no piece of it may be one of
+/// what comes over the socket of a connection, and is given back else.
 pub fn receive<T: AsSlice<u8> + Debug + Drop>(
     protocol: &mut Protocol,
     control: &mut Option<TurnTcpBuffer>,
@@ -37,10 +38,10 @@ pub fn receive<T: AsSlice<u8> + Debug + Drop>(
         (over_tcp protocol.new control.new) }
 {
     let Some(stream) = control else {
-        return TurnRecvRet::Ignored(transmit);
+        return receive_at(protocol, transmit, now);
     };
     if !is_of_stream(protocol, &transmit) {
-        return TurnRecvRet::Ignored(transmit);
+        return receive_at(protocol, transmit, now);
     }
     if transmit.bytes.as_slice().is_empty() {
         *control = None;
@@ -49,8 +50,8 @@ pub fn receive<T: AsSlice<u8> + Debug + Drop>(
     take_piece(protocol, stream, transmit, now)
 }
 
-/// The data of a peer that a frame in the stream carries, of those that wait. A client that has failed
-/// holds nothing, and so gives none.
+/// The bytes of a peer that wait: of those of bound connections the first, and else the data that a frame in
+/// the stream carries. A client that has failed holds nothing, and so gives none.
 pub fn ask(
     protocol: &mut Protocol,
     control: &mut Option<TurnTcpBuffer>,
@@ -61,6 +62,9 @@ pub fn ask(
     ensures err { OnErr result (IsLostBy now (control_of control.old) protocol.old
         (over_tcp protocol.new control.new)) }
 {
+    if let Some(given) = take_waiting(protocol) {
+        return Ok(Some(given));
+    }
     match control {
         Some(stream) => pull(protocol, stream, now),
         None => Ok(None),

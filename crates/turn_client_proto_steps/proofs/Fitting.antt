@@ -82,6 +82,7 @@ module _ (New : Gaining) (Now : Asking) (p : Parts) (new : List Allocation) (are
     connects = λ a listed. let was = are a listed in let asked = is.connects was.before was.listed in record {
       asked = λ c there. asked.asked c (was.is.connecting c there);
       whole = λ c there. asked.whole c (was.is.connecting c there);
+      binds = λ c there b awaits. asked.binds c (was.is.connections c there) b awaits;
     };
     distinct = distinct;
   }

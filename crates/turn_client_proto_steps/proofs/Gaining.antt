@@ -214,6 +214,7 @@ module _ (transport : TransportType) (number lifetime now : ℕ) where
         record {
           asked = λ c there. absurd (subst (λ (x : Allocation). IsIn c x.connecting) image.is there);
           whole = λ c there. absurd (subst (λ (x : Allocation). IsIn c x.connecting) image.is there);
+          binds = λ c there b awaits. absurd (subst (λ (x : Allocation). IsIn c x.connections) image.is there);
         }
 
     pub none_peers : (a : Allocation) → IsIn a (map fresh all) → AreWhole a

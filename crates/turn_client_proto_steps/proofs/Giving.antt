@@ -88,7 +88,7 @@ delivered before after bytes (Report transport peer report) is = (bytes, inl ref
 delivered before after bytes (Framed number transport peer start end) is = (bytes, inl refl, is)
 
 -- of one payload alone
-alone : (P : run.Payload → Type 0) (one : run.Payload) → P one → (p : run.Payload) → IsIn p (one ∷ []) → P p
+pub alone : (P : run.Payload → Type 0) (one : run.Payload) → P one → (p : run.Payload) → IsIn p (one ∷ []) → P p
 alone P one is p h = elim h [ inl same ↦ subst P same is | inr none ↦ absurd none ]
 
 pub giving_step : (c : Client) (bytes : List ℕ) (payload : Payload) → IsSound c → payload_of c.core bytes ≡ Some payload → IsGiving c bytes (told_of bytes payload ∷ []) c.core

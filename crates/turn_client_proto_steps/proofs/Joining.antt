@@ -181,6 +181,7 @@ module _ (Now : AskingFor) (New : Learning) where
       connects = λ a listed. let was = are a listed in let asked = is.connects was.before was.listed in record {
         asked = λ c there. elim (was.is.connecting c there) [ inl before ↦ asked.asked c before | inr now ↦ asks c now ];
         whole = λ c there. elim (was.is.connecting c there) [ inl before ↦ asked.whole c before | inr now ↦ whole c now ];
+        binds = λ c there b awaits. asked.binds c (subst (λ (x : Allocation). IsIn c x.connections) was.is.others there) b awaits;
       };
       distinct = distinct;
     }

@@ -1,6 +1,7 @@
 -- What a client does is determined: two outcomes of one relation on one state are equal.
 pub mod Agents
 pub mod Allocating
+pub mod Answers
 pub mod Binding
 pub mod Calling
 pub mod Channels

@@ -10,12 +10,12 @@ use Rattle.stun_proto_agent.proofs.Numbers.{sent, sent_shows, still_shows}
 use Rattle.turn_types.specs.TurnRegistry.{allocate_method}
 use Rattle.turn_client_proto_data.specs.Members.{IsIn}
 use Rattle.turn_client_proto_data.specs.Channel.Numbers.{AreDistinct}
-use Rattle.turn_client_proto_data.specs.Messages.{Asks, Gain, Held, Holds, Knows, Permission, Channel}
+use Rattle.turn_client_proto_data.specs.Messages.{Asks, Gain, Held, Holds, Knows, Permission, Channel, Connection}
 use Rattle.turn_client_proto_data.specs.StunWire.{told_by}
 use Rattle.turn_client_proto_data.specs.Core.Waiting.{Queued}
 use Rattle.turn_client_proto_data.specs.Core.declared.protocol.Phase.{Phase}
 use Rattle.turn_client_proto_data.specs.Core.declared.protocol.Phase.TheVariants.{Initial, InitialSent, Authenticating, Authenticated, Ended}
-use Rattle.turn_client_proto_steps.specs.ClientWords.{IsPending, OfChannel, OfConnect, OfNewChannel, OfNewPermission}
+use Rattle.turn_client_proto_steps.specs.ClientWords.{IsPending, OfBinding, OfChannel, OfConnect, OfNewChannel, OfNewPermission}
 use Rattle.turn_client_proto_steps.specs.Held.{Allocation, PendingRefresh}
 use Rattle.turn_client_proto_steps.specs.RunClient.{Parts}
 use Rattle.turn_client_proto_steps.specs.Sound.{AreAllocates, AreShort, AsksFor, AsksOf, BeforeAllocated, IsOrderly, UntilEnded}
@@ -84,6 +84,7 @@ agent_orderly p agent none is = record {
   connects = λ a listed. let asked = is.connects a listed in record {
     asked = λ c there. still_asks p.agent agent none (Knows 0 c.peer) c.number (asked.asked c there);
     whole = asked.whole;
+    binds = λ c there b awaits. asks_still (Connection c.here c.peer c.connection) b.number (asked.binds c there b awaits);
   };
   distinct = is.distinct;
 }
@@ -116,6 +117,7 @@ request_orderly p bytes to now message free allocate is = record {
   connects = λ a listed. let asked = is.connects a listed in record {
     asked = λ c there. asks_yet a listed (Knows 0 c.peer) c.number (OfConnect c there refl) (asked.asked c there);
     whole = asked.whole;
+    binds = λ c there b awaits. asks_yet a listed (Holds (Connection c.here c.peer c.connection)) b.number (OfBinding c there b awaits refl) (asked.binds c there b awaits);
   };
   distinct = is.distinct;
 }
@@ -194,6 +196,7 @@ allocations_orderly more p new less short distinct is = record {
   connects = λ a listed. let was = less a listed in let asked = is.connects was.before was.listed in record {
     asked = λ c there. asked.asked c (was.less.connecting c there);
     whole = λ c there. asked.whole c (was.less.connecting c there);
+    binds = λ c there b awaits. asked.binds c (was.less.connections c there) b awaits;
   };
   distinct = distinct;
 }

@@ -30,6 +30,7 @@ use Rattle.turn_client_proto_steps.specs.RunSteps.{IsRunStep}
 use Rattle.turn_client_proto_steps.specs.Sound.{CanAsk, IsOrderly, IsSound, UntilEnded}
 use Rattle.turn_client_proto_steps.proofs.Adding.{HasNumber, IsLess, adds_both, allocations_less}
 use Rattle.turn_client_proto_steps.proofs.Asking.{IsMade, IsUnderWay, asked_from_adds, asked_from_orderly, asks, at_first, made}
+use Rattle.turn_client_proto_steps.proofs.Binds.{asks_bind}
 use Rattle.turn_client_proto_steps.proofs.Ending.{still, still_can}
 use Rattle.turn_client_proto_steps.proofs.Lessening.{IsAlike, each_less, same_distinct, same_first_distinct}
 use Rattle.turn_client_proto_steps.proofs.Lists.{Passes, found_passes, passes_one}
@@ -108,7 +109,7 @@ module _ (c : Client) (here peer : SocketAddr) (connection now : ℕ) where
       (adds_both (told_by text ∷ []) mid between (record between { allocations = left }) (allocations_tying here peer connection (awaited number) passes mid knew (told_by text ∷ []) number_made)
       (allocations_less (told_by text ∷ []) [] between left fewer (λ r h. absurd h))) in
       let kept = allocations_orderly [] between left fewer (λ r h. absurd h) (same_distinct (let_go connection peer) (let_go_alike connection peer) tied distinct)
-      (tying_orderly here peer connection (awaited number) passes mid knew distinct
+      (tying_orderly here peer connection (awaited number) passes mid knew (asks_bind c.core here peer connection number now is) distinct
       (asked_from_orderly here c.core (ConnectionBind connection) number now is (allocated _ c.core.phase stands) orderly)) in
       asks c c.core (ConnectionBind connection) number under_way is [] None (after_socket here peer connection number now c.core) adds kept refl under_way.can_ask.families refl refl (nothing_drawn (told_by text ∷ []) c)
 

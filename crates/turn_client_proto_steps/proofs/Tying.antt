@@ -2,6 +2,7 @@
 use Rattle.std.proofs.Common.{◌≡◌, ◌⊎◌, ℕ, Bool, List, [], ◌∷◌, Some, sym, ap, ◌∙◌, subst, inl, inr}
 use Rattle.std.specs.List.{find}
 use Rattle.std.specs.declared.net.socket_addr.SocketAddr.{SocketAddr}
+use Rattle.stun_proto.specs.State.{Agent}
 use Rattle.turn_client_proto_data.specs.Allocation.Changes.{change_first}
 use Rattle.turn_client_proto_data.specs.Channel.Numbers.{AreDistinct}
 use Rattle.turn_client_proto_data.specs.Connection.Sockets.{binding, to_bind}
@@ -10,9 +11,9 @@ use Rattle.turn_client_proto_data.specs.Messages as run
 use Rattle.turn_client_proto_steps.specs.ClientWords.{Has, HasItself, HasPermission, HasChannel, HasConnection, IsAttempted, IsWaiting, IsAnswered, IsKept, IsPending, OfPermission, OfChannel, OfNewPermission, OfNewChannel, OfRefresh, OfConnect, OfAttempt, OfBinding, IsTaken, Outstanding, Allocating, Pending, Knows, ByWaiting, ByConnection, Waits}
 use Rattle.turn_client_proto_steps.specs.Held.{Allocation, Binding, Connection}
 use Rattle.turn_client_proto_steps.specs.RunClient.{Parts}
-use Rattle.turn_client_proto_steps.specs.Sound.{AreAsked, AreBinding, AreConnecting, AreShort, AreWhole, IsOrderly}
+use Rattle.turn_client_proto_steps.specs.Sound.{AreAsked, AreBinding, AreConnecting, AreShort, AreWhole, AsksFor, IsOrderly}
 use Rattle.turn_client_proto_steps.proofs.Adding.{Adds, HasNumber}
-use Rattle.turn_client_proto_steps.proofs.Lists.{in_either, in_first, found_in}
+use Rattle.turn_client_proto_steps.proofs.Lists.{in_either, in_first, inside, found_in}
 
 module _ (here peer : SocketAddr) (connection : ℕ) (awaited : Binding) where
   abbrev tied : Connection
@@ -20,29 +21,43 @@ module _ (here peer : SocketAddr) (connection : ℕ) (awaited : Binding) where
 
   -- ---- one allocation, which knew the connection
 
+  old_or_tied : (a : Allocation) (c : Connection) → IsIn c (binding tied a).connections → IsIn c a.connections ⊎ (tied ≡ c)
+  old_or_tied a c listed = elim (in_either c a.connections (tied ∷ []) listed) [
+    | inl was ↦ inl was
+    | inr own ↦ elim own [ inl same ↦ inr same | inr none ↦ absurd none ]
+  ]
+
+  -- what awaits a number is the connection of before, or the one that is to be bound now
+  ties : (agent : Agent) (a : Allocation) → AsksFor agent (run.Connection here peer connection) awaited.number → AreConnecting agent a → AreConnecting agent (binding tied a)
+  ties agent a asks is = record {
+    asked = is.asked;
+    whole = is.whole;
+    binds = λ c there b awaits. elim (old_or_tied a c there) [
+      | inl was ↦ is.binds c was b awaits
+      | inr same ↦
+          let own : awaited ≡ b = inside (ap (λ (x : Connection). x.awaited) same ∙ awaits) in
+          subst (λ (x : Connection). AsksFor agent (run.Connection x.here x.peer x.connection) b.number) same
+          (subst (λ (x : Binding). AsksFor agent (run.Connection here peer connection) x.number) own asks)
+    ];
+  }
+
   module _ (a : Allocation) (knew : Knows a connection peer) where
     abbrev after : Allocation
     after = binding tied a
-
-    old_or_tied : (c : Connection) → IsIn c after.connections → IsIn c a.connections ⊎ (tied ≡ c)
-    old_or_tied c listed = elim (in_either c a.connections (tied ∷ []) listed) [
-      | inl was ↦ inl was
-      | inr own ↦ elim own [ inl same ↦ inr same | inr none ↦ absurd none ]
-    ]
 
     -- it is not bound yet
     has_before : (h : run.Held) → Has after h → Has a h
     has_before h HasItself = HasItself
     has_before h (HasPermission p listed) = HasPermission p listed
     has_before h (HasChannel c listed) = HasChannel c listed
-    has_before h (HasConnection c listed bound) = elim (old_or_tied c listed) [
+    has_before h (HasConnection c listed bound) = elim (old_or_tied a c listed) [
       | inl was ↦ HasConnection c was bound
       | inr same ↦ absurd (Prim.cc (ap (λ (x : Connection). x.awaited) same ∙ bound))
     ]
 
     knows_before : (n : ℕ) (to : SocketAddr) → Knows after n to → Knows a n to
     knows_before n to (ByWaiting w listed) = ByWaiting w listed
-    knows_before n to (ByConnection c listed) = elim (old_or_tied c listed) [
+    knows_before n to (ByConnection c listed) = elim (old_or_tied a c listed) [
       | inl was ↦ ByConnection c was
       | inr same ↦ subst (λ (x : Connection). Knows a x.connection x.peer) same knew
     ]
@@ -55,7 +70,7 @@ module _ (here peer : SocketAddr) (connection : ℕ) (awaited : Binding) where
     pending_before n (OfRefresh r listed has) = inl (OfRefresh r listed has)
     pending_before n (OfConnect c listed has) = inl (OfConnect c listed has)
     pending_before n (OfAttempt w listed has) = inl (OfAttempt w listed has)
-    pending_before n (OfBinding c listed b awaits has) = elim (old_or_tied c listed) [
+    pending_before n (OfBinding c listed b awaits has) = elim (old_or_tied a c listed) [
       | inl was ↦ inl (OfBinding c was b awaits has)
       | inr same ↦
           let own : awaited ≡ b = Prim.cc (ap (λ (x : Connection). x.awaited) same ∙ awaits) in
@@ -119,8 +134,9 @@ module _ (here peer : SocketAddr) (connection : ℕ) (awaited : Binding) where
             by (Still before) = IsWaiting a before w has number
             by (Now before found was is) = IsWaiting before was w (subst (λ (x : Allocation). IsIn w x.waiting) is has) number
 
-    pub tying_orderly : AreDistinct all → IsOrderly p → IsOrderly (record p { allocations = all })
-    tying_orderly distinct is = record {
+    -- what is outstanding under its number asks that it be bound
+    pub tying_orderly : AsksFor p.agent (run.Connection here peer connection) awaited.number → AreDistinct all → IsOrderly p → IsOrderly (record p { allocations = all })
+    tying_orderly asks distinct is = record {
       numbers = is.numbers;
       messages = is.messages;
       allocates = is.allocates;
@@ -129,7 +145,7 @@ module _ (here peer : SocketAddr) (connection : ℕ) (awaited : Binding) where
       permissions = λ a listed. each (AreAsked p.agent) (λ x h. h) is.permissions a (was_tied a listed);
       channels = λ a listed. each (AreBinding p.agent) (λ x h. record { asked = h.asked; renewed = h.renewed }) is.channels a (was_tied a listed);
       peers = λ a listed. each AreWhole (λ x h. record { asked = h.asked; standing = h.standing }) is.peers a (was_tied a listed);
-      connects = λ a listed. each (AreConnecting p.agent) (λ x h. record { asked = h.asked; whole = h.whole }) is.connects a (was_tied a listed);
+      connects = λ a listed. each (AreConnecting p.agent) (λ x h. ties p.agent x asks h) is.connects a (was_tied a listed);
       distinct = distinct;
     }
       where

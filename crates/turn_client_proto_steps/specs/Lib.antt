@@ -16,6 +16,7 @@ pub use Rattle.turn_client_proto_data.specs.Connecting
 pub use Rattle.turn_client_proto_data.specs.Connection
 pub use Rattle.turn_client_proto_data.specs.Drawing
 pub use Rattle.turn_client_proto_data.specs.Headline
+pub use Rattle.turn_client_proto_data.specs.Hearing
 pub use Rattle.turn_client_proto_data.specs.Indications
 pub use Rattle.turn_client_proto_data.specs.Members
 pub use Rattle.turn_client_proto_data.specs.Messages

@@ -38,6 +38,15 @@ pub record IsGiving (before : Client) (bytes : List ℕ) (payloads : List Payloa
   pub step : ClientStep client_words (record (call_of before (bytes ∷ []) None [] after) { payloads = payloads })
   pub sound : IsSound after
 
+-- nothing came that is a message or a frame, and these payloads were handed over: bytes of the peers of bound connections,
+-- which had come over their sockets. Nothing was drawn or answered
+pub record IsPassingOn (before : Client) (payloads : List Payload) (core : Protocol) : Type 0 where
+  pub after : Client
+  pub core_is : after.core ≡ core
+  pub waits : after.waiting ≡ before.waiting
+  pub step : ClientStep client_words (record (call_of before [] None [] after) { payloads = payloads })
+  pub sound : IsSound after
+
 -- a message came, and nothing was drawn or answered
 abbrev pub IsReceiving : Client → List ℕ → Protocol → Type 0
 IsReceiving before bytes core = IsRunStep before (bytes ∷ []) None [] core

@@ -16,13 +16,13 @@ use Rattle.turn_client_proto_data.specs.Members.{IsIn}
 use Rattle.std.specs.Net.Socket.{IsSocketAddr, socket_flowinfo, socket_scope_id}
 use Rattle.std.specs.declared.net.socket_addr.SocketAddr.{SocketAddr}
 use Rattle.turn_client_proto_data.specs.Channel.Numbers.{AreDistinct}
-use Rattle.turn_client_proto_data.specs.Messages.{Asks, Gain, Held, Holds, Knows, Permission, Channel as ChannelHeld}
+use Rattle.turn_client_proto_data.specs.Messages.{Asks, Gain, Held, Holds, Knows, Permission, Channel as ChannelHeld, Connection as ConnectionHeld}
 use Rattle.turn_client_proto_data.specs.StunWire.{told_by}
 use Rattle.turn_client_proto_data.specs.Core.Waiting.{Queued}
 use Rattle.turn_client_proto_data.specs.Core.declared.protocol.Phase.{Phase}
 use Rattle.turn_client_proto_data.specs.Core.declared.protocol.Phase.TheVariants.{Initial, InitialSent, Authenticating, Authenticated, Ended}
 use Rattle.turn_client_proto_data.specs.Request.ShortTexts.{HasShortTexts}
-use Rattle.turn_client_proto_steps.specs.Held.{Allocation, Channel, Connecting, PendingChannel, PendingPermission, PendingRefresh}
+use Rattle.turn_client_proto_steps.specs.Held.{Allocation, Binding, Channel, Connecting, Connection, PendingChannel, PendingPermission, PendingRefresh}
 use Rattle.turn_client_proto_steps.specs.RunClient.{Client, Parts, parts_of}
 
 -- ---- what is outstanding
@@ -81,10 +81,13 @@ pub record AreWhole (a : Allocation) : Type 0 where
   pub standing : (c : Channel) → IsIn c a.channels → IsWhole c.peer
 
 -- an outstanding request under the number of a connection that was asked for asks for one to that very peer, of whatever
--- number the server knows it by; and the peer can be named in it
+-- number the server knows it by; and the peer can be named in it. One under the number that a connection awaits asks that
+-- this very connection be bound
 pub record AreConnecting (agent : Agent) (a : Allocation) : Type 0 where
   pub asked : (c : Connecting) → IsIn c a.connecting → AsksOf agent (Knows 0 c.peer) c.number
   pub whole : (c : Connecting) → IsIn c a.connecting → IsWhole c.peer
+  pub binds : (c : Connection) → IsIn c a.connections → (b : Binding) → c.awaited ≡ Some b
+      → AsksFor agent (ConnectionHeld c.here c.peer c.connection) b.number
 
 -- each outstanding request is a message, kept under its own number; until the server has allocated it is an
 -- ALLOCATE for the client's transport; what waits to be sent is requests; what allocations await was asked for; the

@@ -30,6 +30,7 @@ ghost use Rattle.turn_client_proto_data.specs.Core.Permitting.{IsPermissionAnswe
 ghost use Rattle.turn_client_proto_data.specs.Core.Receiving.{IsHeard};
 ghost use Rattle.turn_client_proto_data.specs.Core.declared.protocol.Protocol.{Protocol};
 ghost use Rattle.turn_client_proto_data.specs.Drawing.{IsDrawn, Sent};
+ghost use Rattle.turn_client_proto_data.specs.Hearing.{IsHeardAt};
 ghost use Rattle.turn_client_proto_data.specs.Polling.{IsPolled};
 ghost use Rattle.turn_client_proto_data.specs.Sending.{IsSendAnswered};
 ghost use Rattle.turn_client_proto_data.specs.Sockets.{IsSocketAnswered};
@@ -41,6 +42,15 @@ pub fn hearing_is_definite()
         → IsHeard old bytes now handled one
         → IsHeard old bytes now again other
         → (handled ≡ again) × (one ≡ other) }
+{}
+
+/// One message that came over the socket of one own address at one moment: what the client is then is one.
+/// No outcome of this relation is one of a client that was refused memory.
+pub fn hearing_at_is_definite()
+    ensures { (old one other : Protocol) (here : SocketAddr) (bytes : List ℕ) (now : ℕ)
+        → IsHeardAt here old bytes now one
+        → IsHeardAt here old bytes now other
+        → one ≡ other }
 {}
 
 /// One moment: what `poll` answers, and what the client is then, are one, unless memory was

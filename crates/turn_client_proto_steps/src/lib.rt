@@ -5,11 +5,13 @@
 //! functions here do nothing; each contract is a law: a call that meets its contract is a step of a
 //! run, and leaves a sound client sound. A getter is no step, for nothing changes; nor are bytes that
 //! did not come from the server, or that are no message and give nothing of a peer. [`framed`] has the
-//! steps of what comes over TCP, and [`definite`] that what a client does is determined.
+//! steps of what comes over TCP, [`sockets`] those of what comes over the sockets of connections to
+//! peers, and [`definite`] that what a client does is determined.
 #![tactic(auto)]
 
 pub mod definite;
 pub mod framed;
+pub mod sockets;
 
 // What stands above this crate has the calls through it.
 ghost use Rattle.std.specs.Prelude.{◌≤◌, ℕ, List, length, ◌≡◌, ◌++◌, Bool, true, [], ◌∷◌, Option, None, Some, Result, option_to_list};

@@ -1,27 +1,34 @@
 -- What the last answer of a run shows or gives was granted in the run, and what it gives is what came.
-use Rattle.std.proofs.Common.{Vec, Global, ◌≡◌, ℕ, Bool, true, false, List, [], ◌∷◌, ◌++◌, map, Option, Some, None, is_none, refl, sym, ap, ◌∙◌, subst, inl, inr}
+use Rattle.std.proofs.Common.{Vec, Global, ◌≡◌, ℕ, Bool, true, false, List, [], ◌∷◌, ◌++◌, filter, map, Option, Some, None, is_none, refl, sym, ap, ◌∙◌, subst, inl, inr}
+use Rattle.std.proofs.lemmas.Bool.{cases_Bool}
 use Rattle.std.proofs.lemmas.List.{append_assoc}
 use Rattle.std.specs.Borrow.{Bor}
 use Rattle.std.specs.Net.Socket.{socket_ip}
 use Rattle.std.specs.declared.net.socket_addr.SocketAddr.{SocketAddr}
 use Rattle.stun_types.specs.Grammar.{refusal}
 use Rattle.stun_types.specs.declared.transport.TransportType.{TransportType}
+use Rattle.stun_types.specs.declared.transport.TransportType.TheVariants.{Tcp}
 use Rattle.turn_types.specs.Streams.{Stream}
 use Rattle.turn_runs.specs.Chains.{steps_of}
+use Rattle.turn_client_proto.specs.Allocation.declared.connection.Binding.{Binding}
+use Rattle.turn_client_proto.specs.Allocation.declared.connection.Connection.{Connection as Joined}
 use Rattle.turn_client_proto.specs.Api.Payloads.{PeerPayload}
+use Rattle.turn_client_proto.specs.Connection.Streams.{emptied}
 use Rattle.turn_client_proto.specs.Control.{Control, Datagrams, Open, Closed}
 use Rattle.turn_client_proto.specs.Headline.{IsSafe, ShowsTraced, Traced}
 use Rattle.turn_client_proto.specs.Indications.{Carries}
-use Rattle.turn_client_proto.specs.Kept.{Kept}
+use Rattle.turn_client_proto.specs.Kept.{Kept, Protocol}
 use Rattle.turn_client_proto.specs.Members.{IsIn}
-use Rattle.turn_client_proto.specs.Messages.{Held, NamesHeld, Payload, Permission, Reported}
+use Rattle.turn_client_proto.specs.Messages.{Connection, FromConnection, Held, NamesHeld, Payload, Permission, Reported}
 use Rattle.turn_client_proto.specs.Receipts.{End, IsReceivedBy, IsStreamed, Piece, Strange}
 use Rattle.turn_client_proto.specs.Runs.{Step, AtClient, AtEach, IsLawful}
+use Rattle.turn_client_proto.specs.SocketPieces.{after_raw, raw_given, raw_kept}
 use Rattle.turn_client_proto.specs.Steps.{Call as StepCall, IsDelivered}
 use Rattle.turn_client_proto.specs.ClientWords.{client_words}
 use Rattle.turn_client_proto.specs.RunClient.{Client}
 use Rattle.turn_client_proto.proofs.Lists.{inside, nothing_behind}
 use Rattle.turn_client_proto.proofs.Polling.{by_test}
+use Rattle.turn_client_proto.proofs.Streaming.{from_here}
 use Rattle.turn_desk_event.specs.declared.answer.Answer.{Answer}
 use Rattle.turn_desk_event.specs.declared.answer.Answer.TheVariants as answer
 use Rattle.turn_desk_event.specs.declared.event.ClientCall.{ClientCall}
@@ -32,8 +39,10 @@ use Rattle.turn_desk_steps.specs.DeskRun.{DeskCall}
 use Rattle.turn_desk_world.specs.Calls.{IsFed}
 use Rattle.turn_desk_world.specs.Model.{World}
 use Rattle.turn_desk_world.specs.Runs.{IsAtClient, IsInRange, IsStep, is_in_range}
-use Rattle.turn_desk_world.specs.Safety.{IsCarried, IsDataCarried, IsLastAnswered, WasGranted, held_by, last_taken, words}
-use Rattle.turn_desk_world.specs.Told.{AreCallsBy, AreCallsOfBytes, AreStepsBy, AreStepsOfClient, AreTakenUp, HandsNothing, IsCallOf, IsOneCall, IsToldBy, data_of, given_of, shown_in}
+use Rattle.turn_desk_world.specs.Safety.{IsCarried, IsDataBrought, IsDataCarried, IsDataKept, IsLastAnswered, IsPassedRaw, WasGranted, held_by, last_taken, words}
+use Rattle.turn_desk_world.specs.SocketCalls.{AreCallsBound, AreCallsOver, GivesNothing, IsOne, IsPassedOn}
+use Rattle.turn_desk_world.proofs.AtSocket.{socket_there}
+use Rattle.turn_desk_world.specs.Told.{AreCallsBy, AreCallsOfAsking, AreCallsOfBytes, AreCallsOfPiece, AreCallsOverTcp, AreStepsBy, AreStepsOfClient, AreTakenUp, HandsNothing, IsCallOf, IsOneCall, IsToldBy, OfStream, OverNone, OverSocket, arriving, connections_bound, data_of, given_of, raw_asked, shown_in}
 
 -- the newest steps of a run are its last event's
 record IsNewest (pair : Event × Answer) (run : List (Step Client DeskCall)) (new : World) : Type 0 where
@@ -108,6 +117,39 @@ pub record IsLastFrame (ret : Answer) (run : List (Step Client DeskCall)) : Type
   handled_is : call.handled ≡ frame ∷ []
   payloads_are : call.payloads ≡ given_of frame ret
 
+-- or one in which bytes of such a connection's peer were handed over, which are what is answered
+pub record IsLastRaw (Of : Joined → PeerPayload → Type 0) (ret : Answer) (run : List (Step Client DeskCall)) : Type 0 where
+  call : StepCall Client
+  earlier : List (Step Client DeskCall)
+  run_is : run ≡ AtClient call ∷ earlier
+  k : Joined
+  given : PeerPayload
+  is_of : Of k given
+  answered : ret ≡ answer.Peer given
+  transport_is : given.transport ≡ Tcp
+  peer_is : k.peer ≡ given.peer
+  payloads_are : call.payloads ≡ FromConnection k.here k.peer given.payload ∷ []
+
+pub data IsLastGiven (Of : Joined → PeerPayload → Type 0) (ret : Answer) (run : List (Step Client DeskCall)) : Type 0 where
+  ByFrame : IsLastFrame ret run → IsLastGiven Of ret run
+  ByPeer : IsLastRaw Of ret run → IsLastGiven Of ret run
+
+-- these came to the connection's own address, and are given behind those that waited
+pub record IsBroughtTo (to : SocketAddr) (bytes : List ℕ) (k : Joined) (given : PeerPayload) : Type 0 where
+  at : k.here ≡ to
+  waited : List ℕ
+  payload_is : given.payload ≡ waited ++ bytes
+
+-- they waited
+abbrev pub HasWaited : Joined → PeerPayload → Type 0
+HasWaited k given = Unit {0}
+
+-- what gives nothing hands nothing over
+gives_nothing : (ret : Answer) → GivesNothing ret → HandsNothing ret
+gives_nothing (answer.Peer given) is = absurd is
+gives_nothing (answer.Icmp transport peer kind code details) is = absurd is
+gives_nothing _ is = λ bytes. refl
+
 module _ (ret : Answer) (gives : ¬ HandsNothing ret) (run : List (Step Client DeskCall)) where
   of_frames : (now : ℕ) (first last : Client) (calls : List (StepCall Client)) (earlier : List (Step Client DeskCall)) → run ≡ steps_of calls ++ earlier → AreTakenUp now ret first calls last → IsLastFrame ret run
   of_frames now first last [] earlier run_is are = absurd (gives are.1)
@@ -133,16 +175,54 @@ module _ (ret : Answer) (gives : ¬ HandsNothing ret) (run : List (Step Client D
     payloads_are = up.payloads_are;
   }
 
-  module _ (bytes : Vec ℕ Global) (from to : SocketAddr) (now : ℕ) (kept : Kept) (first last : Client) (calls : List (StepCall Client)) (earlier : List (Step Client DeskCall)) (run_is : run ≡ steps_of calls ++ earlier) where
-    of_datagram : IsOneCall (ToClient bytes from to now) ret first calls last → IsLastFrame ret run
-    of_datagram are =
+  module _ (now : ℕ) (kept : Kept) (first last : Client) (calls : List (StepCall Client)) (earlier : List (Step Client DeskCall)) (run_is : run ≡ steps_of calls ++ earlier) where
+    of_raw : (Of : Joined → PeerPayload → Type 0) (k : Joined) (given : PeerPayload) → Of k given → (core : Protocol) → given.transport ≡ Tcp → k.peer ≡ given.peer → IsOne (IsPassedOn k given core ret) first calls last → IsLastRaw Of ret run
+    of_raw Of k given is_of core tcp peer (call, calls_are, begins, ends, is) = record {
+      call = call;
+      earlier = earlier;
+      run_is = run_is ∙ ap (λ (l : List (StepCall Client)). steps_of l ++ earlier) calls_are;
+      k = k;
+      given = given;
+      is_of = is_of;
+      answered = is.answered;
+      transport_is = tcp;
+      peer_is = peer;
+      payloads_are = is.payloads_are;
+    }
+
+    -- what came to an own address
+    abbrev Came : SocketAddr → List ℕ → Type 0
+    Came to bytes = IsLastGiven (IsBroughtTo to bytes) ret run
+
+    of_piece : (bytes : List ℕ) (from to : SocketAddr) → AreCallsOfPiece kept bytes from to now ret first calls last → Came to bytes
+    of_piece bytes from to are = ByFrame (of_taken now are.coming.after last are.taking are.coming earlier (run_is ∙ ap (λ (l : List (StepCall Client)). steps_of l ++ earlier) are.calls_are) are.taken)
+
+    of_bound : (awaited : Option Binding) (k : Joined) (to : SocketAddr) → k.here ≡ to → (bytes : List ℕ) → AreCallsBound awaited k to now bytes ret kept.core first calls last → Came to bytes
+    of_bound (Some binding) k to at bytes are = absurd (gives (gives_nothing ret are.0))
+    of_bound None k to at bytes are = ByPeer (of_raw (IsBroughtTo to bytes) k (record (raw_given k bytes) { is_owned = true }) (record { at = at; waited = k.stream.kept; payload_is = refl }) (after_raw to k kept.core) refl refl are)
+
+    of_over : (k : Joined) (to : SocketAddr) → k.here ≡ to → (bytes : List ℕ) → AreCallsOver k to now bytes ret kept.core first calls last → Came to bytes
+    of_over k to at [] are = absurd (gives (gives_nothing ret are.0))
+    of_over k to at (byte ∷ bytes) are = of_bound k.awaited k to at (byte ∷ bytes) are
+
+    of_tcp : (bytes : List ℕ) (from to : SocketAddr) → AreCallsOverTcp kept bytes from to now ret first calls last → Came to bytes
+    of_tcp bytes from to (OfStream is are) = of_piece bytes from to are
+    of_tcp bytes from to (OverSocket none inside_it k there are) = of_over k to (from_here to kept.core.allocations k (socket_there kept.core from to k there)) bytes are
+    of_tcp bytes from to (OverNone none no_socket are) = of_piece bytes from to are
+
+    of_asking : (raw : Option Joined) → AreCallsOfAsking raw now kept ret first calls last → IsLastGiven HasWaited ret run
+    of_asking (Some k) are = ByPeer (of_raw HasWaited k (raw_kept k) tt (record kept.core { allocations = emptied kept.core.allocations }) refl refl are)
+    of_asking None are = ByFrame (of_frames now first last calls earlier run_is are)
+
+    of_datagram : (bytes : Vec ℕ Global) (from to : SocketAddr) → IsOneCall (ToClient bytes from to now) ret first calls last → IsLastFrame ret run
+    of_datagram bytes from to are =
         let n = newest_call (ToClient bytes from to now) ret first last calls run earlier run_is are in
         record { call = n.call; earlier = n.earlier; run_is = n.run_is; frame = bytes.items; handled_is = n.told.handled_is; payloads_are = n.told.payloads_are }
 
-    of_bytes : (control : Control) → AreCallsOfBytes control kept bytes from to now ret first calls last → IsLastFrame ret run
-    of_bytes Datagrams are = of_datagram are
-    of_bytes (Open stream) are = of_taken now are.coming.after last are.taking are.coming earlier (run_is ∙ ap (λ (l : List (StepCall Client)). steps_of l ++ earlier) are.calls_are) are.taken
-    of_bytes Closed are = of_taken now are.coming.after last are.taking are.coming earlier (run_is ∙ ap (λ (l : List (StepCall Client)). steps_of l ++ earlier) are.calls_are) are.taken
+    of_bytes : (control : Control) (bytes : Vec ℕ Global) (from to : SocketAddr) → AreCallsOfBytes control kept bytes from to now ret first calls last → Came to bytes.items
+    of_bytes Datagrams bytes from to are = ByFrame (of_datagram bytes from to are)
+    of_bytes (Open stream) bytes from to are = of_tcp bytes.items from to are
+    of_bytes Closed bytes from to are = of_tcp bytes.items from to are
 
 -- a payload of that frame is what it carries, and names what was granted
 module _ (event : Event) (ret : Answer) (first last : Client) (run : List (Step Client DeskCall)) (is : IsLastAnswered event ret first run last) (n : IsLastFrame ret run) where
@@ -177,30 +257,93 @@ module _ (event : Event) (ret : Answer) (first last : Client) (run : List (Step 
   data_named true frame given g named = named
   data_named false frame given g named = named
 
-  pub data_carried : (given : PeerPayload) → ret ≡ answer.Peer given → IsDataCarried first run last given
+  data_carried : (given : PeerPayload) → ret ≡ answer.Peer given → IsDataCarried first run last given
   data_carried given answered =
       carried (λ frame. data_of (is_none (refusal frame)) frame given) (λ frame. held_by (is_none (refusal frame)) frame given)
       (subst (λ (r : Answer). IsIn (data_of (is_none (refusal n.frame)) n.frame given) (given_of n.frame r)) (sym answered) (inl refl))
       (data_delivered (is_none (refusal n.frame)) n.frame given) (data_named (is_none (refusal n.frame)) n.frame given)
 
-  pub report_carried : (transport : TransportType) (peer : SocketAddr) (kind code details : ℕ) → ret ≡ answer.Icmp transport peer kind code details
+  report_carried : (transport : TransportType) (peer : SocketAddr) (kind code details : ℕ) → ret ≡ answer.Icmp transport peer kind code details
       → IsCarried first run last (λ frame. Reported transport peer (record { icmp_type = kind; code = code; details = details })) (λ frame. Permission transport (socket_ip peer))
   report_carried transport peer kind code details answered =
       carried (λ frame. Reported transport peer (record { icmp_type = kind; code = code; details = details })) (λ frame. Permission transport (socket_ip peer))
       (subst (λ (r : Answer). IsIn (Reported transport peer (record { icmp_type = kind; code = code; details = details })) (given_of n.frame r)) (sym answered) (inl refl)) (λ came. came) (λ g named. named)
 
+-- bytes of a connection's peer name that connection, which was granted
+module _ (Of : Joined → PeerPayload → Type 0) (event : Event) (ret : Answer) (first last : Client) (run : List (Step Client DeskCall)) (is : IsLastAnswered event ret first run last) (n : IsLastRaw Of ret run) where
+  abbrev passed : Payload
+  passed = FromConnection n.k.here n.k.peer n.given.payload
+
+  raw_named : (held : Held) → NamesHeld passed held → Traced words (AtClient n.call ∷ n.earlier) held → (number : ℕ) × Traced words run (Connection n.k.here n.given.peer number)
+  raw_named held named traced = (
+    named.0,
+    subst (λ (l : List (Step Client DeskCall)). Traced words l (Connection n.k.here n.given.peer named.0)) (sym n.run_is)
+        (subst (λ (p : SocketAddr). Traced words (AtClient n.call ∷ n.earlier) (Connection n.k.here p named.0)) n.peer_is
+        (subst (λ (g : Held). Traced words (AtClient n.call ∷ n.earlier) g) named.1 traced)),
+  )
+
+  raw_passed : IsPassedRaw first run last n.k.here n.given
+  raw_passed = record {
+    transport_is = n.transport_is;
+    granted = λ forged distinct.
+        let safe : AtEach (IsSafe words first last) (AtClient n.call ∷ n.earlier) = subst (λ (l : List (Step Client DeskCall)). AtEach (IsSafe words first last) l) n.run_is (is.promised.safe forged distinct) in
+        let handed : IsIn passed n.call.payloads = subst (λ (l : List Payload). IsIn passed l) (sym n.payloads_are) (inl refl) in
+        let named = (safe.0.names passed handed).1 in
+        raw_named named.0 named.1 named.3;
+  }
+
+  same_given : (given : PeerPayload) → ret ≡ answer.Peer given → n.given ≡ given
+  same_given given answered = Prim.cc (sym n.answered ∙ answered)
+
+  passed_raw : (given : PeerPayload) → ret ≡ answer.Peer given → IsPassedRaw first run last n.k.here given
+  passed_raw given answered = subst (λ (g : PeerPayload). IsPassedRaw first run last n.k.here g) (same_given given answered) raw_passed
+
+  passed_of : (given : PeerPayload) → ret ≡ answer.Peer given → Of n.k given
+  passed_of given answered = subst (λ (g : PeerPayload). Of n.k g) (same_given given answered) n.is_of
+
+  -- a report is none
+  never_report : (transport : TransportType) (peer : SocketAddr) (kind code details : ℕ) → ret ≡ answer.Icmp transport peer kind code details → ⊥
+  never_report transport peer kind code details answered = Prim.cc (sym n.answered ∙ answered)
+
+-- ---- by the last event
+
 module _ (ret : Answer) (gives : ¬ HandsNothing ret) (first last : Client) (run : List (Step Client DeskCall)) (now : ℕ) where
-  pub came_last : (bytes : Vec ℕ Global) (from to : SocketAddr) → IsLastAnswered (ToClient bytes from to now) ret first run last → IsLastFrame ret run
+  pub came_last : (bytes : Vec ℕ Global) (from to : SocketAddr) → IsLastAnswered (ToClient bytes from to now) ret first run last → IsLastGiven (IsBroughtTo to bytes.items) ret run
   came_last bytes from to is =
       let n = newest is.before (ToClient bytes from to now, ret) is.old is.new run is.account.told in
       let by : AreStepsOfClient (ToClient bytes from to now) ret n.before.client is.new.client n.steps = n.told in
-      of_bytes ret gives run bytes from to now by.kept by.first by.last by.calls n.earlier (n.run_is ∙ ap (λ (l : List (Step Client DeskCall)). l ++ n.earlier) by.steps_are) by.kept.control by.are
+      of_bytes ret gives run now by.kept by.first by.last by.calls n.earlier (n.run_is ∙ ap (λ (l : List (Step Client DeskCall)). l ++ n.earlier) by.steps_are) by.kept.control bytes from to by.are
 
-  pub waited_last : IsLastAnswered (Call call.PollRecv now) ret first run last → IsLastFrame ret run
+  pub waited_last : IsLastAnswered (Call call.PollRecv now) ret first run last → IsLastGiven HasWaited ret run
   waited_last is =
       let n = newest is.before (Call call.PollRecv now, ret) is.old is.new run is.account.told in
       let by : AreStepsOfClient (Call call.PollRecv now) ret n.before.client is.new.client n.steps = n.told in
-      of_frames ret gives run now by.first by.last by.calls n.earlier (n.run_is ∙ ap (λ (l : List (Step Client DeskCall)). l ++ n.earlier) by.steps_are) by.are
+      of_asking ret gives run now by.kept by.first by.last by.calls n.earlier (n.run_is ∙ ap (λ (l : List (Step Client DeskCall)). l ++ n.earlier) by.steps_are) (raw_asked now by.kept) by.are
+
+-- data that bytes gave which came
+pub data_brought : (event : Event) (first last : Client) (run : List (Step Client DeskCall)) (to : SocketAddr) (bytes : List ℕ) (given : PeerPayload) → IsLastAnswered event (answer.Peer given) first run last → IsLastGiven (IsBroughtTo to bytes) (answer.Peer given) run
+    → IsDataBrought first run last to bytes given
+data_brought event first last run to bytes given is (ByFrame n) = inl (data_carried event (answer.Peer given) first last run is n given refl)
+data_brought event first last run to bytes given is (ByPeer n) =
+    let brought : IsBroughtTo to bytes n.k given = passed_of (IsBroughtTo to bytes) event (answer.Peer given) first last run is n given refl in
+    let passed : IsPassedRaw first run last n.k.here given = passed_raw (IsBroughtTo to bytes) event (answer.Peer given) first last run is n given refl in
+    inr (record {
+      passed = subst (λ (here : SocketAddr). IsPassedRaw first run last here given) brought.at passed;
+      waited = brought.waited;
+      payload_is = brought.payload_is;
+    })
+
+-- data that waited
+pub data_kept : (event : Event) (first last : Client) (run : List (Step Client DeskCall)) (given : PeerPayload) → IsLastAnswered event (answer.Peer given) first run last → IsLastGiven HasWaited (answer.Peer given) run → IsDataKept first run last given
+data_kept event first last run given is (ByFrame n) = inl (data_carried event (answer.Peer given) first last run is n given refl)
+data_kept event first last run given is (ByPeer n) = inr (n.k.here, passed_raw HasWaited event (answer.Peer given) first last run is n given refl)
+
+-- a report
+pub report_given : (Of : Joined → PeerPayload → Type 0) (event : Event) (first last : Client) (run : List (Step Client DeskCall)) (transport : TransportType) (peer : SocketAddr) (kind code details : ℕ) → IsLastAnswered event (answer.Icmp transport peer kind code details) first run last
+    → IsLastGiven Of (answer.Icmp transport peer kind code details) run
+    → IsCarried first run last (λ frame. Reported transport peer (record { icmp_type = kind; code = code; details = details })) (λ frame. Permission transport (socket_ip peer))
+report_given Of event first last run transport peer kind code details is (ByFrame n) = report_carried event (answer.Icmp transport peer kind code details) first last run is n transport peer kind code details refl
+report_given Of event first last run transport peer kind code details is (ByPeer n) = absurd (never_report Of event (answer.Icmp transport peer kind code details) first last run is n transport peer kind code details refl)
 
 -- the answers that hand something over
 pub data_hands : (given : PeerPayload) → ¬ HandsNothing (answer.Peer given)
@@ -210,6 +353,10 @@ pub report_hands : (transport : TransportType) (peer : SocketAddr) (kind code de
 report_hands transport peer kind code details none = Prim.cc (none [])
 
 -- ---- a datagram
+
+-- what came by the newest call was taken up last
+taken_last : (happening : Event) (ret : Answer) (run : List (Step Client DeskCall)) → IsNewestCall happening ret run → last_taken run ≡ arriving happening
+taken_last happening ret run n = ap last_taken n.run_is ∙ n.told.handled_is
 
 -- a client that is one over UDP was so before
 module _ (bytes : Vec ℕ Global) (from to : SocketAddr) (now : ℕ) (ret : Answer) where
@@ -244,8 +391,7 @@ module _ (bytes : Vec ℕ Global) (from to : SocketAddr) (now : ℕ) (ret : Answ
       let by : AreStepsOfClient (ToClient bytes from to now) ret n.before.client is.new.client n.steps = n.told in
       let was : by.kept.control ≡ Datagrams = udp_before n.before.client is.new.client by.kept k by.kept_is left udp n.step.0 in
       let one : IsOneCall (ToClient bytes from to now) ret by.first by.calls by.last = subst (λ (o : Control). AreCallsOfBytes o by.kept bytes from to now ret by.first by.calls by.last) was by.are in
-      let newest_is = newest_call (ToClient bytes from to now) ret by.first by.last by.calls run n.earlier (n.run_is ∙ ap (λ (l : List (Step Client DeskCall)). l ++ n.earlier) by.steps_are) one in
-      ap last_taken newest_is.run_is ∙ newest_is.told.handled_is
+      taken_last (ToClient bytes from to now) ret run (newest_call (ToClient bytes from to now) ret by.first by.last by.calls run n.earlier (n.run_is ∙ ap (λ (l : List (Step Client DeskCall)). l ++ n.earlier) by.steps_are) one)
 
 pub in_image : {X Y : Type 0} (f : X → Y) (x : X) (xs : List X) → IsIn x xs → IsIn (f x) (map f xs)
 in_image f x [] i = absurd i
@@ -253,3 +399,23 @@ in_image f x (y ∷ xs) i = elim i [
   | inl e ↦ inl (ap f e)
   | inr j ↦ inr (in_image f x xs j)
 ]
+
+in_passing : {X : Type 0} (p : X → Bool) (x : X) (xs : List X) → p x ≡ true → IsIn x xs → IsIn x (filter p xs)
+in_passing p x [] is i = absurd i
+in_passing {X} p x (y ∷ xs) is i = elim (cases_Bool (p y)) [
+  | inl passes ↦
+      let here : filter p (y ∷ xs) ≡ y ∷ filter p xs = rw passes refl in
+      subst (λ (l : List X). IsIn x l) (sym here) (elim i [ inl same ↦ inl same | inr later ↦ inr (in_passing p x xs is later) ])
+  | inr fails ↦
+      let here : filter p (y ∷ xs) ≡ filter p xs = rw fails refl in
+      subst (λ (l : List X). IsIn x l) (sym here) (elim i [
+        | inl same ↦ absurd (let never : false ≡ true = sym fails ∙ ap p same ∙ is in let none : ⊥ = Prim.cc never in none)
+        | inr later ↦ in_passing p x xs is later
+      ])
+]
+
+-- a connection that is shown as bound is among those
+pub in_bound : (here peer : SocketAddr) (number : ℕ) (rows : List (SocketAddr × SocketAddr × ℕ × Bool)) → IsIn (here, peer, number, true) rows → IsIn (Connection here peer number) (connections_bound rows)
+in_bound here peer number rows listed =
+    in_image (λ (r : SocketAddr × SocketAddr × ℕ × Bool). Connection r.0 r.1 r.2) (here, peer, number, true) (filter (λ (r : SocketAddr × SocketAddr × ℕ × Bool). r.3) rows)
+    (in_passing (λ (r : SocketAddr × SocketAddr × ℕ × Bool). r.3) (here, peer, number, true) rows refl listed)

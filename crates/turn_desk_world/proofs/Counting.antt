@@ -1,11 +1,19 @@
 -- All accounts of a run count as many numbers as drawn.
-use Rattle.std.proofs.Common.{Vec, Global, ◌≡◌, ℕ, ◌+◌, List, [], ◌∷◌, ◌++◌, length, Option, Some, None, refl, sym, ap, ◌∙◌, subst, arith}
+use Rattle.std.proofs.Common.{Vec, Global, ◌≡◌, ℕ, ◌+◌, true, false, List, [], ◌∷◌, ◌++◌, length, Option, Some, None, refl, sym, ap, ◌∙◌, subst, arith, inl, inr}
 use Rattle.std.proofs.lemmas.List.{append_assoc, length-append}
 use Rattle.std.specs.declared.net.socket_addr.SocketAddr.{SocketAddr}
-use Rattle.turn_types.specs.StreamAnswers.{joined}
-use Rattle.turn_types.specs.Streams.{Stream}
+use Rattle.stun_types.specs.Grammar.{refusal}
+use Rattle.stun_types.specs.ParseErrors.{StunParseError}
+use Rattle.turn_types.specs.StreamAnswers.{IsNone, after_look, joined, looked}
+use Rattle.turn_types.specs.Streams.{Stream, alive}
 use Rattle.turn_runs.specs.Chains.{steps_of}
+use Rattle.turn_client_proto.specs.Allocation.declared.connection.Binding.{Binding}
+use Rattle.turn_client_proto.specs.Allocation.declared.connection.Connection.{Connection}
+use Rattle.turn_client_proto.specs.Closing.{after_close}
+use Rattle.turn_client_proto.specs.Connection.Streams.{emptied}
+use Rattle.turn_client_proto.specs.Pulls.{frame_of}
 use Rattle.turn_client_proto.specs.Runs.{Step, AtClient, AtDesk, given_in}
+use Rattle.turn_client_proto.specs.SocketPieces.{IsMessageHeard, after_raw, is_joining, raw_given, raw_kept, with_kept}
 use Rattle.turn_client_proto.specs.Control.{Control, Datagrams, Open, Closed}
 use Rattle.turn_client_proto.specs.HandingIn.{IsFrameTaken}
 use Rattle.turn_client_proto.specs.Kept.{Kept, Leaves, Protocol}
@@ -23,10 +31,12 @@ use Rattle.turn_desk_event.specs.declared.event.Event.TheVariants.{Call, Draw, T
 use Rattle.turn_desk_steps.specs.DeskRun.{DeskCall}
 use Rattle.turn_desk_world.specs.Calls.{IsCallTold, IsDrawnAs, IsFed}
 use Rattle.turn_desk_world.specs.Model.{World}
-use Rattle.turn_desk_world.specs.Runs.{IsAtClient, IsStep}
+use Rattle.turn_desk_world.specs.Runs.{IsAtClient, IsStep, is_in_range}
 use Rattle.turn_desk_world.specs.Safety.{words}
-use Rattle.turn_desk_world.specs.Told.{AreBrought, AreCallsBy, AreCallsOfBytes, AreCallsOfPiece, AreStepsBy, AreStepsOfClient, AreTakenUp, ByEnd, ByNone, ByOthers, ByPiece, IsAt, IsKeptAs, IsOneCall, IsToldBy}
+use Rattle.turn_desk_world.specs.SocketCalls.{AreCallsBound, AreCallsOfJoining, AreCallsOver, AreHeardOver, Hears, IsMessageOver, IsOne, IsPassedOn, IsStill, Passes, Stops, Waits, socket_at}
+use Rattle.turn_desk_world.specs.Told.{AreBrought, AreCallsBy, AreCallsOfAsking, AreCallsOfBytes, AreCallsOfPiece, AreCallsOverTcp, AreStepsBy, AreStepsOfClient, AreTakenUp, ByEnd, ByNone, ByOthers, ByPiece, IsAt, IsCallOf, IsKeptAs, IsNoSocket, IsOneCall, IsToldBy, OfStream, OverNone, OverSocket, raw_asked}
 use Rattle.turn_desk_world.proofs.Determined.{at_client_once, called_once, drawn_once, fed_once}
+use Rattle.turn_desk_world.proofs.SocketOnce.{message_once}
 
 behind : (steps later : List (Step Client DeskCall)) → given_in words (later ++ steps) ≡ given_in words steps + given_in words later
 behind steps [] = omega arith
@@ -40,6 +50,9 @@ given_by_calls calls = given_in words (steps_of calls)
 calls_behind : (later : List (StepCall Client)) (one : StepCall Client) → given_by_calls (later ++ one ∷ []) ≡ given_by_calls (one ∷ []) + given_by_calls later
 calls_behind [] one = omega arith
 calls_behind (call ∷ later) one = let rest = calls_behind later one in omega (arith, rest)
+
+calls_before : (one : StepCall Client) (earlier : List (StepCall Client)) → given_by_calls (one ∷ earlier) ≡ given_by_calls (one ∷ []) + given_by_calls earlier
+calls_before one earlier = omega arith
 
 -- a call that begins and ends with the same cores gives as many
 one_given : (c d : StepCall Client) → c.before.core ≡ d.before.core → c.after.core ≡ d.after.core → numbers_between c.before.core.rng c.after.core.rng ≡ numbers_between d.before.core.rng d.after.core.rng
@@ -103,6 +116,88 @@ as_many now ret again first first' last last' calls others waits left a b =
     let whole : length (one.taken ++ last.waiting) ≡ length (other.taken ++ last'.waiting) = ap length (sym one.parts ∙ waits ∙ other.parts) in
     omega (arith, whole, length-append one.taken last.waiting, length-append other.taken last'.waiting, ap length left, one.many, other.many)
 
+-- ---- frames over the socket of a connection
+
+module _ (here : SocketAddr) (now : ℕ) where
+  -- how it begins: the connection is not to be bound; or no frame is whole; or the one at the front is no message; or it is heard
+  data IsBegun (stream : Stream) (first : Client) (calls : List (StepCall Client)) (left : Stream) (last : Client) : Type 0 where
+    Stopped : is_joining here first.core ≡ false → calls ≡ [] → left ≡ stream → last ≡ first → IsBegun stream first calls left last
+    Waited : is_joining here first.core ≡ true → IsNone (looked stream) → calls ≡ [] → left ≡ after_look stream → last ≡ first → IsBegun stream first calls left last
+    Passed : (error : StunParseError) → is_joining here first.core ≡ true → ¬ IsNone (looked stream) → refusal (frame_of stream) ≡ Some error → AreHeardOver here now (after_look stream) first calls left last → IsBegun stream first calls left last
+    Heard : (call : StepCall Client) (later : List (StepCall Client)) → is_joining here first.core ≡ true → ¬ IsNone (looked stream) → call.before ≡ first → IsMessageOver here now (frame_of stream) call
+        → AreHeardOver here now (after_look stream) call.after later left last → calls ≡ later ++ call ∷ [] → IsBegun stream first calls left last
+
+  begun : (stream : Stream) (first : Client) (calls : List (StepCall Client)) (left : Stream) (last : Client) → AreHeardOver here now stream first calls left last → IsBegun stream first calls left last
+  begun _ _ _ _ _ (Stops stream c not_so) = Stopped not_so refl refl refl
+  begun _ _ _ _ _ (Waits stream c joining none) = Waited joining none refl refl refl
+  begun _ _ _ _ _ (Passes stream c calls left last error joining some refused more) = Passed error joining some refused more
+  begun _ _ _ _ _ (Hears stream call later left last joining some over_it more) = Heard call later joining some refl over_it more refl
+
+  abbrev Agree : (left left' : Stream) (last last' : Client) (calls others : List (StepCall Client)) → Type 0
+  Agree left left' last last' calls others = (left ≡ left') × (last.core ≡ last'.core) × (given_by_calls calls ≡ given_by_calls others)
+
+  -- the same connection is to be bound
+  never_both : {A : Type 0} (first first' : Client) → first.core ≡ first'.core → is_joining here first.core ≡ true → is_joining here first'.core ≡ false → A
+  never_both first first' cores joining not_so = absurd (Prim.cc (sym joining ∙ ap (is_joining here) cores ∙ not_so))
+
+  module _ (stream : Stream) (first first' : Client) (others : List (StepCall Client)) (left' : Stream) (last' : Client) (cores : first.core ≡ first'.core) where
+    stopped_alike : is_joining here first.core ≡ false → IsBegun stream first' others left' last' → Agree stream left' first last' [] others
+    stopped_alike not_so (Stopped nor none left last) = (sym left, cores ∙ sym (ap (λ (x : Client). x.core) last), sym (ap given_by_calls none))
+    stopped_alike not_so (Waited joining nothing none left last) = never_both first' first (sym cores) joining not_so
+    stopped_alike not_so (Passed error joining some refused more) = never_both first' first (sym cores) joining not_so
+    stopped_alike not_so (Heard call later joining some begins over_it more calls_are) = never_both first' first (sym cores) joining not_so
+
+    waited_alike : is_joining here first.core ≡ true → IsNone (looked stream) → IsBegun stream first' others left' last' → Agree (after_look stream) left' first last' [] others
+    waited_alike joining nothing (Stopped not_so none left last) = never_both first first' cores joining not_so
+    waited_alike joining nothing (Waited joining_too nor none left last) = (sym left, cores ∙ sym (ap (λ (x : Client). x.core) last), sym (ap given_by_calls none))
+    waited_alike joining nothing (Passed error joining_too some refused more) = absurd (some nothing)
+    waited_alike joining nothing (Heard call later joining_too some begins over_it more calls_are) = absurd (some nothing)
+
+    passed_alike : (calls : List (StepCall Client)) (left : Stream) (last : Client) (error : StunParseError) → is_joining here first.core ≡ true → ¬ IsNone (looked stream) → refusal (frame_of stream) ≡ Some error
+        → (AreHeardOver here now (after_look stream) first' others left' last' → Agree left left' last last' calls others) → IsBegun stream first' others left' last' → Agree left left' last last' calls others
+    passed_alike calls left last error joining some refused behind_it (Stopped not_so none left_is last_is) = never_both first first' cores joining not_so
+    passed_alike calls left last error joining some refused behind_it (Waited joining_too nothing none left_is last_is) = absurd (some nothing)
+    passed_alike calls left last error joining some refused behind_it (Passed another joining_too some_too refused_too more) = behind_it more
+    passed_alike calls left last error joining some refused behind_it (Heard call later joining_too some_too begins over_it more calls_are) =
+        absurd (let never : None ≡ Some error = sym over_it.message ∙ refused in let no : ⊥ = Prim.cc never in no)
+
+  heard_on : (stream : Stream) (call : StepCall Client) (later : List (StepCall Client)) (left : Stream) (last : Client) (first' : Client) (others : List (StepCall Client)) (left' : Stream) (last' : Client) → call.before.core ≡ first'.core
+      → is_joining here call.before.core ≡ true → ¬ IsNone (looked stream) → IsMessageOver here now (frame_of stream) call
+      → ((d : Client) (more : List (StepCall Client)) → AreHeardOver here now (after_look stream) d more left' last' → call.after.core ≡ d.core → Agree left left' last last' later more)
+      → IsBegun stream first' others left' last' → Agree left left' last last' (later ++ call ∷ []) others
+  heard_on stream call later left last first' others left' last' cores joining some over_it behind_it (Stopped not_so none left_is last_is) = never_both call.before first' cores joining not_so
+  heard_on stream call later left last first' others left' last' cores joining some over_it behind_it (Waited joining_too nothing none left_is last_is) = absurd (some nothing)
+  heard_on stream call later left last first' others left' last' cores joining some over_it behind_it (Passed error joining_too some_too refused more) =
+      absurd (let never : None ≡ Some error = sym over_it.message ∙ refused in let no : ⊥ = Prim.cc never in no)
+  heard_on stream call later left last first' others left' last' cores joining some over_it behind_it (Heard again more joining_too some_too begins over_too more_heard calls_are) =
+      let before : call.before.core ≡ again.before.core = cores ∙ sym (ap (λ (x : Client). x.core) begins) in
+      let heard : IsMessageHeard here now again.before.core (frame_of stream) call.after.core = subst (λ (p : Protocol). IsMessageHeard here now p (frame_of stream) call.after.core) before over_it.heard in
+      let after : call.after.core ≡ again.after.core = message_once here now again.before.core (frame_of stream) call.after.core again.after.core heard over_too.heard in
+      let rest = behind_it again.after more more_heard after in
+      let given = one_given call again before after in
+      let one = calls_behind later call in
+      let other : given_by_calls others ≡ given_by_calls (again ∷ []) + given_by_calls more = ap given_by_calls calls_are ∙ calls_behind more again in
+      (rest.0, rest.1, omega (arith, one, other, rest.2, given))
+
+-- those from the same on are the same
+heard_alike : (here : SocketAddr) (now : ℕ) (stream : Stream) (first first' : Client) (calls others : List (StepCall Client)) (left left' : Stream) (last last' : Client) → AreHeardOver here now stream first calls left last
+    → AreHeardOver here now stream first' others left' last' → first.core ≡ first'.core → (left ≡ left') × (last.core ≡ last'.core) × (given_by_calls calls ≡ given_by_calls others)
+heard_alike here now _ _ first' _ others _ left' _ last' (Stops stream c not_so) b cores = stopped_alike here now stream c first' others left' last' cores not_so (begun here now stream first' others left' last' b)
+heard_alike here now _ _ first' _ others _ left' _ last' (Waits stream c joining none) b cores = waited_alike here now stream c first' others left' last' cores joining none (begun here now stream first' others left' last' b)
+heard_alike here now _ _ first' _ others _ left' _ last' (Passes stream c calls left last error joining some refused more) b cores =
+    passed_alike here now stream c first' others left' last' cores calls left last error joining some refused
+    (λ more_too. heard_alike here now (after_look stream) c first' calls others left left' last last' more more_too cores) (begun here now stream first' others left' last' b)
+heard_alike here now _ _ first' _ others _ left' _ last' (Hears stream call later left last joining some over_it more) b cores =
+    heard_on here now stream call later left last first' others left' last' cores joining some over_it
+    (λ d again more_too after. heard_alike here now (after_look stream) call.after d later again left left' last last' more more_too after) (begun here now stream first' others left' last' b)
+
+-- where there is a socket, there is not none
+some_socket : (p : Protocol) (from to : SocketAddr) (now : ℕ) (k : Connection) → is_in_range now ≡ true → socket_at p from to ≡ Some k → IsNoSocket p from to now → ⊥
+some_socket p from to now k inside_it at none = elim none [
+  | inl out ↦ Prim.cc (sym inside_it ∙ out)
+  | inr nothing ↦ (let never : Some k ≡ None = sym at ∙ nothing in let no : ⊥ = Prim.cc never in no)
+]
+
 -- ---- what a piece brings
 
 open_same : (k : Kept) (s t : Stream) → k.control ≡ Open s → k.control ≡ Open t → s ≡ t
@@ -137,11 +232,15 @@ module _ (kept : Kept) (ret : Answer) (first first' last last' : Client) (calls 
   abbrev Alike : Type 0
   Alike = given_by_calls calls ≡ given_by_calls others
 
-  one_alike : (event : Event) → IsOneCall event ret first calls last → IsOneCall event ret first' others last' → Alike
-  one_alike event (c, calls_are, begins, ends, is) (d, others_are, begins', ends', is') =
+  -- one call
+  single_alike : (Is : StepCall Client → Type 0) → IsOne Is first calls last → IsOne Is first' others last' → Alike
+  single_alike Is (c, calls_are, begins, ends, is) (d, others_are, begins', ends', is') =
       let before : c.before.core ≡ d.before.core = ap (λ (x : Client). x.core) begins ∙ cores ∙ sym (ap (λ (x : Client). x.core) begins') in
       let after : c.after.core ≡ d.after.core = sym (ap (λ (x : Client). x.core) ends) ∙ left ∙ ap (λ (x : Client). x.core) ends' in
       ap given_by_calls calls_are ∙ ap (λ n. 0 + n) (one_given c d before after) ∙ sym (ap given_by_calls others_are)
+
+  one_alike : (event : Event) → IsOneCall event ret first calls last → IsOneCall event ret first' others last' → Alike
+  one_alike event a b = single_alike (IsCallOf event ret) a b
 
   frames_alike : (now : ℕ) → AreTakenUp now ret first calls last → AreTakenUp now ret first' others last' → Alike
   frames_alike now a b = (taken_alike now ret ret first first' last last' calls others cores waits (as_many now ret ret first first' last last' calls others waits stay a b) a b).1
@@ -159,13 +258,53 @@ module _ (kept : Kept) (ret : Answer) (first first' last last' : Client) (calls 
       let other : given_by_calls others ≡ given_by_calls (b.coming ∷ []) + given_by_calls b.taking = ap given_by_calls b.calls_are ∙ calls_behind b.taking b.coming in
       omega (arith, one, other, rest.1, given)
 
+  -- a piece over the socket of a connection that is to be bound
+  joining_alike : (k : Connection) (to : SocketAddr) (now : ℕ) (bytes : List ℕ) → AreCallsOfJoining k to now bytes first calls last → AreCallsOfJoining k to now bytes first' others last' → Alike
+  joining_alike k to now bytes a b =
+      let before : a.out.before.core ≡ b.out.before.core = ap (λ (x : Client). x.core) a.begins ∙ cores ∙ sym (ap (λ (x : Client). x.core) b.begins) in
+      let taken_out : a.out.after.core ≡ b.out.after.core = a.taken_out.core_is ∙ ap (λ (p : Protocol). with_kept to (alive []) p) cores ∙ sym b.taken_out.core_is in
+      let rest = heard_alike to now (joined k.stream bytes) a.out.after b.out.after a.heard b.heard a.left b.left a.middle b.middle a.are_heard b.are_heard taken_out in
+      let goes_on : a.back.before.core ≡ b.back.before.core = ap (λ (x : Client). x.core) a.goes_on ∙ rest.1 ∙ sym (ap (λ (x : Client). x.core) b.goes_on) in
+      let put_back : a.back.after.core ≡ b.back.after.core = sym (ap (λ (x : Client). x.core) a.ends) ∙ left ∙ ap (λ (x : Client). x.core) b.ends in
+      let first_given = one_given a.out b.out before taken_out in
+      let last_given = one_given a.back b.back goes_on put_back in
+      let one : given_by_calls calls ≡ given_by_calls (a.back ∷ []) + (given_by_calls (a.out ∷ []) + given_by_calls a.heard) = ap given_by_calls a.calls_are ∙ calls_before a.back (a.heard ++ a.out ∷ []) ∙ ap (λ n. given_by_calls (a.back ∷ []) + n) (calls_behind a.heard a.out) in
+      let other : given_by_calls others ≡ given_by_calls (b.back ∷ []) + (given_by_calls (b.out ∷ []) + given_by_calls b.heard) = ap given_by_calls b.calls_are ∙ calls_before b.back (b.heard ++ b.out ∷ []) ∙ ap (λ n. given_by_calls (b.back ∷ []) + n) (calls_behind b.heard b.out) in
+      omega (arith, one, other, rest.2, first_given, last_given)
+
+  bound_alike : (awaited : Option Binding) (k : Connection) (to : SocketAddr) (now : ℕ) (bytes : List ℕ) → AreCallsBound awaited k to now bytes ret kept.core first calls last → AreCallsBound awaited k to now bytes ret kept.core first' others last' → Alike
+  bound_alike (Some binding) k to now bytes a b = joining_alike k to now bytes a.1 b.1
+  bound_alike None k to now bytes a b = single_alike (IsPassedOn k (record (raw_given k bytes) { is_owned = true }) (after_raw to k kept.core) ret) a b
+
+  over_alike : (k : Connection) (to : SocketAddr) (now : ℕ) (bytes : List ℕ) → AreCallsOver k to now bytes ret kept.core first calls last → AreCallsOver k to now bytes ret kept.core first' others last' → Alike
+  over_alike k to now [] a b = single_alike (IsStill (after_close to kept.core.server kept.core)) a.1 b.1
+  over_alike k to now (byte ∷ bytes) a b = bound_alike k.awaited k to now (byte ∷ bytes) a b
+
+  tcp_alike : (bytes : List ℕ) (from to : SocketAddr) (now : ℕ) → AreCallsOverTcp kept bytes from to now ret first calls last → AreCallsOverTcp kept bytes from to now ret first' others last' → Alike
+  tcp_alike bytes from to now (OfStream is a) (OfStream too b) = piece_alike bytes from to now a b
+  tcp_alike bytes from to now (OfStream is a) (OverSocket none inside_it k at b) = absurd (none is)
+  tcp_alike bytes from to now (OfStream is a) (OverNone none no_socket b) = absurd (none is)
+  tcp_alike bytes from to now (OverSocket none inside_it k at a) (OfStream is b) = absurd (none is)
+  tcp_alike bytes from to now (OverSocket none inside_it k at a) (OverSocket nor inside_too k' at' b) =
+      let same : k' ≡ k = inside (sym at' ∙ at) in
+      over_alike k to now bytes a (subst (λ (x : Connection). AreCallsOver x to now bytes ret kept.core first' others last') same b)
+  tcp_alike bytes from to now (OverSocket none inside_it k at a) (OverNone nor no_socket b) = absurd (some_socket kept.core from to now k inside_it at no_socket)
+  tcp_alike bytes from to now (OverNone none no_socket a) (OfStream is b) = absurd (none is)
+  tcp_alike bytes from to now (OverNone none no_socket a) (OverSocket nor inside_it k at b) = absurd (some_socket kept.core from to now k inside_it at no_socket)
+  tcp_alike bytes from to now (OverNone none no_socket a) (OverNone nor no_socket_too b) = piece_alike bytes from to now a b
+
   bytes_alike : (control : Control) (bytes : Vec ℕ Global) (from to : SocketAddr) (now : ℕ) → AreCallsOfBytes control kept bytes from to now ret first calls last → AreCallsOfBytes control kept bytes from to now ret first' others last' → Alike
   bytes_alike Datagrams bytes from to now a b = one_alike (ToClient bytes from to now) a b
-  bytes_alike (Open stream) bytes from to now a b = piece_alike bytes.items from to now a b
-  bytes_alike Closed bytes from to now a b = piece_alike bytes.items from to now a b
+  bytes_alike (Open stream) bytes from to now a b = tcp_alike bytes.items from to now a b
+  bytes_alike Closed bytes from to now a b = tcp_alike bytes.items from to now a b
+
+  -- what waits is asked for
+  asking_alike : (raw : Option Connection) (now : ℕ) → AreCallsOfAsking raw now kept ret first calls last → AreCallsOfAsking raw now kept ret first' others last' → Alike
+  asking_alike (Some k) now a b = single_alike (IsPassedOn k (raw_kept k) (record kept.core { allocations = emptied kept.core.allocations }) ret) a b
+  asking_alike None now a b = frames_alike now a b
 
   call_alike : (what : ClientCall) (now : ℕ) → AreCallsBy (Call what now) kept ret first calls last → AreCallsBy (Call what now) kept ret first' others last' → Alike
-  call_alike call.PollRecv now a b = frames_alike now a b
+  call_alike call.PollRecv now a b = asking_alike (raw_asked now kept) now a b
   call_alike call.Poll now a b = one_alike (Call call.Poll now) a b
   call_alike call.PollEvent now a b = one_alike (Call call.PollEvent now) a b
   call_alike call.Delete now a b = one_alike (Call call.Delete now) a b

@@ -14,7 +14,6 @@ use Rattle.turn_client_proto.specs.Api.declared.error.BindChannelError.{BindChan
 use Rattle.turn_client_proto.specs.Api.declared.error.TcpAllocateError.{TcpAllocateError}
 use Rattle.turn_client_proto.specs.Api.declared.error.TcpAllocateError.TheVariants as not_taken
 use Rattle.turn_client_proto.specs.SocketsTold.{IsSocketTold, replaced, takes_place}
-use Rattle.turn_client_proto.specs.Control.{Control}
 use Rattle.turn_client_proto.specs.Api.declared.error.TcpConnectError.{TcpConnectError}
 use Rattle.turn_client_proto.specs.Api.declared.error.TcpConnectError.TheVariants as not_connected
 use Rattle.turn_client_proto.specs.Api.declared.error.BindChannelError.TheVariants as not_bound
@@ -28,11 +27,12 @@ use Rattle.turn_client_proto.specs.Binding.{IsBindAnswered}
 use Rattle.turn_client_proto.specs.Connecting.{IsConnectAnswered}
 use Rattle.turn_client_proto.specs.Deleting.{IsDeleteAnswered}
 use Rattle.turn_client_proto.specs.Drawing.{sent_of}
-use Rattle.turn_client_proto.specs.Api.Payloads.{PeerPayload}
+use Rattle.turn_client_proto.specs.Allocation.declared.connection.Connection.{Connection}
 use Rattle.turn_client_proto.specs.Api.Payloads.{PeerPayload}
 use Rattle.turn_client_proto.specs.Control.{Control, Datagrams, Open, Closed}
 use Rattle.turn_client_proto.specs.Kept.{Kept, Leaves, Protocol}
-use Rattle.turn_client_proto.specs.Receipts.{IsGivenBy}
+use Rattle.turn_client_proto.specs.Receipts.{IsFirstGiven, IsGivenBy, IsStreamAsked}
+use Rattle.turn_client_proto.specs.SocketPieces.{raw_waiting}
 use Rattle.turn_client_proto.proofs.Definite.{pulled_same}
 use Rattle.turn_client_proto.specs.Permitting.{IsPermissionAnswered}
 use Rattle.turn_client_proto.specs.Polling.{IsPolled}
@@ -292,13 +292,25 @@ leaves Does once old ret again new other a b =
     let same = once old.core ret again new.core other.core a.0 b.0 in
     (same.0, kept_same new other same.1 (a.1 ∙ sym b.1))
 
--- what was given of what waits
-waiting_by : (control : Control) (now : ℕ) (core : Protocol) (given again : Option PeerPayload) (new other : Kept) → IsGivenBy now control core given new → IsGivenBy now control core again other → (given ≡ again) × (new ≡ other)
-waiting_by Datagrams now core given again new other a b = (a.0 ∙ sym b.0, kept_same new other (a.1 ∙ sym b.1) (a.2 ∙ sym b.2))
-waiting_by (Open stream) now core given again new other a b =
+-- what was given of what waits in the stream
+stream_by : (control : Control) (now : ℕ) (core : Protocol) (given again : Option PeerPayload) (new other : Kept) → IsStreamAsked now control core given new → IsStreamAsked now control core again other → (given ≡ again) × (new ≡ other)
+stream_by Datagrams now core given again new other a b = (a.0 ∙ sym b.0, kept_same new other (a.1 ∙ sym b.1) (a.2 ∙ sym b.2))
+stream_by (Open stream) now core given again new other a b =
     let same = pulled_same now stream core given again a.left b.left new.core other.core a.pulled b.pulled in
     (same.0, kept_same new other same.2 (a.stands ∙ ap Open same.1 ∙ sym b.stands))
-waiting_by Closed now core given again new other a b = (a.0 ∙ sym b.0, kept_same new other (a.1 ∙ sym b.1) (a.2 ∙ sym b.2))
+stream_by Closed now core given again new other a b = (a.0 ∙ sym b.0, kept_same new other (a.1 ∙ sym b.1) (a.2 ∙ sym b.2))
+
+-- what a connection's peer sent comes first
+first_by : (raw : Option Connection) (control : Control) (now : ℕ) (core : Protocol) (given again : Option PeerPayload) (new other : Kept) → IsFirstGiven now raw control core given new → IsFirstGiven now raw control core again other
+    → (given ≡ again) × (new ≡ other)
+first_by (Some c) control now core given again new other a b = (a.0.gives ∙ sym b.0.gives, kept_same new other (a.0.after ∙ sym b.0.after) (a.1 ∙ sym b.1))
+first_by None control now core given again new other a b = stream_by control now core given again new other a b
+
+-- what was given of what waits
+waiting_by : (control : Control) (now : ℕ) (core : Protocol) (given again : Option PeerPayload) (new other : Kept) → IsGivenBy now control core given new → IsGivenBy now control core again other → (given ≡ again) × (new ≡ other)
+waiting_by Datagrams now core given again new other a b = stream_by Datagrams now core given again new other a b
+waiting_by (Open stream) now core given again new other a b = first_by (raw_waiting core) (Open stream) now core given again new other a b
+waiting_by Closed now core given again new other a b = first_by (raw_waiting core) Closed now core given again new other a b
 
 waiting_told : (old : Kept) (now : ℕ) (ret again : Answer) (new other : Kept) → IsWaitingTold ret old now new → IsWaitingTold again old now other → AreOne ret again new other
 waiting_told old now (answer.Peer given) (answer.Peer more) new other a b =

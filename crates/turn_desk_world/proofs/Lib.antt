@@ -2,6 +2,7 @@ pub mod Addresses
 pub mod Answered
 pub mod AtClient
 pub mod AtDesk
+pub mod AtSocket
 pub mod AtStream
 pub mod Beginning
 pub mod Bytes
@@ -15,5 +16,6 @@ pub mod Receiving
 pub mod Safe
 pub mod Shown
 pub mod Sides
+pub mod SocketOnce
 pub mod Streaming
 pub mod Telling

@@ -1,5 +1,5 @@
 -- What a client makes of bytes that came is one outcome, wherever the bytes lie, but for want of memory.
-use Rattle.std.proofs.Common.{◌≡◌, ◌≢◌, ℕ, Bool, true, false, List, Option, Some, None, refl, sym, ap, ◌∙◌, subst}
+use Rattle.std.proofs.Common.{◌≡◌, ◌≢◌, ℕ, Bool, List, Option, Some, None, refl, sym, ap, ◌∙◌, subst}
 use Rattle.std.specs.Prelude.{MatchOption}
 use Rattle.stun_types.specs.Grammar.{refusal}
 use Rattle.stun_types.specs.ParseErrors.{StunParseError}
@@ -15,15 +15,12 @@ use Rattle.turn_client_proto.specs.Payload.{Payload}
 use Rattle.turn_client_proto.specs.Payload.TheVariants.{Data, Framed, Report}
 use Rattle.turn_desk_world.specs.Copies.{AreAlike, BothData, BothGivenBack, BothHandled, BothReports, IsCopy}
 use Rattle.turn_client_proto.proofs.Once.Hearing.{heard_definite}
+use Rattle.turn_desk_world.proofs.SocketOnce.{alike_as, received_at_same}
 use Rattle.turn_desk_world.proofs.Streaming.{streamed_same}
 
 module _ {T : Type 0} (items : T → List ℕ) (old : Protocol) (came copy : Transmit T) (now : ℕ) (answer again : TurnRecvRet T) (one other : Protocol) where
   abbrev pub Agree : Type 0
   Agree = AreAlike came copy answer again × (one ≡ other)
-
-  alike_as : (handled : Bool) → IsHandledAs came handled answer → IsHandledAs copy handled again → AreAlike came copy answer again
-  alike_as true a b = BothHandled a b
-  alike_as false a b = BothGivenBack a b
 
   given_back : IsGivenBack old came answer one → IsGivenBack old copy again other → Agree
   given_back a b = (BothGivenBack a.0 b.0, a.1 ∙ sym b.1)
@@ -42,7 +39,7 @@ module _ {T : Type 0} (items : T → List ℕ) (old : Protocol) (came copy : Tra
     message_same bytes (Heard handled heard told) (Lost known grows failed) = absurd (ample known)
     message_same bytes (Heard handled heard told) (Heard later hears known) =
         let same = (heard_definite old bytes now).same handled later one other heard hears in
-        (alike_as later (subst (λ (h : Bool). IsHandledAs came h answer) same.0 told) known, same.1)
+        (alike_as came copy answer again later (subst (λ (h : Bool). IsHandledAs came h answer) same.0 told) known, same.1)
 
     read_same : (refused : Option StunParseError) (bytes : List ℕ) → IsRead refused old bytes came now answer one → IsRead refused old bytes copy now again other → Agree
     read_same None bytes a b = message_same bytes a b
@@ -82,7 +79,7 @@ module _ {T : Type 0} (items : T → List ℕ) (old : Protocol) (came copy : Tra
       let same = streamed_same items now stream old came copy answer again one other enough ample is a b in
       (same.0, kept_same one other same.1 same.2)
   received_by Closed a b =
-      let same = given_back items old came copy now answer again one.core other.core a.0 b.0 in
+      let same = received_at_same items came copy answer again enough ample is now old one.core other.core a.0 b.0 in
       (same.0, kept_same one other same.1 (a.1 ∙ sym b.1))
 
 pub received_same : {T : Type 0} (items : T → List ℕ) (old : Kept) (came copy : Transmit T) (now : ℕ) (answer again : TurnRecvRet T) (one other : Kept) → answer ≢ NoMemory came → again ≢ NoMemory copy

@@ -9,7 +9,6 @@ use Rattle.turn_client_proto.specs.Api.Payloads.{PeerPayload}
 use Rattle.turn_client_proto.specs.Api.declared.answer.TurnRecvRet.{TurnRecvRet}
 use Rattle.turn_client_proto.specs.Api.declared.answer.TurnRecvRet.TheVariants as recv
 use Rattle.turn_client_proto.specs.Control.{Open}
-use Rattle.turn_client_proto.specs.Datagrams.{IsHandledAs}
 use Rattle.turn_client_proto.specs.HandingIn.{IsFrameTaken, IsHandedIn, taken_as}
 use Rattle.turn_client_proto.specs.Kept.{Kept, Protocol}
 use Rattle.turn_client_proto.specs.Payloads.{payload_of}
@@ -21,7 +20,8 @@ use Rattle.turn_client_proto.specs.Taken.TheVariants.{Given, Garbled}
 use Rattle.turn_client_proto.specs.Payload.{Payload}
 use Rattle.turn_client_proto.specs.Payload.TheVariants.{Data, Framed, Report}
 use Rattle.turn_client_proto.proofs.Definite.{pulled_same, taken_same}
-use Rattle.turn_desk_world.specs.Copies.{AreAlike, BothData, BothGivenBack, BothHandled, BothReports, IsCopy}
+use Rattle.turn_desk_world.specs.Copies.{AreAlike, BothData, BothHandled, BothReports, IsCopy}
+use Rattle.turn_desk_world.proofs.SocketOnce.{alike_as, received_at_same}
 
 -- ---- what becomes of a frame is one thing
 
@@ -48,12 +48,8 @@ same_handled false true is = absurd (Prim.cc is)
 same_handled false false is = refl
 
 module _ {T : Type 0} (came copy : Transmit T) (answer again : TurnRecvRet T) where
-  alike_as : (handled : Bool) → IsHandledAs came handled answer → IsHandledAs copy handled again → AreAlike came copy answer again
-  alike_as true a b = BothHandled a b
-  alike_as false a b = BothGivenBack a b
-
   alike_behind : (handled : Bool) (given : Option PeerPayload) → IsAnsweredBehind handled given came answer → IsAnsweredBehind handled given copy again → AreAlike came copy answer again
-  alike_behind handled None a b = alike_as handled a b
+  alike_behind handled None a b = alike_as came copy answer again handled a b
   alike_behind handled (Some given) a b = BothData given a b
 
   alike_first : (owned : Bool) (frame : List ℕ) (payload : Payload) → IsHandedAs owned frame payload answer → IsHandedAs owned frame payload again → AreAlike came copy answer again
@@ -136,4 +132,6 @@ module _ {T : Type 0} (items : T → List ℕ) (now : ℕ) (stream : Stream) (ol
   streamed_same one other enough ample c (End is none told same closed) (Strange not_so given stays) = absurd (not_so (of_copy c is))
   streamed_same one other enough ample c (Strange not_so given stays) (Piece was some rest stood takes) = absurd (not_so (copy_of c was))
   streamed_same one other enough ample c (Strange not_so given stays) (End was none known same closed) = absurd (not_so (copy_of c was))
-  streamed_same one other enough ample c (Strange not_so given stays) (Strange nor given_too stays_too) = (BothGivenBack given.0 given_too.0, given.1 ∙ sym given_too.1, stays ∙ sym stays_too)
+  streamed_same one other enough ample c (Strange not_so given stays) (Strange nor given_too stays_too) =
+      let same = received_at_same items came copy answer again enough ample c now old one.core other.core given given_too in
+      (same.0, same.1, stays ∙ sym stays_too)

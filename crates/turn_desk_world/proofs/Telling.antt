@@ -1,7 +1,8 @@
 -- The answers to some events are steps of a run, each lawful.
-use Rattle.std.proofs.Common.{Vec, Global, ◌≡◌, ℕ, Bool, true, false, if◌then◌else◌, List, [], ◌∷◌, ◌++◌, Option, Some, None, Ok, Err, refl, sym, ap, ◌∙◌, subst, inr}
+use Rattle.std.proofs.Common.{Vec, Global, ◌≡◌, ℕ, Bool, true, false, if◌then◌else◌, List, [], ◌∷◌, ◌++◌, Option, Some, None, Ok, Err, refl, sym, ap, ◌∙◌, subst, inl, inr}
 use Rattle.std.specs.Borrow.{Bor}
 use Rattle.std.specs.List.{AllByRecursion}
+use Rattle.std.specs.Prelude.{MatchOption, ◌&&◌}
 use Rattle.std.specs.declared.net.socket_addr.SocketAddr.{SocketAddr}
 use Rattle.stun_types.specs.Headers.{AreBytes}
 use Rattle.turn_types.specs.StreamAnswers.{joined}
@@ -11,11 +12,14 @@ use Rattle.turn_runs.proofs.Chains.{chain_on, lawful_on, leads_on}
 use Rattle.turn_client_proto.specs.Members.{IsIn}
 use Rattle.turn_client_proto.specs.Messages.{Held}
 use Rattle.turn_client_proto.specs.Runs.{Step, AtDesk, AtEach, IsLawful, Leads}
+use Rattle.turn_client_proto.specs.Allocation.declared.connection.Connection.{Connection}
 use Rattle.turn_client_proto.specs.Api.Payloads.{PeerPayload}
 use Rattle.turn_client_proto.specs.Control.{Control, Datagrams, Open, Closed}
+use Rattle.turn_client_proto.specs.Datagrams.{IsGivenBack}
 use Rattle.turn_client_proto.specs.Kept.{Kept, Protocol}
 use Rattle.turn_client_proto.specs.Pieces.{IsPieceTaken}
-use Rattle.turn_client_proto.specs.Receipts.{End, IsGivenBy, IsOfStream, IsStreamed, Piece, Strange}
+use Rattle.turn_client_proto.specs.Receipts.{End, IsFirstGiven, IsGivenBy, IsOfStream, IsStreamAsked, IsStreamed, Piece, Strange}
+use Rattle.turn_client_proto.specs.SocketPieces.{IsRawGiven, IsReceivedAt, IsTakenBy, raw_kept, raw_waiting}
 use Rattle.turn_client_proto.specs.Steps.{Call}
 use Rattle.turn_client_proto.specs.Waiting.{bytes_waiting, completed, frames_waiting, whole_frames}
 use Rattle.turn_client_proto.proofs.Waiting.{joined_bytes}
@@ -42,9 +46,11 @@ use Rattle.turn_desk_event.specs.declared.answer.Refusal.TheVariants.{TcpAllocat
 use Rattle.turn_desk_world.specs.Calls.{IsCallTold, IsFed, IsSocketTaken, IsWaitingTold, own_tuple}
 use Rattle.turn_desk_world.specs.Runs.{IsAtClient, IsInRange, IsRun, IsStep, is_in_range}
 use Rattle.turn_desk_world.specs.Safety.{words}
-use Rattle.turn_desk_world.specs.Told.{AreBrought, AreCallsBy, AreCallsOfPiece, AreStepsBy, AreStepsOfClient, ByEnd, ByNone, ByOthers, ByPiece, HandsNothing, IsAt, IsFair, IsFairEvent, IsKeptAs, IsOneCall, IsPieceOf, IsToldBy, desk_call, given_by, given_of, shown_in}
+use Rattle.turn_desk_world.specs.SocketCalls.{AreCallsOfWaiting, AreCallsOver, socket_at}
+use Rattle.turn_desk_world.specs.Told.{AreBrought, AreCallsBy, AreCallsOfAsking, AreCallsOfPiece, AreCallsOverTcp, OfStream, OverNone, OverSocket, AreStepsBy, AreStepsOfClient, ByEnd, ByNone, ByOthers, ByPiece, HandsNothing, IsAt, IsFair, IsFairEvent, IsKeptAs, IsOneCall, IsPieceOf, IsStreams, IsToldBy, desk_call, given_by, given_of, is_over_tcp, raw_asked, shown_in}
 use Rattle.turn_desk_world.proofs.AtClient.{IsAnswered, called, drawn, fed, nothing_done, socket_told, telling_call}
 use Rattle.turn_desk_world.proofs.AtDesk.{desk_step}
+use Rattle.turn_desk_world.proofs.AtSocket.{AreLedBy, one_socket, over_led, socket_there, waiting_led}
 use Rattle.turn_desk_world.proofs.AtStream.{AreLed, are_coming, coming_call, data_list, none_led, nothing_hands, piece_comes, piece_led, pulled_led}
 use Rattle.turn_desk_world.proofs.Chain.{each_behind, leads_behind}
 
@@ -142,38 +148,90 @@ module _ (c : Client) (sound : IsSound c) (control : Control) (keeps : IsKeptAs 
         lawful = (shows_step client_words (telling_call event c ret after) (shown_in event ret) shows (losing_step (telling_call event c ret is.after) is.step), tt);
       }
 
-  -- ---- what waits
+  -- ---- what comes over the socket of a connection, and what waits of it
 
-  -- frames were taken up
-  by_frames : (now : ℕ) (ret : Answer) (k : Kept) (waiting : List (List ℕ)) → frames_waiting k.control ≡ waiting → AreBytes (bytes_waiting k.control) → AreLed now ret c k.core waiting → IsLeft (event.Call call.PollRecv now) c control ret k
-  by_frames now ret k waiting waits are_bytes led = record {
+  -- the same frames wait in the stream afterwards
+  by_led : (event : Event) (ret : Answer) (k : Kept) (Are : Client → List (Call Client) → Client → Type 0) → ((calls : List (Call Client)) (last : Client) → Are c calls last → AreCallsBy event (held c control) ret c calls last)
+      → k.control ≡ control → AreLedBy Are c k.core → IsLeft event c control ret k
+  by_led event ret k Are by same led = record {
     calls = led.calls;
     last = led.last;
-    keeps = record { core = sym led.core_is; waits = waits ∙ sym led.waits; are_bytes = are_bytes };
+    keeps = record {
+      core = sym led.core_is;
+      waits = ap frames_waiting same ∙ keeps.waits ∙ sym led.waits;
+      are_bytes = subst (λ (o : Control). AreBytes (bytes_waiting o)) (sym same) keeps.are_bytes;
+    };
     sound = led.sound;
-    are = led.are;
+    are = by led.calls led.last led.are;
     chain = led.chain;
     lawful = led.lawful;
   }
 
-  none_taken : (now : ℕ) (ret : Answer) (k : Kept) → HandsNothing ret → k.core ≡ c.core → k.control ≡ control → IsLeft (event.Call call.PollRecv now) c control ret k
-  none_taken now ret k hands core same =
-      by_frames now ret k c.waiting (ap frames_waiting same ∙ keeps.waits) (subst (λ (o : Control). AreBytes (bytes_waiting o)) (sym same) keeps.are_bytes)
+  -- ---- what waits
+
+  -- frames were taken up, where no bytes of a connection's peer waited
+  by_frames : (now : ℕ) (ret : Answer) (k : Kept) (waiting : List (List ℕ)) → raw_asked now (held c control) ≡ None → frames_waiting k.control ≡ waiting → AreBytes (bytes_waiting k.control) → AreLed now ret c k.core waiting
+      → IsLeft (event.Call call.PollRecv now) c control ret k
+  by_frames now ret k waiting no_raw waits are_bytes led = record {
+    calls = led.calls;
+    last = led.last;
+    keeps = record { core = sym led.core_is; waits = waits ∙ sym led.waits; are_bytes = are_bytes };
+    sound = led.sound;
+    are = subst (λ (o : Option Connection). AreCallsOfAsking o now (held c control) ret c led.calls led.last) (sym no_raw) led.are;
+    chain = led.chain;
+    lawful = led.lawful;
+  }
+
+  none_taken : (now : ℕ) (ret : Answer) (k : Kept) → raw_asked now (held c control) ≡ None → HandsNothing ret → k.core ≡ c.core → k.control ≡ control → IsLeft (event.Call call.PollRecv now) c control ret k
+  none_taken now ret k no_raw hands core same =
+      by_frames now ret k c.waiting no_raw (ap frames_waiting same ∙ keeps.waits) (subst (λ (o : Control). AreBytes (bytes_waiting o)) (sym same) keeps.are_bytes)
       (none_led now ret c k.core c.waiting sound (sym core) refl hands)
 
-  waiting_given : (now : ℕ) (ret : Answer) (given : Option PeerPayload) (k : Kept) → ((frame : List ℕ) → data_list frame given ≡ given_of frame ret) → (given ≡ None → HandsNothing ret)
-      → (at : Control) → control ≡ at → IsGivenBy now at c.core given k → IsLeft (event.Call call.PollRecv now) c control ret k
-  waiting_given now ret given k hands none Datagrams at (gave, core, same) = none_taken now ret k (none gave) core (same ∙ sym at)
-  waiting_given now ret given k hands none Closed at (gave, core, same) = none_taken now ret k (none gave) core (same ∙ sym at)
-  waiting_given now ret given k hands none (Open stream) at is =
+  stream_given : (now : ℕ) (ret : Answer) (given : Option PeerPayload) (k : Kept) → raw_asked now (held c control) ≡ None → ((frame : List ℕ) → data_list frame given ≡ given_of frame ret) → (given ≡ None → HandsNothing ret)
+      → (at : Control) → control ≡ at → IsStreamAsked now at c.core given k → IsLeft (event.Call call.PollRecv now) c control ret k
+  stream_given now ret given k no_raw hands none Datagrams at (gave, core, same) = none_taken now ret k no_raw (none gave) core (same ∙ sym at)
+  stream_given now ret given k no_raw hands none Closed at (gave, core, same) = none_taken now ret k no_raw (none gave) core (same ∙ sym at)
+  stream_given now ret given k no_raw hands none (Open stream) at is =
       let stands = ap frames_waiting (sym at) ∙ keeps.waits in
       let led = pulled_led now stream is.left given k.core c sound (sym stands) (subst (λ (o : Control). AreBytes (bytes_waiting o)) at keeps.are_bytes) is.pulled ret hands in
-      by_frames now ret k (whole_frames is.left) (ap frames_waiting is.stands) (subst (λ (o : Control). AreBytes (bytes_waiting o)) (sym is.stands) led.1) led.0
+      by_frames now ret k (whole_frames is.left) no_raw (ap frames_waiting is.stands) (subst (λ (o : Control). AreBytes (bytes_waiting o)) (sym is.stands) led.1) led.0
 
-  waiting_told : (now : ℕ) (ret : Answer) (k : Kept) → IsWaitingTold ret (held c control) now k → IsLeft (event.Call call.PollRecv now) c control ret k
-  waiting_told now (answer.Peer given) k is = waiting_given now (answer.Peer given) (Some given) k (λ frame. refl) (λ none. absurd (Prim.cc none)) control refl is
-  waiting_told now answer.Nothing k is = waiting_given now answer.Nothing None k (λ frame. refl) (λ none bytes. refl) control refl is
-  waiting_told now _ k is = absurd is
+  -- those of a connection's peer come first
+  first_given : (now : ℕ) (ret : Answer) (given : Option PeerPayload) (k : Kept) (raw : Option Connection) → raw_asked now (held c control) ≡ raw → ((frame : List ℕ) → data_list frame given ≡ given_of frame ret) → (given ≡ None → HandsNothing ret)
+      → ((x : Connection) → raw ≡ Some x → IsRawGiven x c.core given k.core → AreLedBy (λ first calls last. AreCallsOfWaiting x ret c.core first calls last) c k.core)
+      → (at : Control) → control ≡ at → IsFirstGiven now raw at c.core given k → IsLeft (event.Call call.PollRecv now) c control ret k
+  first_given now ret given k None asks hands none passes at same is = stream_given now ret given k asks hands none at same is
+  first_given now ret given k (Some x) asks hands none passes at same is =
+      by_led (event.Call call.PollRecv now) ret k (λ first calls last. AreCallsOfWaiting x ret c.core first calls last)
+      (λ calls last are. subst (λ (o : Option Connection). AreCallsOfAsking o now (held c control) ret c calls last) (sym asks) are) (is.1 ∙ sym same) (passes x refl is.0)
+
+  -- which wait over TCP alone
+  no_raw_at : (now : ℕ) → control ≡ Datagrams → raw_asked now (held c control) ≡ None
+  no_raw_at now at = ap (λ (o : Control). raw_asked now (held c o)) at ∙ by (is_in_range now)
+    where
+      by : (b : Bool) → (if b && false then raw_waiting c.core else None) ≡ None
+      by true = refl
+      by false = refl
+
+  raw_over_tcp : (now : ℕ) (at : Control) → is_in_range now ≡ true → control ≡ at → is_over_tcp at ≡ true → raw_asked now (held c control) ≡ raw_waiting c.core
+  raw_over_tcp now at inside_it same tcp =
+      ap (λ (o : Control). raw_asked now (held c o)) same
+      ∙ ap (λ (b : Bool). if b && is_over_tcp at then raw_waiting c.core else None) inside_it
+      ∙ ap (λ (b : Bool). if b then raw_waiting c.core else None) tcp
+
+  waiting_given : (now : ℕ) (ret : Answer) (given : Option PeerPayload) (k : Kept) → is_in_range now ≡ true → ((frame : List ℕ) → data_list frame given ≡ given_of frame ret) → (given ≡ None → HandsNothing ret)
+      → ((x : Connection) → raw_waiting c.core ≡ Some x → IsRawGiven x c.core given k.core → AreLedBy (λ first calls last. AreCallsOfWaiting x ret c.core first calls last) c k.core)
+      → (at : Control) → control ≡ at → IsGivenBy now at c.core given k → IsLeft (event.Call call.PollRecv now) c control ret k
+  waiting_given now ret given k inside_it hands none passes Datagrams at is = stream_given now ret given k (no_raw_at now at) hands none Datagrams at is
+  waiting_given now ret given k inside_it hands none passes (Open stream) at is = first_given now ret given k (raw_waiting c.core) (raw_over_tcp now (Open stream) inside_it at refl) hands none passes (Open stream) at is
+  waiting_given now ret given k inside_it hands none passes Closed at is = first_given now ret given k (raw_waiting c.core) (raw_over_tcp now Closed inside_it at refl) hands none passes Closed at is
+
+  waiting_told : (now : ℕ) (ret : Answer) (k : Kept) → is_in_range now ≡ true → IsWaitingTold ret (held c control) now k → IsLeft (event.Call call.PollRecv now) c control ret k
+  waiting_told now (answer.Peer given) k inside_it is =
+      waiting_given now (answer.Peer given) (Some given) k inside_it (λ frame. refl) (λ none. absurd (Prim.cc none)) (λ x there raw. waiting_led x given c k.core sound there raw) control refl is
+  waiting_told now answer.Nothing k inside_it is =
+      waiting_given now answer.Nothing None k inside_it (λ frame. refl) (λ none bytes. refl) (λ x there raw. absurd (let never : None ≡ Some (raw_kept x) = raw.gives in let no : ⊥ = Prim.cc never in no)) control refl is
+  waiting_told now _ k inside_it is = absurd is
 
   -- ---- what comes
 
@@ -227,7 +285,34 @@ module _ (c : Client) (sound : IsSound c) (control : Control) (keeps : IsKeptAs 
         by_nothing ret k (whole_frames stream) (ByOthers stream at others refl refl) (λ f i. subst (λ (l : List (List ℕ)). IsIn f l) (ap frames_waiting (sym at) ∙ keeps.waits) i) hands core
         (ap frames_waiting (same ∙ at)) (subst (λ (o : Control). AreBytes (bytes_waiting o)) (sym same) keeps.are_bytes) by
 
+-- no stream stands where it has ended
+no_stream : (c : Client) (from to : SocketAddr) (now : ℕ) → ¬ IsStreams (held c Closed) from to now
+no_stream c from to now is = let never : Closed ≡ Open is.stream = is.opens in Prim.cc never
+
 module _ (c : Client) (sound : IsSound c) (bytes : Vec ℕ Global) (from to : SocketAddr) (now : ℕ) (in_range : is_in_range now ≡ true) (ret : Answer) (k : Kept) where
+  -- bytes came over the socket of a connection, or over none
+  module _ (control : Control) (keeps : IsKeptAs c (held c control)) (is : IsFed ret (held c control) bytes.items from to now k) where
+    abbrev Received : Option Connection → Type 0
+    Received found = MatchOption found (IsGivenBack c.core is.came is.took k.core) (λ x. IsTakenBy (λ (b : Bor (List ℕ)). b.now) x now c.core is.came is.took k.core)
+
+    at_socket : k.control ≡ control → ¬ IsStreams (held c control) from to now → ((calls : List (Call Client)) (last : Client) → AreCallsOverTcp (held c control) bytes.items from to now ret c calls last → AreCallsBy (event.ToClient bytes from to now) (held c control) ret c calls last)
+        → (HandsNothing ret → k.core ≡ c.core → ((calls : List (Call Client)) (last : Client) → AreCallsOfPiece (held c control) bytes.items from to now ret c calls last → AreCallsBy (event.ToClient bytes from to now) (held c control) ret c calls last)
+        → IsLeft (event.ToClient bytes from to now) c control ret k)
+        → (found : Option Connection) → socket_at c.core from to ≡ found → Received found → IsLeft (event.ToClient bytes from to now) c control ret k
+    at_socket same none by nowhere None at back =
+        nowhere (nothing_hands ret is.came is.took is.told (λ f. ap (given_by f) back.0)) back.1 (λ calls last are. by calls last (OverNone none (inr at) are))
+    at_socket same none by nowhere (Some x) at taken =
+        by_led c sound control keeps (event.ToClient bytes from to now) ret k (λ first calls last. AreCallsOver x to now bytes.items ret c.core first calls last)
+        (λ calls last are. by calls last (OverSocket none in_range x at are)) same
+        (over_led ret is.came is.took is.told x to now bytes.items c k.core sound is.to_is is.bytes_are (socket_there c.core from to x at) taken)
+
+    received_at : k.control ≡ control → ¬ IsStreams (held c control) from to now → ((calls : List (Call Client)) (last : Client) → AreCallsOverTcp (held c control) bytes.items from to now ret c calls last → AreCallsBy (event.ToClient bytes from to now) (held c control) ret c calls last)
+        → (HandsNothing ret → k.core ≡ c.core → ((calls : List (Call Client)) (last : Client) → AreCallsOfPiece (held c control) bytes.items from to now ret c calls last → AreCallsBy (event.ToClient bytes from to now) (held c control) ret c calls last)
+        → IsLeft (event.ToClient bytes from to now) c control ret k)
+        → IsReceivedAt (λ (b : Bor (List ℕ)). b.now) now c.core is.came is.took k.core → IsLeft (event.ToClient bytes from to now) c control ret k
+    received_at same none by nowhere received =
+        at_socket same none by nowhere (socket_at c.core from to) refl (subst (λ (o : Option Connection). Received o) (one_socket c.core is.came from to is.transport_is is.from_is is.to_is) received)
+
   fed_stream : (stream : Stream) → IsKeptAs c (held c (Open stream)) → IsFed ret (held c (Open stream)) bytes.items from to now k → IsLeft (event.ToClient bytes from to now) c (Open stream) ret k
   fed_stream stream keeps is = by is.received
     where
@@ -240,6 +325,9 @@ module _ (c : Client) (sound : IsSound c) (bytes : Vec ℕ Global) (from to : So
       of_stream : IsPieceOf c.core from to now → IsOfStream c.core is.came
       of_stream of = record { of_server = record { transport = is.transport_is; from = is.from_is ∙ of.from_is; to = is.to_is ∙ of.to_is }; works = of.works }
 
+      streams : IsOfStream c.core is.came → IsStreams (held c (Open stream)) from to now
+      streams of = record { stream = stream; opens = refl; piece = own of }
+
       by : IsStreamed items now stream c.core is.came is.took k → IsLeft (event.ToClient bytes from to now) c (Open stream) ret k
       by (Piece of some left stands taken) =
           let comes = piece_comes c stream bytes.items sound keeps.waits in
@@ -248,16 +336,20 @@ module _ (c : Client) (sound : IsSound c) (bytes : Vec ℕ Global) (from to : So
           let led = piece_led ret is.came is.took is.told items now stream left k.core comes.after comes.sound
           (comes.waits ∙ ap (λ (b : List ℕ). whole_frames (joined stream b)) (sym is.bytes_are)) (subst (λ (b : List ℕ). AreBytes (joined stream b).kept) (sym is.bytes_are) grown) takes in
           by_piece c sound (Open stream) keeps bytes from to now ret k (completed stream bytes.items) (whole_frames (joined stream bytes.items)) (whole_frames left)
-          (ByPiece stream refl (own of) (λ none. some (is.bytes_are ∙ none)) refl refl) comes led.0 (ap frames_waiting stands) (subst (λ (o : Control). AreBytes (bytes_waiting o)) (sym stands) led.1) (λ calls last are. are)
+          (ByPiece stream refl (own of) (λ none. some (is.bytes_are ∙ none)) refl refl) comes led.0 (ap frames_waiting stands) (subst (λ (o : Control). AreBytes (bytes_waiting o)) (sym stands) led.1)
+          (λ calls last are. OfStream (streams of) are)
       by (End of none answered core closed) =
           by_nothing c sound (Open stream) keeps bytes from to now ret k [] (ByEnd stream refl (own of) (sym is.bytes_are ∙ none) refl refl) (λ f i. absurd i)
-          (nothing_hands ret is.came is.took is.told (λ f. ap (given_by f) answered)) core (ap frames_waiting closed) (subst (λ (o : Control). AreBytes (bytes_waiting o)) (sym closed) refl) (λ calls last are. are)
-      by (Strange others back stands) =
-          by_others c sound (Open stream) keeps bytes from to now ret k stream refl (λ of. others (of_stream of)) (nothing_hands ret is.came is.took is.told (λ f. ap (given_by f) back.0)) back.1 stands (λ calls last are. are)
+          (nothing_hands ret is.came is.took is.told (λ f. ap (given_by f) answered)) core (ap frames_waiting closed) (subst (λ (o : Control). AreBytes (bytes_waiting o)) (sym closed) refl)
+          (λ calls last are. OfStream (streams of) are)
+      by (Strange others received stands) =
+          received_at (Open stream) keeps is stands (λ s. others (of_stream s.piece)) (λ calls last are. are)
+          (λ hands core by. by_others c sound (Open stream) keeps bytes from to now ret k stream refl (λ of. others (of_stream of)) hands core stands by) received
 
   fed_closed : IsKeptAs c (held c Closed) → IsFed ret (held c Closed) bytes.items from to now k → IsLeft (event.ToClient bytes from to now) c Closed ret k
   fed_closed keeps is =
-      by_closed c sound Closed keeps bytes from to now ret k refl (nothing_hands ret is.came is.took is.told (λ f. ap (given_by f) is.received.0.0)) is.received.0.1 is.received.1 (λ calls last are. are)
+      received_at Closed keeps is is.received.1 (no_stream c from to now) (λ calls last are. are)
+      (λ hands core by. by_closed c sound Closed keeps bytes from to now ret k refl hands core is.received.1 by) is.received.0
 
   fed_left : (control : Control) → IsKeptAs c (held c control) → IsFed ret (held c control) bytes.items from to now k → IsLeft (event.ToClient bytes from to now) c control ret k
   fed_left Datagrams keeps is = by_one c sound Datagrams keeps (event.ToClient bytes from to now) ret k (λ calls last one. one) (fed c sound ret bytes from to now k is)
@@ -297,45 +389,46 @@ module _ (c : Client) (sound : IsSound c) where
   fed_out : (bytes : Vec ℕ Global) (from to : SocketAddr) (now : ℕ) → is_in_range now ≡ false → (control : Control) → IsKeptAs c (held c control) → IsLeft (event.ToClient bytes from to now) c control OutOfRange (held c control)
   fed_out bytes from to now out Datagrams keeps = idle (event.ToClient bytes from to now) Datagrams keeps (λ calls last one. one)
   fed_out bytes from to now out (Open stream) keeps =
-      by_others c sound (Open stream) keeps bytes from to now OutOfRange (held c (Open stream)) stream refl (λ of. Prim.cc (sym of.in_range ∙ out)) (λ b. refl) refl refl (λ calls last are. are)
-  fed_out bytes from to now out Closed keeps = by_closed c sound Closed keeps bytes from to now OutOfRange (held c Closed) refl (λ b. refl) refl refl (λ calls last are. are)
+      by_others c sound (Open stream) keeps bytes from to now OutOfRange (held c (Open stream)) stream refl (λ of. Prim.cc (sym of.in_range ∙ out)) (λ b. refl) refl refl
+      (λ calls last are. OverNone (λ s. Prim.cc (sym s.piece.in_range ∙ out)) (inl out) are)
+  fed_out bytes from to now out Closed keeps = by_closed c sound Closed keeps bytes from to now OutOfRange (held c Closed) refl (λ b. refl) refl refl (λ calls last are. OverNone (no_stream c from to now) (inl out) are)
 
-  call_out : (what : ClientCall) (now : ℕ) (control : Control) → IsKeptAs c (held c control) → IsLeft (event.Call what now) c control OutOfRange (held c control)
-  call_out call.PollRecv now control keeps = none_taken c sound control keeps now OutOfRange (held c control) (λ b. refl) refl refl
-  call_out call.Poll now control keeps = idle (event.Call call.Poll now) control keeps (λ calls last one. one)
-  call_out call.PollEvent now control keeps = idle (event.Call call.PollEvent now) control keeps (λ calls last one. one)
-  call_out call.Delete now control keeps = idle (event.Call call.Delete now) control keeps (λ calls last one. one)
-  call_out (call.CreatePermission transport ip) now control keeps = idle (event.Call (call.CreatePermission transport ip) now) control keeps (λ calls last one. one)
-  call_out (call.HavePermission transport ip) now control keeps = idle (event.Call (call.HavePermission transport ip) now) control keeps (λ calls last one. one)
-  call_out (call.Permissions transport relayed) now control keeps = idle (event.Call (call.Permissions transport relayed) now) control keeps (λ calls last one. one)
-  call_out (call.BindChannel transport peer) now control keeps = idle (event.Call (call.BindChannel transport peer) now) control keeps (λ calls last one. one)
-  call_out (call.TcpConnect peer) now control keeps = idle (event.Call (call.TcpConnect peer) now) control keeps (λ calls last one. one)
-  call_out (call.AllocatedTcpSocket id peer here) now control keeps = idle (event.Call (call.AllocatedTcpSocket id peer here) now) control keeps (λ calls last one. one)
-  call_out (call.TcpClosed here there) now control keeps = idle (event.Call (call.TcpClosed here there) now) control keeps (λ calls last one. one)
-  call_out call.Connections now control keeps = idle (event.Call call.Connections now) control keeps (λ calls last one. one)
-  call_out call.Channels now control keeps = idle (event.Call call.Channels now) control keeps (λ calls last one. one)
-  call_out (call.SendTo transport to bytes) now control keeps = idle (event.Call (call.SendTo transport to bytes) now) control keeps (λ calls last one. one)
-  call_out call.ProtocolError now control keeps = idle (event.Call call.ProtocolError now) control keeps (λ calls last one. one)
-  call_out call.RelayedAddresses now control keeps = idle (event.Call call.RelayedAddresses now) control keeps (λ calls last one. one)
+  call_out : (what : ClientCall) (now : ℕ) → is_in_range now ≡ false → (control : Control) → IsKeptAs c (held c control) → IsLeft (event.Call what now) c control OutOfRange (held c control)
+  call_out call.PollRecv now out control keeps = none_taken c sound control keeps now OutOfRange (held c control) (ap (λ (b : Bool). if b && is_over_tcp control then raw_waiting c.core else None) out) (λ b. refl) refl refl
+  call_out call.Poll now out control keeps = idle (event.Call call.Poll now) control keeps (λ calls last one. one)
+  call_out call.PollEvent now out control keeps = idle (event.Call call.PollEvent now) control keeps (λ calls last one. one)
+  call_out call.Delete now out control keeps = idle (event.Call call.Delete now) control keeps (λ calls last one. one)
+  call_out (call.CreatePermission transport ip) now out control keeps = idle (event.Call (call.CreatePermission transport ip) now) control keeps (λ calls last one. one)
+  call_out (call.HavePermission transport ip) now out control keeps = idle (event.Call (call.HavePermission transport ip) now) control keeps (λ calls last one. one)
+  call_out (call.Permissions transport relayed) now out control keeps = idle (event.Call (call.Permissions transport relayed) now) control keeps (λ calls last one. one)
+  call_out (call.BindChannel transport peer) now out control keeps = idle (event.Call (call.BindChannel transport peer) now) control keeps (λ calls last one. one)
+  call_out (call.TcpConnect peer) now out control keeps = idle (event.Call (call.TcpConnect peer) now) control keeps (λ calls last one. one)
+  call_out (call.AllocatedTcpSocket id peer here) now out control keeps = idle (event.Call (call.AllocatedTcpSocket id peer here) now) control keeps (λ calls last one. one)
+  call_out (call.TcpClosed here there) now out control keeps = idle (event.Call (call.TcpClosed here there) now) control keeps (λ calls last one. one)
+  call_out call.Connections now out control keeps = idle (event.Call call.Connections now) control keeps (λ calls last one. one)
+  call_out call.Channels now out control keeps = idle (event.Call call.Channels now) control keeps (λ calls last one. one)
+  call_out (call.SendTo transport to bytes) now out control keeps = idle (event.Call (call.SendTo transport to bytes) now) control keeps (λ calls last one. one)
+  call_out call.ProtocolError now out control keeps = idle (event.Call call.ProtocolError now) control keeps (λ calls last one. one)
+  call_out call.RelayedAddresses now out control keeps = idle (event.Call call.RelayedAddresses now) control keeps (λ calls last one. one)
 
-  call_left : (what : ClientCall) (now : ℕ) (ret : Answer) (control : Control) (k : Kept) → IsKeptAs c (held c control) → IsFairEvent (event.Call what now) → IsCallTold what ret (held c control) now k → IsLeft (event.Call what now) c control ret k
+  call_left : (what : ClientCall) (now : ℕ) → is_in_range now ≡ true → (ret : Answer) (control : Control) (k : Kept) → IsKeptAs c (held c control) → IsFairEvent (event.Call what now) → IsCallTold what ret (held c control) now k → IsLeft (event.Call what now) c control ret k
   unfolding IsCallTold
-  call_left call.PollRecv now ret control k keeps fair is = waiting_told c sound control keeps now ret k is
-  call_left call.Poll now ret control k keeps fair is = by_one c sound control keeps (event.Call call.Poll now) ret k (λ calls last one. one) (is.1, called c sound now k.core call.Poll ret fair is.0)
-  call_left call.PollEvent now ret control k keeps fair is = by_one c sound control keeps (event.Call call.PollEvent now) ret k (λ calls last one. one) (is.1, called c sound now k.core call.PollEvent ret fair is.0)
-  call_left call.Delete now ret control k keeps fair is = by_one c sound control keeps (event.Call call.Delete now) ret k (λ calls last one. one) (is.1, called c sound now k.core call.Delete ret fair is.0)
-  call_left (call.CreatePermission transport ip) now ret control k keeps fair is = by_one c sound control keeps (event.Call (call.CreatePermission transport ip) now) ret k (λ calls last one. one) (is.1, called c sound now k.core (call.CreatePermission transport ip) ret fair is.0)
-  call_left (call.HavePermission transport ip) now ret control k keeps fair is = by_one c sound control keeps (event.Call (call.HavePermission transport ip) now) ret k (λ calls last one. one) (is.1, called c sound now k.core (call.HavePermission transport ip) ret fair is.0)
-  call_left (call.Permissions transport relayed) now ret control k keeps fair is = by_one c sound control keeps (event.Call (call.Permissions transport relayed) now) ret k (λ calls last one. one) (is.1, called c sound now k.core (call.Permissions transport relayed) ret fair is.0)
-  call_left (call.BindChannel transport peer) now ret control k keeps fair is = by_one c sound control keeps (event.Call (call.BindChannel transport peer) now) ret k (λ calls last one. one) (is.1, called c sound now k.core (call.BindChannel transport peer) ret fair is.0)
-  call_left (call.TcpConnect peer) now ret control k keeps fair is = by_one c sound control keeps (event.Call (call.TcpConnect peer) now) ret k (λ calls last one. one) (is.1, called c sound now k.core (call.TcpConnect peer) ret fair is.0)
-  call_left (call.AllocatedTcpSocket id peer here) now ret control k keeps fair is = socket_left c sound id peer here now ret control k keeps is
-  call_left (call.TcpClosed here there) now ret control k keeps fair is = by_one c sound control keeps (event.Call (call.TcpClosed here there) now) ret k (λ calls last one. one) (is.1, called c sound now k.core (call.TcpClosed here there) ret fair is.0)
-  call_left call.Connections now ret control k keeps fair is = by_one c sound control keeps (event.Call call.Connections now) ret k (λ calls last one. one) (is.1, called c sound now k.core call.Connections ret fair is.0)
-  call_left call.Channels now ret control k keeps fair is = by_one c sound control keeps (event.Call call.Channels now) ret k (λ calls last one. one) (is.1, called c sound now k.core call.Channels ret fair is.0)
-  call_left (call.SendTo transport to bytes) now ret control k keeps fair is = by_one c sound control keeps (event.Call (call.SendTo transport to bytes) now) ret k (λ calls last one. one) (is.1, called c sound now k.core (call.SendTo transport to bytes) ret fair is.0)
-  call_left call.ProtocolError now ret control k keeps fair is = by_one c sound control keeps (event.Call call.ProtocolError now) ret k (λ calls last one. one) (is.1, called c sound now k.core call.ProtocolError ret fair is.0)
-  call_left call.RelayedAddresses now ret control k keeps fair is = by_one c sound control keeps (event.Call call.RelayedAddresses now) ret k (λ calls last one. one) (is.1, called c sound now k.core call.RelayedAddresses ret fair is.0)
+  call_left call.PollRecv now inside_it ret control k keeps fair is = waiting_told c sound control keeps now ret k inside_it is
+  call_left call.Poll now inside_it ret control k keeps fair is = by_one c sound control keeps (event.Call call.Poll now) ret k (λ calls last one. one) (is.1, called c sound now k.core call.Poll ret fair is.0)
+  call_left call.PollEvent now inside_it ret control k keeps fair is = by_one c sound control keeps (event.Call call.PollEvent now) ret k (λ calls last one. one) (is.1, called c sound now k.core call.PollEvent ret fair is.0)
+  call_left call.Delete now inside_it ret control k keeps fair is = by_one c sound control keeps (event.Call call.Delete now) ret k (λ calls last one. one) (is.1, called c sound now k.core call.Delete ret fair is.0)
+  call_left (call.CreatePermission transport ip) now inside_it ret control k keeps fair is = by_one c sound control keeps (event.Call (call.CreatePermission transport ip) now) ret k (λ calls last one. one) (is.1, called c sound now k.core (call.CreatePermission transport ip) ret fair is.0)
+  call_left (call.HavePermission transport ip) now inside_it ret control k keeps fair is = by_one c sound control keeps (event.Call (call.HavePermission transport ip) now) ret k (λ calls last one. one) (is.1, called c sound now k.core (call.HavePermission transport ip) ret fair is.0)
+  call_left (call.Permissions transport relayed) now inside_it ret control k keeps fair is = by_one c sound control keeps (event.Call (call.Permissions transport relayed) now) ret k (λ calls last one. one) (is.1, called c sound now k.core (call.Permissions transport relayed) ret fair is.0)
+  call_left (call.BindChannel transport peer) now inside_it ret control k keeps fair is = by_one c sound control keeps (event.Call (call.BindChannel transport peer) now) ret k (λ calls last one. one) (is.1, called c sound now k.core (call.BindChannel transport peer) ret fair is.0)
+  call_left (call.TcpConnect peer) now inside_it ret control k keeps fair is = by_one c sound control keeps (event.Call (call.TcpConnect peer) now) ret k (λ calls last one. one) (is.1, called c sound now k.core (call.TcpConnect peer) ret fair is.0)
+  call_left (call.AllocatedTcpSocket id peer here) now inside_it ret control k keeps fair is = socket_left c sound id peer here now ret control k keeps is
+  call_left (call.TcpClosed here there) now inside_it ret control k keeps fair is = by_one c sound control keeps (event.Call (call.TcpClosed here there) now) ret k (λ calls last one. one) (is.1, called c sound now k.core (call.TcpClosed here there) ret fair is.0)
+  call_left call.Connections now inside_it ret control k keeps fair is = by_one c sound control keeps (event.Call call.Connections now) ret k (λ calls last one. one) (is.1, called c sound now k.core call.Connections ret fair is.0)
+  call_left call.Channels now inside_it ret control k keeps fair is = by_one c sound control keeps (event.Call call.Channels now) ret k (λ calls last one. one) (is.1, called c sound now k.core call.Channels ret fair is.0)
+  call_left (call.SendTo transport to bytes) now inside_it ret control k keeps fair is = by_one c sound control keeps (event.Call (call.SendTo transport to bytes) now) ret k (λ calls last one. one) (is.1, called c sound now k.core (call.SendTo transport to bytes) ret fair is.0)
+  call_left call.ProtocolError now inside_it ret control k keeps fair is = by_one c sound control keeps (event.Call call.ProtocolError now) ret k (λ calls last one. one) (is.1, called c sound now k.core call.ProtocolError ret fair is.0)
+  call_left call.RelayedAddresses now inside_it ret control k keeps fair is = by_one c sound control keeps (event.Call call.RelayedAddresses now) ret k (λ calls last one. one) (is.1, called c sound now k.core call.RelayedAddresses ret fair is.0)
 
 -- ---- where there is a client, at a moment in range
 
@@ -383,7 +476,7 @@ module _ (c : Client) (control : Control) (event : Event) (ret : Answer) where
 by_event : (event : Event) (ret : Answer) (c : Client) (control : Control) (old new : World) → IsSound c → old.client ≡ Some (held c control) → IsKeptAs c (held c control) → IsFairEvent event → IsStep event old ret new → IsOne event ret c old new
 by_event (event.Call what now) ret c control old new sound before keeps fair is =
     client_step c control (event.Call what now) ret old new before keeps (λ steps are. are)
-    (at_client c control (event.Call what now) ret now _ old.client new.client before (λ q inside_it h. call_left c sound what now ret control q keeps fair h) (λ out. call_out c sound what now control keeps) is.0)
+    (at_client c control (event.Call what now) ret now _ old.client new.client before (λ q inside_it h. call_left c sound what now inside_it ret control q keeps fair h) (λ out. call_out c sound what now out control keeps) is.0)
 by_event (Draw now) ret c control old new sound before keeps fair is =
     client_step c control (Draw now) ret old new before keeps (λ steps are. are)
     (at_client c control (Draw now) ret now _ old.client new.client before

@@ -185,7 +185,7 @@ IsTold (recv.PeerIcmp t p k c d) (answer.Icmp transport peer kind code report) =
     (transport ≡ t) × (peer ≡ p) × (kind ≡ k) × (code ≡ c) × (report ≡ d)
 IsTold _ _ = ⊥
 
--- bytes came to a client by its own transport: `recv`, by its contract
+-- bytes came to a client by its own transport, over whichever of its sockets: `recv`, by its contract
 pub record IsFed (answer : Answer) (old : Kept) (bytes : List ℕ) (from to : SocketAddr) (now : ℕ)
     (new : Kept) : Type 0 where
   pub are_bytes : AreBytes bytes

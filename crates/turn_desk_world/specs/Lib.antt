@@ -6,6 +6,7 @@ pub mod Determined
 pub mod Model
 pub mod Runs
 pub mod Safety
+pub mod SocketCalls
 pub mod Told
 pub use Rattle.turn_client_proto.specs.Beginning
 pub use Rattle.turn_client_proto.specs.Clients

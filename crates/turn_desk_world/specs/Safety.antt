@@ -1,17 +1,18 @@
 -- What holds of a run of a client and a desk over a network that loses, repeats, reorders and invents.
-use Rattle.std.specs.Prelude.{◌≤◌, ℕ, Bool, true, false, List, [], ◌∷◌, ◌++◌, length, is_none}
+use Rattle.std.specs.Prelude.{◌≡◌, ◌≤◌, ◌⊎◌, ℕ, Bool, true, false, List, [], ◌∷◌, ◌++◌, length, is_none}
 use Rattle.std.specs.Net.Socket.{socket_ip}
 use Rattle.std.specs.List.{AllByRecursion}
 use Rattle.std.specs.declared.net.socket_addr.SocketAddr.{SocketAddr}
 use Rattle.stun_types.specs.Grammar.{refusal}
 use Rattle.stun_types.specs.Registry.{longest_username}
 use Rattle.stun_types.specs.declared.transport.TransportType.{TransportType}
+use Rattle.stun_types.specs.declared.transport.TransportType.TheVariants.{Tcp}
 use Rattle.turn_client_proto.specs.Headline.{AnswersOnce, IsPromised, IsSafe, ShowsTraced, Traced, Unless}
 use Rattle.turn_types.specs.ChannelFrames.{frame_at}
 use Rattle.turn_client_proto.specs.Api.Payloads.{PeerPayload}
 use Rattle.turn_client_proto.specs.Indications.{Carries}
 use Rattle.turn_client_proto.specs.Members.{IsIn}
-use Rattle.turn_client_proto.specs.Messages.{Held, Permission, Channel, Payload}
+use Rattle.turn_client_proto.specs.Messages.{Held, Permission, Channel, Connection, Payload}
 use Rattle.turn_client_proto.specs.Runs.{Step, AtClient, AtDesk, AtEach, IsCounted, IsLawful, Leads}
 use Rattle.turn_client_proto.specs.Words.{Words}
 use Rattle.turn_client_proto.specs.Beginning.{IsNew}
@@ -42,9 +43,11 @@ pub record BeginsNew (transport : TransportType) (here server : SocketAddr) (con
 
 -- what the answers to some events come to: each is a step of a run by the contracts, and they lead the client from one
 -- state to another; and where nothing that arrives was forged under a key of the client's, and no number is drawn twice,
--- each step is safe: so each payload is as it was delivered in that step, and names a peer whose permission or channel the
--- client keeps and the desk granted before; nothing is answered as created twice for one request; and each relayed
--- address, each permission and each channel that is shown was granted before, a channel with that number and to that peer
+-- each step is safe: so each payload is as it was delivered in that step, and names a peer whose permission, channel or
+-- connection the client keeps and the desk granted before; nothing is answered as created twice for one request; and each
+-- relayed address, each permission, each channel and each bound connection that is shown was granted before, a channel or a
+-- connection with that number and to that peer. Bytes of a connection's peer are no message, and so are as nothing that was
+-- delivered
 pub record AreSafe (first : Client) (old : World) (pairs : List (Event × Answer)) (new : World) : Type 0 where
   pub run : List (Step Client DeskCall)
   pub told : IsToldBy old pairs run new
@@ -125,3 +128,28 @@ pub record IsCarried (first : Client) (run : List (Step Client DeskCall)) (last 
 abbrev pub IsDataCarried : (first : Client) → List (Step Client DeskCall) → (last : Client) → PeerPayload → Type 0
 IsDataCarried first run last given = IsCarried first run last
     (λ frame. data_of (is_none (refusal frame)) frame given) (λ frame. held_by (is_none (refusal frame)) frame given)
+
+-- data are bytes of a peer that came over the socket of an own address: that of a connection, which is bound, and which the
+-- desk granted to that peer in that run. They are no message: what the network does to them is not told
+pub record IsPassedRaw (first : Client) (run : List (Step Client DeskCall)) (last : Client) (here : SocketAddr)
+    (given : PeerPayload) : Type 0 where
+  pub transport_is : given.transport ≡ Tcp
+  pub granted : Unless words first run last ((number : ℕ) × Traced words run (Connection here given.peer number))
+
+-- so it is of bytes that came to an own address: they are given behind those that waited
+pub record IsBroughtRaw (first : Client) (run : List (Step Client DeskCall)) (last : Client) (to : SocketAddr)
+    (bytes : List ℕ) (given : PeerPayload) : Type 0 where
+  pub passed : IsPassedRaw first run last to given
+  pub waited : List ℕ
+  pub payload_is : given.payload ≡ waited ++ bytes
+
+-- data of a peer, which bytes gave that came to an own address, is carried by a frame, or is just those bytes
+abbrev pub IsDataBrought : (first : Client) → List (Step Client DeskCall) → (last : Client) → (to : SocketAddr)
+    → List ℕ → PeerPayload → Type 0
+IsDataBrought first run last to bytes given =
+    IsDataCarried first run last given ⊎ IsBroughtRaw first run last to bytes given
+
+-- data of a peer that waited is carried by a frame, or came over some socket
+abbrev pub IsDataKept : (first : Client) → List (Step Client DeskCall) → (last : Client) → PeerPayload → Type 0
+IsDataKept first run last given =
+    IsDataCarried first run last given ⊎ (here : SocketAddr) × IsPassedRaw first run last here given

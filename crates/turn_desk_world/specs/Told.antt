@@ -1,5 +1,5 @@
 -- What the events of a world and their answers are in a run of a client and a desk.
-use Rattle.std.specs.Prelude.{◌≡◌, ◌≢◌, ℕ, Bool, true, false, ◌++◌, List, [], ◌∷◌, filter, map, Option, Some, None, is_none, Vec}
+use Rattle.std.specs.Prelude.{◌≡◌, ◌≢◌, ◌⊎◌, ◌&&◌, if◌then◌else◌, ℕ, Bool, true, false, ◌++◌, List, [], ◌∷◌, filter, map, Option, Some, None, is_none, Vec}
 use Rattle.std.specs.List.{filter_map}
 use Rattle.std.specs.declared.alloc.Global.{Global}
 use Rattle.std.specs.declared.net.ip_addr.IpAddr.{IpAddr}
@@ -13,6 +13,7 @@ use Rattle.stun_types.specs.declared.transport.TransportType.{TransportType}
 use Rattle.turn_types.specs.ChannelFrames.{frame_at}
 use Rattle.turn_types.specs.StreamAnswers.{joined}
 use Rattle.turn_types.specs.Streams.{Stream}
+use Rattle.turn_client_proto.specs.Allocation.declared.connection.Connection.{Connection as Joined}
 use Rattle.turn_client_proto.specs.Api.Payloads.{PeerPayload}
 use Rattle.turn_client_proto.specs.Api.declared.answer.TurnRecvRet.{TurnRecvRet}
 use Rattle.turn_client_proto.specs.Api.declared.answer.TurnRecvRet.TheVariants as recv
@@ -25,6 +26,7 @@ use Rattle.turn_client_proto.specs.Waiting.{bytes_waiting, completed, frames_wai
 use Rattle.turn_client_proto.specs.Messages.{Held, Allocation, Permission, Channel, Connection, Notice, Payload, FromPeer, Reported, FromChannel}
 use Rattle.turn_client_proto.specs.Runs.{Step, AtDesk}
 use Rattle.turn_runs.specs.Chains.{steps_of}
+use Rattle.turn_client_proto.specs.SocketPieces.{raw_waiting}
 use Rattle.turn_client_proto.specs.Steps.{Call}
 use Rattle.turn_client_proto.specs.Drawing.{sent_of}
 use Rattle.turn_client_proto.specs.ClientWords.{notice_of}
@@ -44,6 +46,7 @@ use Rattle.turn_desk_steps.specs.DeskRun.{AreTold, DeskCall}
 use Rattle.turn_desk_world.specs.Desks.{words_of}
 use Rattle.turn_desk_world.specs.Model.{World}
 use Rattle.turn_desk_world.specs.Runs.{IsStep, is_in_range}
+use Rattle.turn_desk_world.specs.SocketCalls.{AreCallsOfWaiting, AreCallsOver, IsQuiet, socket_at}
 
 -- ---- what an answer tells
 
@@ -152,12 +155,6 @@ IsOneCall happening answer first calls last =
 abbrev pub HandsNothing : Answer → Type 0
 HandsNothing answer = (bytes : List ℕ) → given_of bytes answer ≡ []
 
--- a call that draws, tells and shows nothing
-pub record IsQuiet (call : Call Client) : Type 0 where
-  pub drawn_is : call.drawn ≡ None
-  pub answered_is : call.answered ≡ []
-  pub shown_is : call.shown ≡ []
-
 -- these frames came, and none was taken up; afterwards these wait
 pub record AreComing (came waiting : List (List ℕ)) (call : Call Client) : Type 0 where
   pub quiet : IsQuiet call
@@ -193,6 +190,22 @@ pub record IsPieceOf (p : Protocol) (from to : SocketAddr) (now : ℕ) : Type 0 
   pub works : has_failed p ≡ false
   pub in_range : is_in_range now ≡ true
 
+-- the stream stands of which they are a piece
+pub record IsStreams (k : Kept) (from to : SocketAddr) (now : ℕ) : Type 0 where
+  pub stream : Stream
+  pub opens : k.control ≡ Open stream
+  pub piece : IsPieceOf k.core from to now
+
+-- a moment is out of range, or bytes came over the socket of no connection
+abbrev pub IsNoSocket : Protocol → (from to : SocketAddr) → ℕ → Type 0
+IsNoSocket p from to now = (is_in_range now ≡ false) ⊎ (socket_at p from to ≡ None)
+
+-- a client over TCP
+abbrev pub is_over_tcp : Control → Bool
+is_over_tcp Datagrams = false
+is_over_tcp (Open stream) = true
+is_over_tcp Closed = true
+
 -- which frames bytes complete that come at a moment, and which wait then: a piece of no bytes ends the stream, and what is
 -- no piece of it brings nothing
 pub data AreBrought (k : Kept) (bytes : List ℕ) (from to : SocketAddr) (now : ℕ) (came waiting : List (List ℕ))
@@ -219,19 +232,43 @@ pub record AreCallsOfPiece (k : Kept) (bytes : List ℕ) (from to : SocketAddr) 
   pub taken : AreTakenUp now answer coming.after taking last
   pub calls_are : calls ≡ taking ++ coming ∷ []
 
+-- bytes came over TCP: they are a piece of the client's own connection to the server; or came over the socket of a
+-- connection to a peer; or they are neither, and bring nothing
+pub data AreCallsOverTcp (k : Kept) (bytes : List ℕ) (from to : SocketAddr) (now : ℕ) (answer : Answer)
+    (first : Client) (calls : List (Call Client)) (last : Client) : Type 0 where
+  OfStream : IsStreams k from to now → AreCallsOfPiece k bytes from to now answer first calls last
+      → AreCallsOverTcp k bytes from to now answer first calls last
+  OverSocket : ¬ IsStreams k from to now → is_in_range now ≡ true → (c : Joined) → socket_at k.core from to ≡ Some c
+      → AreCallsOver c to now bytes answer k.core first calls last
+      → AreCallsOverTcp k bytes from to now answer first calls last
+  OverNone : ¬ IsStreams k from to now → IsNoSocket k.core from to now
+      → AreCallsOfPiece k bytes from to now answer first calls last
+      → AreCallsOverTcp k bytes from to now answer first calls last
+
 -- by how bytes come
 abbrev pub AreCallsOfBytes : Control → Kept → Vec ℕ Global → (from to : SocketAddr) → ℕ → Answer → Client
     → List (Call Client) → Client → Type 0
 AreCallsOfBytes Datagrams k bytes from to now answer first calls last =
     IsOneCall (event.ToClient bytes from to now) answer first calls last
 AreCallsOfBytes (Open stream) k bytes from to now answer first calls last =
-    AreCallsOfPiece k bytes.items from to now answer first calls last
+    AreCallsOverTcp k bytes.items from to now answer first calls last
 AreCallsOfBytes Closed k bytes from to now answer first calls last =
-    AreCallsOfPiece k bytes.items from to now answer first calls last
+    AreCallsOverTcp k bytes.items from to now answer first calls last
+
+-- what waits was asked for at a moment: the first bytes that wait of a connection's peer are handed over, or where none do,
+-- frames are taken up
+abbrev pub AreCallsOfAsking : Option Joined → ℕ → Kept → Answer → Client → List (Call Client) → Client → Type 0
+AreCallsOfAsking (Some c) now k answer first calls last = AreCallsOfWaiting c answer k.core first calls last
+AreCallsOfAsking None now k answer first calls last = AreTakenUp now answer first calls last
+
+-- at moments in range, over TCP alone
+abbrev pub raw_asked : ℕ → Kept → Option Joined
+raw_asked now k = if is_in_range now && is_over_tcp k.control then raw_waiting k.core else None
 
 -- calls of a client that keeps this, by one event, the newest first, lead it from one state to another
 abbrev pub AreCallsBy : Event → Kept → Answer → Client → List (Call Client) → Client → Type 0
-AreCallsBy (event.Call call.PollRecv now) k answer first calls last = AreTakenUp now answer first calls last
+AreCallsBy (event.Call call.PollRecv now) k answer first calls last =
+    AreCallsOfAsking (raw_asked now k) now k answer first calls last
 AreCallsBy (event.ToClient bytes from to now) k answer first calls last =
     AreCallsOfBytes k.control k bytes from to now answer first calls last
 AreCallsBy happening k answer first calls last = IsOneCall happening answer first calls last

@@ -268,7 +268,7 @@ fn send_to(
     }
 }
 
-/// The client is asked for what waits in its stream.
+/// The client is asked for what waits: bytes of a connection's peer, or else frames of its stream.
 fn poll_recv(client: &mut TurnClient, now: Instant) -> Result<Answer, NoMemory>
     ensures { IfOk result (λ answer.
         IsWaitingTold answer (kept_of client.old) now (kept_of client.new)) }
@@ -305,7 +305,7 @@ fn draw(client: &mut TurnClient, now: Instant) -> Result<Answer, NoMemory>
     }
 }
 
-/// Bytes reach the client by its own transport.
+/// Bytes reach the client by its own transport: over TCP, over whichever of its sockets.
 fn feed(
     alloc: Global,
     client: &mut TurnClient,

@@ -3,7 +3,7 @@
 //! and `specs/Safety.antt` the theorem.
 
 ghost use Rattle.std.specs.List.{AllByRecursion};
-ghost use Rattle.std.specs.Prelude.{◌≡◌, ◌≢◌, ◌≤◌, ◌++◌, List, ℕ, [], ◌∷◌, Some, length, true, Vec};
+ghost use Rattle.std.specs.Prelude.{◌≡◌, ◌≢◌, ◌≤◌, ◌++◌, Bool, List, ℕ, [], ◌∷◌, Some, length, true, Vec};
 ghost use Rattle.std.specs.declared.alloc.Global.{Global};
 ghost use Rattle.std.specs.declared.net.ip_addr.IpAddr.{IpAddr};
 ghost use Rattle.std.specs.Net.Socket.{socket_ip};
@@ -16,7 +16,7 @@ ghost use Rattle.turn_types.specs.Streams.{alive};
 ghost use Rattle.turn_client_proto.specs.Beginning.{IsNew};
 ghost use Rattle.turn_client_proto.specs.Config.{Config};
 ghost use Rattle.turn_client_proto.specs.Control.{Datagrams, Open};
-ghost use Rattle.turn_client_proto.specs.Messages.{Allocation, Channel, Permission, Reported};
+ghost use Rattle.turn_client_proto.specs.Messages.{Allocation, Channel, Connection, Permission, Reported};
 ghost use Rattle.turn_client_proto.specs.Runs.{Step};
 ghost use Rattle.turn_desk_steps.specs.DeskRun.{AreTold, DeskCall};
 ghost use Rattle.turn_desk_event.specs.declared.answer.Answer.{Answer};
@@ -38,7 +38,7 @@ ghost use Rattle.turn_client_proto.specs.RunSteps.{IsGiving};
 ghost use Rattle.turn_client_proto.specs.Sound.{IsSound, IsWhole};
 ghost use Rattle.turn_desk_world.specs.Copies.{AreAlike, IsCopy};
 ghost use Rattle.turn_desk_world.specs.Determined.{AreSame, HaveSameEvents};
-ghost use Rattle.turn_desk_world.specs.Safety.{BeginsNew, IsAccount, IsCarried, IsDataCarried, IsLastAnswered, IsSafeRun, WasGranted, last_taken};
+ghost use Rattle.turn_desk_world.specs.Safety.{BeginsNew, IsAccount, IsCarried, IsDataBrought, IsDataKept, IsLastAnswered, IsSafeRun, WasGranted, last_taken};
 ghost use Rattle.turn_desk_world.specs.Told.{IsReadBack, given_by};
 
 use std::convert::AsSlice;
@@ -94,16 +94,20 @@ pub fn new_clients_begin_new()
 
 /// Whatever events come to a world of a new client and any desk, their answers are steps of a run of
 /// a client and a server: one each; but over TCP, where a piece of the stream is one step in which the
-/// whole frames that it completes come, and one for each frame that is taken up. Where nothing that arrives was forged under a key of the
-/// client's, and no number is drawn twice, each step is safe. Nothing is answered as created twice
-/// for one request, and each relayed address, each permission and each channel that the client shows was
-/// granted by the desk before: a channel with that number and to that peer, in answer to a CHANNEL_BIND
-/// that the client drew. So it is of every account that is given of the run, and as many numbers count as
-/// drawn as the client's generator gave.
+/// whole frames that it completes come, and one for each frame that is taken up. A piece of what comes
+/// over the socket of a connection that is to be bound is one step for each message that is taken up, and
+/// two in which what is kept of it is taken out and put back (RFC 6062, section 4.3). Where nothing that
+/// arrives was forged under a key of the client's, and no number is drawn twice, each step is safe.
+/// Nothing is answered as created twice for one request, and each relayed address, each permission, each
+/// channel and each bound connection that the client shows was granted by the desk before: a channel with
+/// that number and to that peer, in answer to a CHANNEL_BIND that the client drew; a connection with that
+/// number and to that peer, in answer to a CONNECTION_BIND. So it is of every account that is given of the
+/// run, and as many numbers count as drawn as the client's generator gave.
 ///
 /// So all that the client holds was granted in answer to that very request, whatever the network
 /// loses, repeats, reorders or invents. It takes for granted that the relayed addresses which the driver
-/// decides, and the peers to which it asks for channels, have no flow information and no scope.
+/// decides, and the peers to which it asks for channels and connections, have no flow information and no
+/// scope.
 pub fn runs_of_a_world_are_safe()
     ensures { (old new : World) (pairs : List (Event × Answer))
         → IsRun old pairs new
@@ -111,11 +115,12 @@ pub fn runs_of_a_world_are_safe()
 {}
 
 /// What the theorem says of what a client shows, in the words of the answers. Where the last event of a
-/// run asked the client for its relayed addresses, permissions or channels, or whether it has a
-/// permission, the desk granted each that the answer names in that run, in answer to a request of the
+/// run asked the client for its relayed addresses, permissions, channels or connections, or whether it has
+/// a permission, the desk granted each that the answer names in that run, in answer to a request of the
 /// client's: an allocation over that transport with that address, a permission for that address over that
-/// transport, a channel with that number and to that peer. A run of more events has such a run in front
-/// ([`parts_make_a_run`]), so it is of each answer.
+/// transport, a channel with that number and to that peer, a connection with that number that is shown as
+/// bound, and to that peer. A run of more events has such a run in front ([`parts_make_a_run`]), so it is
+/// of each answer.
 pub fn answers_show_what_was_granted()
     ensures addresses { (first last : Client) (run : List (Step Client DeskCall)) (now : ℕ)
         (list : Vec (TransportType × SocketAddr) Global)
@@ -139,6 +144,11 @@ pub fn answers_show_what_was_granted()
         → IsLastAnswered (Call call.Channels now) (answer.Channels list) first run last
         → (number : ℕ) (peer : SocketAddr) → IsIn (number, peer) list.items
         → WasGranted first run last (Channel number peer) }
+    ensures connections { (first last : Client) (run : List (Step Client DeskCall)) (now : ℕ)
+        (list : Vec (SocketAddr × SocketAddr × ℕ × Bool) Global)
+        → IsLastAnswered (Call call.Connections now) (answer.Connections list) first run last
+        → (here peer : SocketAddr) (number : ℕ) → IsIn (here, peer, number, true) list.items
+        → WasGranted first run last (Connection here peer number) }
 {}
 
 /// What the theorem says of what a client hands over, in the words of the answers. Where by the last
@@ -147,16 +157,19 @@ pub fn answers_show_what_was_granted()
 /// that names the peer, whose permission the desk granted in that run, in answer to a request of the
 /// client's; or as the data of a channel frame, whose channel to the peer it granted so. A report is that
 /// of the last ICMP of such an indication, without a DATA. Over UDP that frame is the datagram which came.
-/// Over TCP it is a whole frame of the stream.
+/// Over TCP it is a whole frame of the stream. Or else the data are bytes that came over the socket of a
+/// connection to the peer (RFC 6062, section 4.5): the desk granted that very connection so. Bytes that
+/// come to an own address are told of the connection that has it, as they came, behind those that waited.
+/// No key protects such bytes, and the theorem says nothing of who sent them.
 pub fn answers_give_what_was_delivered()
     ensures came { (first last : Client) (run : List (Step Client DeskCall)) (now : ℕ)
         (bytes : Vec ℕ Global) (from to : SocketAddr) (given : PeerPayload)
         → IsLastAnswered (ToClient bytes from to now) (answer.Peer given) first run last
-        → IsDataCarried first run last given }
+        → IsDataBrought first run last to bytes.items given }
     ensures waited { (first last : Client) (run : List (Step Client DeskCall)) (now : ℕ)
         (given : PeerPayload)
         → IsLastAnswered (Call call.PollRecv now) (answer.Peer given) first run last
-        → IsDataCarried first run last given }
+        → IsDataKept first run last given }
     ensures reports { (first last : Client) (run : List (Step Client DeskCall)) (now : ℕ)
         (bytes : Vec ℕ Global) (from to : SocketAddr) (transport : TransportType)
         (peer : SocketAddr) (kind code details : ℕ)
@@ -215,9 +228,9 @@ pub fn receiving_is_definite<T: AsSlice<u8>>()
         → AreAlike came copy answer again × (one ≡ other) }
 {}
 
-/// `recv` of a client over UDP is a step, whatever datagram came, and leaves a sound client sound: what is neither a message
-/// nor a channel frame, or did not come from the server, changes nothing. What it gives of a peer is
-/// handed over in that step.
+/// `recv` of a client over UDP is a step, whatever datagram came, and leaves a sound client sound: what is
+/// neither a message nor a channel frame, or did not come from the server, changes nothing. What it gives
+/// of a peer is handed over in that step.
 pub fn receipts_are_steps<T: AsSlice<u8>>()
     ensures { (c : Client) (came : Transmit T) (now : ℕ) (answer : TurnRecvRet T) (new : Kept)
         → IsSound c

@@ -84,7 +84,9 @@ impl World {
             IsRunOfEach self.old (zip events.now answers.items) self.new) }
         // Where the client was new and nothing was forged, all that it holds was granted in answer to
         // that very request, and nothing is told as created twice for one. So it is of each address,
-        // each permission and each channel that it shows: a channel with that number and to that peer.
+        // each permission, each channel and each bound connection that it shows: a channel or a
+        // connection with that number and to that peer. Data that it gives names what it holds, or
+        // comes over the socket of a connection that it holds.
         ensures safe { IfOk result (λ answers.
             IsSafeRun self.old (zip events.now answers.items) self.new) }
         ensures err { OnErr result (self.new.is_failed ≡ true) }

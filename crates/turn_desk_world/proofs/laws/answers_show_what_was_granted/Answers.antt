@@ -2,10 +2,10 @@ use Rattle.std.proofs.Common.{ℕ, true, refl, inl}
 use Rattle.std.specs.declared.net.ip_addr.IpAddr.{IpAddr}
 use Rattle.std.specs.declared.net.socket_addr.SocketAddr.{SocketAddr}
 use Rattle.stun_types.specs.declared.transport.TransportType.{TransportType}
-use Rattle.turn_client_proto.specs.Messages.{Allocation, Channel, Permission}
+use Rattle.turn_client_proto.specs.Messages.{Allocation, Channel, Connection, Permission}
 use Rattle.turn_desk_event.specs.declared.answer.Answer.TheVariants as answer
 use Rattle.turn_desk_event.specs.declared.event.ClientCall.TheVariants as call
-use Rattle.turn_desk_world.proofs.Answered.{in_image, shown_granted}
+use Rattle.turn_desk_world.proofs.Answered.{in_bound, in_image, shown_granted}
 use Rattle.turn_desk_world.proofs.laws.answers_show_what_was_granted.Goals as goal
 
 pub returns-clause-addresses : goal.returns-clause-addresses
@@ -26,3 +26,7 @@ pub returns-clause-channels : goal.returns-clause-channels
 returns-clause-channels c = λ first last run now list is number peer listed.
     shown_granted call.Channels now (answer.Channels list) first last run (λ kept one other calls are. are) is (Channel number peer)
     (in_image (λ (p : ℕ × SocketAddr). Channel p.0 p.1) (number, peer) list.items listed)
+
+pub returns-clause-connections : goal.returns-clause-connections
+returns-clause-connections c = λ first last run now list is here peer number listed.
+    shown_granted call.Connections now (answer.Connections list) first last run (λ kept one other calls are. are) is (Connection here peer number) (in_bound here peer number list.items listed)

@@ -1,0 +1,12 @@
+use Rattle.std.proofs.Common.{ap, get_or, refl, sym, ◌∙◌}
+use Rattle.turn_client_proto_channel.proofs.Permission.Allocation.Changes.{put_there}
+use Rattle.turn_client_proto_channel.specs.Permission.Allocation.declared.connection.Connection.{Connection}
+use Rattle.turn_client_proto_connection.specs.Sockets.{is_from}
+use Rattle.turn_client_proto_connection.specs.Streams.{awaiting}
+use Rattle.turn_client_proto_connection.proofs.streams.await_in.Goals as goal
+
+pub returns-in-Some : goal.returns-in-Some
+returns-in-Some c =
+    let all = c.args.connections.now in
+    let x : Connection = get_or all c.in-Some.place c.index-connections-place.result in
+    put_there (is_from c.args.here) (awaiting c.args.awaited) all c.in-Some.place x (record x { awaited = c.args.awaited }) (sym c.place_in.ensures ∙ c.in-Some.is) (ap (λ y. get_or all c.in-Some.place y) c.index-connections-place.is) refl

@@ -1,0 +1,27 @@
+use Rattle.std.proofs.Common.{List, [], Option, ap, drop, get_or, length, option_map, sym, take, ◌++◌, ◌∙◌}
+use Rattle.std.specs.List.{find}
+use Rattle.std.specs.Option.{option_and_then}
+use Rattle.turn_client_proto_channel.proofs.Permission.Allocation.Changes.{found_at, put_there}
+use Rattle.turn_client_proto_channel.proofs.Permission.Lent.{first_back}
+use Rattle.turn_client_proto_channel.specs.Permission.Allocation.Streams.{alive}
+use Rattle.turn_client_proto_channel.specs.Permission.Allocation.declared.allocation.Allocation.{Allocation}
+use Rattle.turn_client_proto_channel.specs.Permission.Allocation.declared.connection.Connection.{Connection}
+use Rattle.turn_client_proto_connection.specs.Streams.{emptied_in, has_raw, is_any_raw, raw_in, raw_kept, with_stream}
+use Rattle.turn_client_proto_connection.proofs.streams.take_raw.Goals as goal
+
+pub returns-clause-given : goal.returns-clause-given
+returns-clause-given c =
+    let all = c.args.allocations.now in
+    let x : Allocation = get_or all c.in_ok-place.place c.index-allocations-place.result in
+    c.take_in.ensures.given
+    ∙ ap (λ (l : List Connection). option_map raw_kept (find has_raw l)) c.as_mut_slice.ensures.value
+    ∙ sym (ap (λ (o : Option Allocation). option_map raw_kept (option_and_then raw_in o)) (found_at is_any_raw all c.in_ok-place.place x (sym c.place_of_raw.ensures ∙ c.in_ok-place.was) (ap (λ y. get_or all c.in_ok-place.place y) c.index-allocations-place.is)))
+
+pub returns-clause-after : goal.returns-clause-after
+returns-clause-after c =
+    let all = c.args.allocations.now in
+    let x : Allocation = get_or all c.in_ok-place.place c.index-allocations-place.result in
+    let left = c.take_in.new.connections in
+    put_there is_any_raw emptied_in all c.in_ok-place.place x (record x { connections = take (length x.connections) (left ++ drop (length left) x.connections) })
+    (sym c.place_of_raw.ensures ∙ c.in_ok-place.was) (ap (λ y. get_or all c.in_ok-place.place y) c.index-allocations-place.is)
+    (ap (λ l. record x { connections = l }) (first_back has_raw (with_stream (alive [])) x.connections c.as_mut_slice.result.now left c.as_mut_slice.ensures.value c.take_in.ensures.after))
