@@ -1,5 +1,5 @@
 #!/usr/bin/env python3
-"""Measures what calls of a client cost that holds many permissions and channels.
+"""Measures what calls of a client cost that holds many permissions and channels, and frames over a socket.
 
 It runs the program that `rt run` or `rt ci` built in `crates/turn_replay/out`, on traces in which a client
 is granted so many channels, each with its permission, and then on the same traces with many calls more at
@@ -7,7 +7,9 @@ the end. What these took is the difference, of processor time, the least of a fe
 that a line is read, and its answer printed. Binds are as many as there are channels, so the channels are
 twice as many in the end. A bind with 1,000 channels that takes more than 100 microseconds is a missed
 bound, and so is a `poll` with 1,000 permissions and channels that takes more than 30, and each of them
-with 4,000 that takes more than six times as long. It ends with 1 where a bound is missed.
+with 4,000 that takes more than six times as long. Over the socket of a connection that is to be bound frames
+come that tell nothing, 1,000 or 4,000 in a piece: that a frame of the latter takes more than twice as long is
+a missed bound, too. It ends with 1 where a bound is missed.
 """
 
 import os
@@ -18,23 +20,21 @@ from pathlib import Path
 TOP = Path(__file__).resolve().parent.parent
 PROGRAM = TOP / "crates/turn_replay/out/turn_replay"
 CLIENT, SERVER, RELAYED = "192.168.0.1:1000", "10.0.0.2:2000", "203.0.113.5:50000"
-SETUP = (
-    "desk realm sha1 auto\n"
-    "user user pass\n"
-    f"client udp {CLIENT} {SERVER} udp 4 sha1 auto user pass 0\n"
-)
+SOCKET, PEER = "192.168.0.1:1001", "10.0.0.3"
 MS = 1_000_000
 RUNS = 9
 FEW, MANY = 1_000, 4_000
-CALLS = 5_000
-BIND, POLL, GROWTH = 100.0, 30.0, 6.0
+CALLS, FRAMES = 5_000, 80_000
+BIND, POLL, GROWTH, OF_FRAMES = 100.0, 30.0, 6.0, 2.0
+# a BINDING indication
+FRAME = f"00110000{0x2112A442:08x}{1:024x}"
 
 
 class Lines:
     """The lines of a trace, which can name what earlier ones answered."""
 
-    def __init__(self):
-        self.lines = []
+    def __init__(self, transport="udp"):
+        self.transport, self.lines = transport, []
 
     def say(self, line):
         self.lines.append(line)
@@ -47,7 +47,20 @@ class Lines:
         self.say(f"toclient {now} {SERVER} {CLIENT} @{reply}")
 
     def text(self):
-        return SETUP + "".join(f"{line}\n" for line in self.lines)
+        over = self.transport
+        setup = (
+            "desk realm sha1 auto",
+            "user user pass",
+            f"client {over} {CLIENT} {SERVER} {over} 4 sha1 auto user pass 0",
+        )
+        return "".join(f"{line}\n" for line in (*setup, *self.lines))
+
+    def begins(self):
+        """The client has an allocation, and no event waits: at this moment."""
+        self.exchange(0, "refuse 400")
+        self.exchange(50 * MS, f"allocate {RELAYED} 3600")
+        self.say("event")
+        return 50 * MS
 
 
 def peer(i):
@@ -58,16 +71,27 @@ def peer(i):
 def holding(channels):
     """A client that holds so many channels, each with a permission; and the moment behind the last grant."""
     t = Lines()
-    t.exchange(0, "refuse 400")
-    t.exchange(50 * MS, f"allocate {RELAYED} 3600")
-    t.say("event")
-    now = 50 * MS
+    now = t.begins()
     for i in range(channels):
         t.say(f"bind {now} udp {peer(i)}")
         now += 50 * MS
         t.exchange(now, "grant")
         t.say("event")
         t.say("event")
+    return t, now
+
+
+def joining():
+    """A client over TCP that is asking for a connection to be bound, over its socket; and the moment of that."""
+    t = Lines("tcp")
+    now = t.begins()
+    for line, decision in ((f"permission {now} tcp {PEER}", "grant"), (f"connect {now} {PEER}:9000", "connect 7")):
+        t.say(line)
+        now += 50 * MS
+        t.exchange(now, decision)
+        t.say("event")
+    t.say(f"poll {now}")
+    t.say(f"socket {now} 7 {PEER}:9000 {SOCKET}")
     return t, now
 
 
@@ -102,6 +126,16 @@ def each(channels, calls, line):
     return (seconds(t.text()) - before) / calls * 1e6
 
 
+def each_frame(count):
+    """Microseconds of a frame, of so many in each piece over the socket of a connection that is to be bound."""
+    t, now = joining()
+    before = seconds(t.text())
+    for _ in range(FRAMES // count):
+        t.say(f"toclient {now} {SERVER} {SOCKET} {FRAME * count}")
+    t.say("connections")
+    return (seconds(t.text()) - before) / FRAMES * 1e6
+
+
 def told(name, few, many, most):
     is_met = few <= most and many <= GROWTH * few
     rest = "" if is_met else ", A MISSED BOUND"
@@ -121,6 +155,11 @@ def main():
     good = told("bind", *binds, BIND)
     good &= told("poll", *polls, POLL)
     good &= told("draw, with nothing to send", *draws, POLL)
+    few, many = (each_frame(n) for n in (FEW, MANY))
+    is_met = many <= OF_FRAMES * few
+    rest = "" if is_met else ", A MISSED BOUND"
+    print(f"a frame over a socket: {few:.2f} us of {FEW} in a piece, {many:.2f} of {MANY}{rest}")
+    good &= is_met
     return 0 if good else 1
 
 
