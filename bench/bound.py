@@ -469,7 +469,7 @@ def middle_ends(s):
 
 
 def middle_waits_too_long(s):
-    s.is_gone = True
+    s.is_over = True
     s.t.poll(THEN, LATE)
     closes(s.t, LATE, s.here)
     s.t.event(f"TcpConnectFailed {s.peer}")

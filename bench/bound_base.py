@@ -33,7 +33,7 @@ class Socket(Pieces):
 
     def __init__(self, t, here, peer, k):
         self.t, self.here, self.peer = t, here, peer
-        self.stream, self.is_bound, self.is_gone, self.is_heard = Stream(), False, False, here != CLIENT
+        self.stream, self.is_bound, self.is_over, self.is_heard = Stream(), False, False, here != CLIENT
         self.awaits(k)
         t.sockets.append(self)
 
@@ -50,14 +50,14 @@ class Socket(Pieces):
         if meant == BOUND:
             self.is_bound = True
         elif meant is None:
-            self.is_gone = True
+            self.is_over = True
         else:
             self.awaits(meant)
 
     def takes_up(self):
         """Frames are taken up, as long as it is to be bound: what the first one is."""
         first = None
-        while not (self.is_bound or self.is_gone) and (found := self.stream.look()):
+        while not (self.is_bound or self.is_over) and (found := self.stream.look()):
             kind, text = found
             if kind == "message":
                 self.hears(text)
@@ -66,28 +66,19 @@ class Socket(Pieces):
 
     def given(self):
         """Bytes of the peer that wait are given, where there are some."""
-        if self.is_gone or not self.is_bound or not self.stream.kept:
+        if self.is_over or not self.is_bound or not self.stream.kept:
             return None
         value, self.stream.kept = self.stream.kept, b""
         return peer_gives(self.peer, value, "tcp")
 
-    def taken(self, piece):
-        """What a piece of the server's is answered."""
-        if self.is_gone:
-            return "ignored"
-        if not piece:
-            self.is_gone = True
-            return "handled"
+    def takes(self, piece):
         self.stream.kept += b"" if self.stream.dead else piece
         if self.is_bound:
             return self.given()
         return "ignored" if self.takes_up() == "channel" else "handled"
 
-    def piece(self, now, piece, what=None):
-        """A piece comes: what it is answered."""
-        answer = self.taken(piece)
-        self.t.hear(now, piece if what is None else what, answer, to=self.here)
-        return answer
+    def hear(self, now, what, answer):
+        return self.t.hear(now, what, answer, to=self.here)
 
     # ---- lines
 
@@ -108,19 +99,19 @@ class Socket(Pieces):
 
     def has_failed(self, now):
         """That it has failed is told, and that it is to be closed."""
-        assert self.is_gone
+        assert self.is_over
         self.t.event(f"TcpConnectFailed {self.peer}")
         return closes(self.t, now, self.here)
 
     def is_closed(self, now):
         """The user closes it, and is told to."""
-        self.is_gone = True
+        self.is_over = True
         closed(self.t, now, self.here)
         return closes(self.t, now, self.here)
 
     def goes(self, now):
         """It goes with its allocation: nothing is told of it, and what comes to it is for nobody."""
-        self.is_gone = True
+        self.is_over = True
         return self.piece(now, b"late")
 
     def sends(self, now, value, what=None):

@@ -49,7 +49,25 @@ def spans(size, places):
 
 
 class Pieces:
-    """What takes pieces of a stream one by one, by `piece`."""
+    """What takes pieces of a stream one by one: `takes` has what one is answered that has bytes, and `hear` notes it.
+
+    Until `is_over` a piece of no bytes ends the stream.
+    """
+
+    def taken(self, piece):
+        """What a piece of the server's is answered."""
+        if self.is_over:
+            return "ignored"
+        if not piece:
+            self.is_over = True
+            return "handled"
+        return self.takes(piece)
+
+    def piece(self, now, piece, what=None):
+        """A piece comes: what it is answered."""
+        answer = self.taken(piece)
+        self.hear(now, piece if what is None else what, answer)
+        return answer
 
     def pieces(self, now, *pieces):
         """They come one behind another, and nothing of them is asked for: what each is answered."""
@@ -99,13 +117,7 @@ class Piped(Pieces, Trace):
                 return given
         return None
 
-    def taken(self, piece):
-        """What a piece of the server's is answered."""
-        if self.is_over:
-            return "ignored"
-        if not piece:
-            self.is_over = True
-            return "handled"
+    def takes(self, piece):
         self.kept += piece
         given = self.look()
         if given in (None, GARBLED):
@@ -113,12 +125,6 @@ class Piped(Pieces, Trace):
         if given in ("handled", "ignored"):
             return self.pulled() or given
         return given
-
-    def piece(self, now, piece, what=None):
-        """A piece comes: what it is answered."""
-        answer = self.taken(piece)
-        self.hear(now, piece if what is None else what, answer)
-        return answer
 
     def recv(self, now):
         """What waits is asked for: what is answered. Bytes that came over a socket are given first."""

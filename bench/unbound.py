@@ -187,7 +187,7 @@ def challenged_late():
     lists(t, (ONE, AT, 7))
     closes(t, now + LONGEST, ONE)
     t.event(f"TcpConnectFailed {AT}")
-    s.is_gone = True
+    s.is_over = True
     s.piece(now + LONGEST, success(CONNECTION_BIND, 5))
     t.poll(now + LONGEST, DUE)
     return "A CONNECTION_BIND is challenged after 30 seconds, and never again answered: 39.5 seconds begin anew", t
