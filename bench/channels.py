@@ -188,6 +188,16 @@ def no_allocation_of_the_family():
     return "The server has no addresses of IPv6: no channel to such a peer can be had", t
 
 
+def no_permission_of_the_family():
+    t = of_both_families(RELAYED)
+    t.event(f"AllocationCreated udp {RELAYED}")
+    t.event("AllocationCreateFailed 6")
+    t.permission(50 * MS, PEER_6, "refused NoAllocation")
+    t.permitted(50 * MS, 2, ONE_IP)
+    t.has(PEER_6, "no")
+    return "The server has no addresses of IPv6: no permission for such a peer can be had", t
+
+
 def refused_at_the_end_of_its_allocation():
     t = holding()
     bound(t, 400 * SECOND, 2, A, ONE)
@@ -535,10 +545,10 @@ def numbers_used_up():
 def asked_traces():
     return (
         channel_granted(), granted_channel_again(), channels_answered_in_reverse(), channels_refused(),
-        no_allocation_of_the_family(), refused_at_the_end_of_its_allocation(), gone_with_its_allocation(),
-        forbidden_channel(), forbidden_channel_again(), channel_lost(), under_a_permission(),
-        forbidden_under_a_permission(), beside_a_permission(), lost_beside_a_permission(), another_port(),
-        twice_to_one_peer(), the_second_granted_alone(), twice_to_one_peer_lapsed(),
+        no_allocation_of_the_family(), no_permission_of_the_family(), refused_at_the_end_of_its_allocation(),
+        gone_with_its_allocation(), forbidden_channel(), forbidden_channel_again(), channel_lost(),
+        under_a_permission(), forbidden_under_a_permission(), beside_a_permission(), lost_beside_a_permission(),
+        another_port(), twice_to_one_peer(), the_second_granted_alone(), twice_to_one_peer_lapsed(),
         channels_of_both_families(), shown_by_allocation(), number_of_the_other_family(),
         refused_in_the_middle(), gone_from_the_middle(), numbers_used_up(),
     )

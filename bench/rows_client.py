@@ -294,7 +294,7 @@ def sends():
                 row("send", "indication", peer, int.from_bytes(number, "big"), data.hex() or "-")(*sent(text))
     part("bytes as they are, and bytes that are written already")
     for kind in ("data", "owned"):
-        for data in (b"\5" * 5, b"abc", *of_sizes):
+        for data in (b"\5" * 5, b"\7" * 7, b"abc", *of_sizes):
             row("send", kind, data.hex() or "-")(*sent(data))
 
 

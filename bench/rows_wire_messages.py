@@ -66,7 +66,9 @@ def headers():
         for bit in range(8):
             turned.append(whole[:at] + bytes([whole[at] ^ 1 << bit]) + whole[at + 1 :])
     sends = [message(0x10 | it, NUMBER, [(0x12, xored("127.0.0.1:1", NUMBER))]) for it in (SEND, DATA)]
-    for data in [whole[:it] for it in range(21)] + turned + [whole + b"\1", UNSIGNED, *sends]:
+    # six bytes, of which the last is no part of a cookie, and five that may begin one
+    fronts = [bytes.fromhex(it) for it in ("000100082100", "0001000821")]
+    for data in [whole[:it] for it in range(21)] + turned + [whole + b"\1", UNSIGNED, *sends, *fronts]:
         row("header", data)(*answer_of(type_told, data), "|", *answer_of(header_told, data))
     for first in (0x3F, 0x40, 0x80, 0xC0, 0xFF):
         data = bytes([first])

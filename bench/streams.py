@@ -53,6 +53,17 @@ def handshake_in_bytes():
     return "Over TCP the challenge and the grant come byte by byte", t
 
 
+def handshake_asked_for():
+    t = over()
+    by_bytes(t, 0, t.challenged(), challenge(0))
+    t.poll(0, 50 * MS)
+    drawn = t.draw(50 * MS, signed_allocate(1, HASHED))
+    line = t.ask(50 * MS, f"@{drawn}", f"allocate {RELAYED} 600", grant(1))
+    by_bytes(t, 50 * MS, line, grant(1))
+    t.is_created(RELAYED)
+    return "Over TCP the challenge and the grant come byte by byte, and behind each what waits is asked for", t
+
+
 def handshakes_in_two():
     """The longer one is cut at each place, and the other one as far as it goes."""
     size, other = len(challenge(0)), len(grant(1))
@@ -522,8 +533,8 @@ def example():
 
 def stream_traces():
     yield from (
-        whole_handshake(), handshake_in_bytes(), *handshakes_in_two(), *handshakes_at_random(), all_in_bytes(),
-        waiting_for_a_byte(), before_it_asks(),
+        whole_handshake(), handshake_in_bytes(), handshake_asked_for(), *handshakes_in_two(),
+        *handshakes_at_random(), all_in_bytes(), waiting_for_a_byte(), before_it_asks(),
         handshake_of_both_families(), *each_setting(), nobody_answers(), nobody_answers_at_other_waits(), deleted(),
         renewal_lost(), permission_and_channel(), stale_nonces(), stale_renewal(), second_challenge(),
         reflected_request(), ten_challenges(), grant_twice(), forged_grant(), stream_whole(), stream_in_two(),

@@ -5,7 +5,7 @@
 from bound_base import BOUND, FOURTH, NOW, Socket, ends, joining, payload
 from channels import A
 from connections import AT, CONNECT, NEXT_TO, asks, connect
-from payloads import HI, data, fingerprinted, of, told
+from payloads import HI, data, fingerprinted, not_sent, of, told
 from permissions import DUE, NAMED_ANEW, OTHER_NONCE, PEER_3
 from sockets import CONNECTION_BIND, ONE, UNTIL, awaiting, bind, closed, closes, draws_from, lists, opens
 from streams_base import BROKEN, DATA_OF_1, LONGEST, MARKED, ODD, padded, places_within, spans
@@ -79,6 +79,20 @@ def refused_with_more():
     t.event("none")
     t.poll(NOW, DUE)
     return "An error comes over a connection's socket, and in the same piece its grant: it has failed", t
+
+
+def nothing_sent():
+    for what, text in (
+        ("An error tells that there is a connection to the peer", error(CONNECTION_BIND, 4, code(446))),
+        ("A success over a socket is signed for another realm", signed(SUCCESS, realm=b"wrong-realm")),
+    ):
+        t, s = joining()
+        s.piece(NOW, text)
+        t.event(f"TcpConnectFailed {AT}")
+        not_sent(t, NOW, AT, "NoTcpSocket", bytes([4] * 9), "tcp")
+        closes(t, NOW, ONE)
+        not_sent(t, NOW, AT, "NoTcpSocket", bytes([4] * 9), "tcp")
+        yield f"{what}: the connection fails, and nothing goes to the peer", t
 
 
 def refused_in_pieces():
@@ -474,7 +488,7 @@ def own_address_ended():
 
 def unbound_traces():
     yield from (
-        *each_refused(), refused_with_more(), refused_in_pieces(), told_more(), *challenged(),
+        *each_refused(), refused_with_more(), *nothing_sent(), refused_in_pieces(), told_more(), *challenged(),
         grant_of_the_one_before(), challenged_twice(), challenge_and_grant(), challenged_late(), many_challenges(),
         *uncounted(), granted_there_first(), challenged_there_first(), passed_by_one_by_one(), *passed_by_in_one(),
         *passed_by_at_random(), grant_of_a_permission(), *broken_stream(), too_long(), own_address_never_bound(),

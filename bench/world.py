@@ -3,11 +3,12 @@
 
 It knows nothing of the repository's code: messages and numbers are written by `traces.py`. The moments
 were worked out by hand, from the waits that a client is documented to have. It was run once, and what it
-wrote is stored: eight examples, and the traces of a client and a desk in the stored run of `turn_traces`,
-behind those of a desk alone. The traces of permissions are in `permissions.py`, those of channels in
-`channels.py` and `channels_later.py`, those of sends and payloads in `payloads.py`, those of a client over
-TCP in `streams.py`, those of connections in `connections.py`, those of their sockets in `sockets.py`, and
-those of what comes over these in `bound.py`.
+wrote is stored: nine examples, and the traces of a client and a desk in the stored run of `turn_traces`,
+behind those of a desk alone. Those with a stranger at the desk are in `strangers.py`, those of permissions
+in `permissions.py`, those of channels in `channels.py` and `channels_later.py`, those of sends and payloads
+in `payloads.py`, those of a client over TCP in `streams.py`, those of connections in `connections.py`, those
+of their sockets in `sockets.py`, those of what comes over these in `bound.py`, and those of connections that
+peers begin in `attempts_later.py`.
 """
 
 import hashlib
@@ -557,12 +558,14 @@ def each_setting():
 
 def good_traces():
     # they take their words from this file
+    from attempts_later import attempt_traces
     from bound import bound_traces
     from channels_later import channel_traces
     from payloads import payload_traces
     from permissions import permission_traces
     from connections import connection_traces
     from sockets import socket_traces
+    from strangers import stranger_traces
     from streams import stream_traces
 
     yield from (
@@ -575,9 +578,9 @@ def good_traces():
         *signed_answered(), signed_request(), expired(), stale_allocate(), half_stale(),
         family_unknown(), family_not_supported(), both_families(), refresh_times_out(),
         *refreshes_answered(), stale_refresh(), stale_refresh_lost(), stale_deletion(),
-        mismatched_deletion(), *each_setting(), *permission_traces(), *channel_traces(),
+        mismatched_deletion(), *each_setting(), *stranger_traces(), *permission_traces(), *channel_traces(),
         *payload_traces(), *stream_traces(), *connection_traces(), *socket_traces(),
-        *bound_traces(),
+        *bound_traces(), *attempt_traces(),
     )
 
 
@@ -691,6 +694,7 @@ def all_traces():
 
 
 def examples():
+    from attempts import example as example_of_attempts
     from bound import example as example_of_connections
     from channels import granted_channel_again
     from payloads import example
@@ -705,6 +709,7 @@ def examples():
     yield "payload", example()
     yield "tcp", example_over_tcp()
     yield "connection", example_of_connections()
+    yield "attempt", example_of_attempts()
 
 
 def store_examples():

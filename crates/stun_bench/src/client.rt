@@ -16,7 +16,8 @@ use turn_client_proto::stun::auth::LongTermServerAuth;
 use turn_client_proto::tcp::TurnClientTcp;
 use turn_client_proto::types::TurnCredentials;
 use turn_client_proto::udp::TurnClientUdp;
-use turn_desk::{Decision, Desk};
+use turn_desk_core::decision::Decision;
+use turn_desk_core::desk::Desk;
 use turn_types::prelude::DelayedTransmitBuild;
 
 /// So long a client waits between two requests, in nanoseconds (RFC 8489, section 6.2.1).

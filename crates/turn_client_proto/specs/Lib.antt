@@ -38,6 +38,7 @@ pub use Rattle.turn_client_proto_receipt.specs.Api
 pub use Rattle.turn_client_proto_receipt.specs.Channel
 pub use Rattle.turn_client_proto_receipt.specs.Permission
 -- What stands above this crate has these through it.
+pub use Rattle.turn_client_proto_receipt.specs.Adding
 pub use Rattle.turn_client_proto_receipt.specs.Headline
 pub use Rattle.turn_client_proto_receipt.specs.Indications
 pub use Rattle.turn_client_proto_receipt.specs.Members

@@ -165,14 +165,15 @@ pub trait TurnClientApi: Debug + Send {
     /// (RFC 6062, section 4.3), by the number with which `AllocateTcpSocket` asked for it; the five-tuple is
     /// that of the client's own connection to the server, which that answer tells. Then the client asks over
     /// the new socket that the connection be bound, which the server may answer within 39.5 seconds. Without
-    /// a socket the connection is forgotten.
+    /// a socket the connection is forgotten. Where a peer began it, the server's CONNECTION_ATTEMPT is answered
+    /// first (section 4.4): by a success, or without a socket by 447, Connection Timeout or Failure.
     ///
     /// It is refused, by the first that holds, with `NoAllocation` where no connection of that number and to
     /// that peer waits for its socket, the client has not allocated over TCP or has ended, or the five-tuple
     /// isn't its own; with `AlreadyExists` where another data connection has that own address; with
-    /// `NoMemory`. Nothing changes then but the words that were drawn where memory is refused. A socket with
-    /// the own address of the client's connection to the server is taken: then what comes to it is no longer
-    /// that connection's.
+    /// `NoMemory`, without a socket only where an answer is to wait. Nothing changes then but the words that
+    /// were drawn where memory is refused for a socket. A socket with the own address of the client's
+    /// connection to the server is taken: then what comes to it is no longer that connection's.
     fn allocated_tcp_socket(
         &mut self,
         id: u32,
@@ -275,6 +276,14 @@ pub trait TurnClientApi: Debug + Send {
     /// the end of the socket, as `tcp_closed`, and `Handled`; behind it all is `Ignored`. A socket that has
     /// the client's own address takes the place of the stream, and its messages are the stream's; its
     /// connection is never bound.
+    ///
+    /// A CONNECTION_ATTEMPT, by which the server tells that a peer began a connection, is for the client where
+    /// it validates as a response does, and the server has allocated (RFC 6062, section 4.4). An answer of its
+    /// own number waits then: 400, where it names no connection or no peer, or no allocation over the client's
+    /// own transport is of the peer's family; 446, Connection Already Exists, where that allocation has a
+    /// connection to the peer, or waits for the socket of one. Else `poll` asks for a socket by
+    /// `AllocateTcpSocket`, and `allocated_tcp_socket` has the answer. `poll_transmit` gives answers, without
+    /// the pause between two messages.
     ///
     /// Where memory is refused, `NoMemory`, with what came: the client has failed. It is asked for
     /// where there is something to keep or to tell of a message: `handle_message` of

@@ -17,7 +17,7 @@ use crate::refresh::{PendingRefresh, is_any_refresh, lifetime_asked};
 use std::alloc::Global;
 use std::net::SocketAddr;
 use std::time::Duration;
-use stun_proto::Instant;
+use stun_proto_agent::instant::Instant;
 use stun_types::message::TransactionId;
 use stun_types::{ListOf, NoMemory, TransportType};
 

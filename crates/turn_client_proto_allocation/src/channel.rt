@@ -8,7 +8,7 @@ ghost use Rattle.turn_client_proto_allocation.specs.Awaited.{asks_for_channel, h
 use crate::numbers::has_number;
 use std::marker::Model;
 use std::net::SocketAddr;
-use stun_proto::Instant;
+use stun_proto_agent::instant::Instant;
 use stun_types::ListOf;
 use stun_types::message::TransactionId;
 

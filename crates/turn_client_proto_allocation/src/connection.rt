@@ -5,7 +5,7 @@ ghost use Rattle.std.specs.List.{list_any};
 ghost use Rattle.turn_client_proto_allocation.specs.Awaited.{is_attempt, is_binding, is_connecting};
 
 use std::net::SocketAddr;
-use stun_proto::Instant;
+use stun_proto_agent::instant::Instant;
 use stun_types::message::TransactionId;
 use turn_types::tcp::TurnTcpBuffer;
 

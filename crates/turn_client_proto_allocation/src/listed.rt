@@ -3,7 +3,7 @@
 ghost use Rattle.std.specs.Prelude.{◌≡◌, ◌++◌, ◌∷◌, [], List, OnOk, OnErr, map};
 ghost use Rattle.std.specs.Borrow.{sem};
 ghost use Rattle.std.specs.List.{list_any};
-ghost use Rattle.stun_proto.specs.Least.{IsLeastOf};
+ghost use Rattle.stun_proto_agent.specs.Least.{IsLeastOf};
 ghost use Rattle.turn_client_proto_allocation.specs.Lending.{LendsAllocations};
 ghost use Rattle.turn_client_proto_allocation.specs.Listed.{is_any_awaited};
 ghost use Rattle.turn_client_proto_allocation.specs.Polling.{earlier, kept, nexts, polled};
@@ -15,7 +15,7 @@ use crate::allocation::Allocation;
 use crate::refresh::PendingRefresh;
 use std::alloc::Global;
 use std::marker::Model;
-use stun_proto::Instant;
+use stun_proto_agent::instant::Instant;
 use stun_types::NoMemory;
 use stun_types::message::TransactionId;
 

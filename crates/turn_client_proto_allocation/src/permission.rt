@@ -8,7 +8,7 @@ ghost use Rattle.turn_client_proto_allocation.specs.Permissions.{has_lapsed, is_
 use crate::numbers::{has_number, is_among};
 use std::alloc::Global;
 use std::net::IpAddr;
-use stun_proto::Instant;
+use stun_proto_agent::instant::Instant;
 use stun_types::message::TransactionId;
 use stun_types::{ListOf, NoMemory};
 

@@ -5,7 +5,7 @@ ghost use Rattle.turn_client_proto_allocation.specs.Awaited.{asks_for_permission
 ghost use Rattle.turn_client_proto_allocation.specs.Permissions.{asked_again, polled_permission, renewed_again, renewed_first, renewed_permission, wants_renewal};
 
 use crate::permission::{PendingPermission, Permission};
-use stun_proto::Instant;
+use stun_proto_agent::instant::Instant;
 use stun_types::NoMemory;
 use stun_types::message::TransactionId;
 

@@ -7,6 +7,7 @@ use Rattle.turn_client_proto_channel.specs.Permission.Allocation.Polling.{earlie
 use Rattle.turn_client_proto_channel.specs.Permission.Allocation.declared.allocation.Allocation.{Allocation}
 use Rattle.turn_client_proto_channel.specs.Permission.Allocation.declared.connection.Binding.{Binding}
 use Rattle.turn_client_proto_channel.specs.Permission.Allocation.declared.connection.Connection.{Connection}
+use Rattle.turn_client_proto_connection.specs.Attempts.{not_lost}
 use Rattle.turn_client_proto_connection.specs.Told.{given_up}
 
 -- the transaction that ended is that of this number
@@ -37,9 +38,13 @@ all_gone ended now allocations = flat_map (λ (a : Allocation). sockets_gone end
 abbrev pub not_gone : Option ℕ → ℕ → List Connection → List Connection
 not_gone ended now connections = filter (λ c. not (has_gone ended now c)) connections
 
--- an allocation with those, and without the connections that were asked for and whose request ended
+-- an allocation with those, without the connections that were asked for and whose request ended, and without those that
+-- peers began by a request of that number
 unfoldable pub polled : Option ℕ → ℕ → Allocation → Allocation
-polled ended now a = record (given_up ended a) { connections = not_gone ended now a.connections }
+polled ended now a = record (given_up ended a) {
+  connections = not_gone ended now a.connections;
+  waiting = not_lost ended a.waiting;
+}
 
 -- ---- when
 

@@ -1,4 +1,5 @@
 pub mod Asking
+pub mod Attempts
 pub mod Lapsing
 pub mod Shown
 pub mod Sockets

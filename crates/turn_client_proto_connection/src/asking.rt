@@ -17,14 +17,14 @@ use turn_client_proto_channel::permission::api::error::TcpConnectError;
 use turn_client_proto_channel::permission::one::permits;
 
 /// Whether one of the connections is to a peer.
-fn is_any_joined(connections: &[Connection], peer: SocketAddr) -> bool
+pub(crate) fn is_any_joined(connections: &[Connection], peer: SocketAddr) -> bool
     ensures { result ≡ list_any (is_joined_to peer) connections.now }
 {
     connections.iter().any(|c| c.peer == peer)
 }
 
 /// Whether one of the connections that wait for their socket is to a peer.
-fn is_any_waiting(waiting: &[Waiting], peer: SocketAddr) -> bool
+pub(crate) fn is_any_waiting(waiting: &[Waiting], peer: SocketAddr) -> bool
     ensures { result ≡ list_any (is_waiting_for peer) waiting.now }
 {
     waiting.iter().any(|w| w.peer == peer)

@@ -5,6 +5,7 @@ ghost use Rattle.turn_client_proto_channel.specs.Permission.Api.Least.{IsLeastOf
 ghost use Rattle.turn_client_proto_channel.specs.Permission.Api.declared.event.TurnEvent.TheVariants.{TcpConnectFailed};
 ghost use Rattle.turn_client_proto_connection.specs.Lapsing.{all_gone, all_nexts, earlier_of, has_gone, is_ended, peers_gone, polled, sockets_gone};
 
+use crate::attempts::drop_lost;
 use crate::told::is_over;
 use std::net::SocketAddr;
 use stun_types::NoMemory;
@@ -95,7 +96,8 @@ pub fn close_all_gone(
 }
 
 /// Time has come to a moment, and the transaction of this number has ended: in each allocation, each
-/// connection that its request asked for goes, and each that is not bound and was to be by then.
+/// connection that its request asked for goes, each that is not bound and was to be by then, and the first
+/// that a peer began by a request of the server's with that number.
 #[tactic(auto, unfolding(crate::specs::Told::given_up, crate::specs::Lapsing::polled))]
 pub fn poll(allocations: &mut [Allocation], ended: &Option<TransactionId>, now: Instant)
     ensures { allocations.new ≡ map (polled ended.now now) allocations.old }
@@ -103,6 +105,7 @@ pub fn poll(allocations: &mut [Allocation], ended: &Option<TransactionId>, now: 
     for allocation in allocations.iter_mut() {
         allocation.connecting.retain(|c| !is_over(c, ended));
         allocation.connections.retain(|c| !has_gone(c, ended, now));
+        drop_lost(&mut allocation.waiting, ended);
     }
 }
 

@@ -3,13 +3,13 @@
 ghost use Rattle.std.specs.Prelude.{◌≡◌, ◌<◌, List, OnOk, OnErr, IfSome, Some, length, map, position, slice_get, slice_set};
 ghost use Rattle.turn_client_proto_channel.specs.Permission.Allocation.declared.allocation.Allocation.{Allocation as Kept};
 ghost use Rattle.turn_client_proto_channel.specs.Permission.Allocation.declared.connection.Connection.{Connection as Joined};
-ghost use Rattle.turn_client_proto_connection.specs.Sockets.{awaits_socket, binding, closed, has_from, is_any_from, let_go, to_bind};
+ghost use Rattle.turn_client_proto_connection.specs.Sockets.{awaits_socket, binding, closed, has_from, is_any_from, is_socket_for, let_go, not_for, to_bind};
 
 use std::alloc::Global;
 use std::net::SocketAddr;
-use stun_types::NoMemory;
+use stun_types::{ListOf, NoMemory};
 use turn_client_proto_channel::permission::allocation::allocation::Allocation;
-use turn_client_proto_channel::permission::allocation::connection::{Binding, Connection};
+use turn_client_proto_channel::permission::allocation::connection::{Binding, Connection, Waiting};
 use turn_client_proto_channel::permission::allocation::listed::Allocations;
 use turn_client_proto_channel::permission::allocation::tcp::TurnTcpBuffer;
 
@@ -85,14 +85,31 @@ pub fn forget(allocations: &mut Allocations, place: usize)
     items[place].connections.pop();
 }
 
-/// The connection of a number and to a peer waits for its socket no more.
+/// The place of the first of some connections that has a number and is to a peer.
+pub(crate) fn place_among(waiting: &[Waiting], connection: u32, peer: SocketAddr) -> Option<usize>
+    ensures { result ≡ position (is_socket_for connection peer) waiting.now }
+{
+    waiting
+        .iter()
+        .position(|w| w.connection == connection && w.peer == peer)
+}
+
+/// That connection waits for its socket no more.
+fn drop_first(waiting: &mut ListOf<Waiting>, connection: u32, peer: SocketAddr)
+    ensures { waiting.new ≡ not_for connection peer waiting.old }
+{
+    if let Some(place) = place_among(waiting.as_slice(), connection, peer) {
+        waiting.remove(place);
+    }
+}
+
+/// In each allocation the first connection of a number and to a peer waits for its socket no more.
 #[tactic(auto, unfolding(crate::specs::Sockets::let_go))]
 pub fn let_go(allocations: &mut [Allocation], connection: u32, peer: SocketAddr)
     ensures { allocations.new ≡ map (let_go connection peer) allocations.old }
 {
     for allocation in allocations.iter_mut() {
-        let waiting = &mut allocation.waiting;
-        waiting.retain(|w| !(w.connection == connection && w.peer == peer));
+        drop_first(&mut allocation.waiting, connection, peer);
     }
 }
 

@@ -10,8 +10,8 @@ use Rattle.stun_types.specs.declared.transport.TransportType.{TransportType}
 use Rattle.turn_client_proto_connection.proofs.Allocation.Changes.{change_first_at}
 use Rattle.turn_client_proto_connection.specs.Allocation.declared.allocation.Allocation.{Allocation}
 use Rattle.turn_client_proto_connection.specs.Allocation.declared.channel.PendingChannel.{PendingChannel}
-use Rattle.turn_client_proto_api.specs.declared.error.BindChannelError.{BindChannelError}
-use Rattle.turn_client_proto_api.specs.declared.error.BindChannelError.TheVariants.{NoAllocation, NoChannel, NoMemory}
+use Rattle.turn_client_proto_connection.specs.Channel.Permission.Api.declared.error.BindChannelError.{BindChannelError}
+use Rattle.turn_client_proto_connection.specs.Channel.Permission.Api.declared.error.BindChannelError.TheVariants.{NoAllocation, NoChannel, NoMemory}
 use Rattle.turn_client_proto_connection.proofs.Channel.Permission.Undoing.{set_again}
 use Rattle.turn_client_proto_connection.specs.Channel.Binding.{asking, barring}
 use Rattle.turn_client_proto_connection.specs.Channel.Numbers.{IsLeastFree}

@@ -7,8 +7,8 @@ use Rattle.std.specs.declared.net.socket_addr.SocketAddr.{SocketAddr}
 use Rattle.stun_types.specs.declared.transport.TransportType.{TransportType}
 use Rattle.turn_client_proto_connection.proofs.Allocation.Changes.{found_at}
 use Rattle.turn_client_proto_connection.specs.Allocation.declared.allocation.Allocation.{Allocation}
-use Rattle.turn_client_proto_api.specs.declared.event.TurnEvent.{TurnEvent}
-use Rattle.turn_client_proto_api.specs.declared.event.TurnEvent.TheVariants.{ChannelCreated, ChannelCreateFailed, PermissionCreated, PermissionCreateFailed}
+use Rattle.turn_client_proto_connection.specs.Channel.Permission.Api.declared.event.TurnEvent.{TurnEvent}
+use Rattle.turn_client_proto_connection.specs.Channel.Permission.Api.declared.event.TurnEvent.TheVariants.{ChannelCreated, ChannelCreateFailed, PermissionCreated, PermissionCreateFailed}
 use Rattle.turn_client_proto_connection.proofs.Channel.Granting.{permitted_awaits}
 use Rattle.turn_client_proto_connection.specs.Channel.Awaited.{asked_by, awaits_reply}
 use Rattle.turn_client_proto_connection.specs.Channel.Granted.{all_bound, all_permitted, let_lapse, permission_asked, renewed, turned_down}

@@ -1,7 +1,7 @@
 -- An end that is asked for.
 use Rattle.std.proofs.Common.{◌≡◌, ℕ, true, List, [], ◌∷◌, Option, None, Ok, Err, refl, sym, ap, ◌∙◌, subst}
 use Rattle.std.specs.Prelude.{map, IfNone, IfSome}
-use Rattle.turn_client_proto_api.specs.declared.error.DeleteError.{DeleteError}
+use Rattle.turn_client_proto_connection.specs.Channel.Permission.Api.declared.error.DeleteError.{DeleteError}
 use Rattle.turn_client_proto_request.specs.declared.request.TurnRequest.TheVariants.{Refresh}
 use Rattle.turn_client_proto_core.specs.Asking.{asked}
 use Rattle.turn_client_proto_core.specs.Deleting.{IsDeleteAnswered, IsDeleted, after_delete, delete_refusal, is_authenticated}

@@ -5,8 +5,8 @@ use Rattle.std.specs.declared.net.ip_addr.IpAddr.{IpAddr}
 use Rattle.stun_types.specs.declared.transport.TransportType.{TransportType}
 use Rattle.turn_client_proto_connection.proofs.Allocation.Changes.{change_first_at}
 use Rattle.turn_client_proto_connection.specs.Allocation.declared.allocation.Allocation.{Allocation}
-use Rattle.turn_client_proto_api.specs.declared.error.CreatePermissionError.{CreatePermissionError}
-use Rattle.turn_client_proto_api.specs.declared.error.CreatePermissionError.TheVariants.{AlreadyExists, NoAllocation, NoMemory}
+use Rattle.turn_client_proto_connection.specs.Channel.Permission.Api.declared.error.CreatePermissionError.{CreatePermissionError}
+use Rattle.turn_client_proto_connection.specs.Channel.Permission.Api.declared.error.CreatePermissionError.TheVariants.{AlreadyExists, NoAllocation, NoMemory}
 use Rattle.turn_client_proto_connection.specs.Channel.Permission.Asking.{asking, is_of, is_past, knows}
 use Rattle.turn_client_proto_request.specs.ToldRequests.{IsLawfulRequest}
 use Rattle.turn_client_proto_request.specs.declared.request.TurnRequest.TheVariants.{CreatePermission}

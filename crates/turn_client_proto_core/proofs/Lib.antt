@@ -7,6 +7,7 @@ pub mod Places
 pub mod Results
 pub mod Sendable
 pub mod Shown
+pub mod Tried
 pub mod UnderWay
 pub mod Usual
 -- What stands above this crate has these through it.

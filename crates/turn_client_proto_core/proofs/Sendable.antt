@@ -2,8 +2,8 @@
 use Rattle.std.proofs.Common.{◌≡◌, ℕ, true, List, None, refl, ap, ◌∙◌}
 use Rattle.std.specs.FinMap as map
 use Rattle.stun_types.specs.Grammar.{number_at, refusal}
-use Rattle.turn_client_proto_api.specs.Sending.{is_request, request_refusal}
-use Rattle.turn_client_proto_api.specs.State.{Agent}
+use Rattle.turn_client_proto_connection.specs.Channel.Permission.Api.Sending.{is_request, request_refusal}
+use Rattle.turn_client_proto_connection.specs.Channel.Permission.Api.State.{Agent}
 use Rattle.turn_client_proto_core.specs.Numbering.{IsUnused}
 
 pub sendable : (agent : Agent) (bytes : List ℕ) (number : ℕ) → refusal bytes ≡ None → is_request bytes ≡ true → number_at bytes ≡ number → IsUnused agent number

@@ -3,8 +3,8 @@ use Rattle.std.proofs.Common.{◌≡◌, ℕ, ◌<◌, ◌^◌, None, refl, ap, 
 use Rattle.std.specs.FinMap as map
 use Rattle.stun_types.specs.Grammar.{number_at}
 use Rattle.stun_types.specs.Text.{header_text, message_text}
-use Rattle.turn_client_proto_api.specs.Client.{Client}
-use Rattle.turn_client_proto_api.specs.State.{Agent}
+use Rattle.turn_client_proto_connection.specs.Channel.Permission.Api.Client.{Client}
+use Rattle.turn_client_proto_connection.specs.Channel.Permission.Api.State.{Agent}
 use Rattle.turn_client_proto_request.specs.Requests.{request_text}
 use Rattle.turn_client_proto_request.specs.ShortTexts.{HasShortTexts}
 use Rattle.turn_client_proto_request.specs.declared.request.TurnRequest.{TurnRequest}

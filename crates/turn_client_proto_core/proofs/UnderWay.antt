@@ -2,8 +2,8 @@
 use Rattle.std.proofs.Common.{◌≡◌, ℕ, Result, Ok, Err, refl, sym, ap, ◌∙◌, subst, inl, inr}
 use Rattle.std.specs.Prelude.{OnErr, take, length}
 use Rattle.rand_chacha.specs.ChaCha.{ChaCha}
-use Rattle.turn_client_proto_api.specs.State.{Agent}
-use Rattle.turn_client_proto_api.specs.Sending.{IsAfterTransmit}
+use Rattle.turn_client_proto_connection.specs.Channel.Permission.Api.State.{Agent}
+use Rattle.turn_client_proto_connection.specs.Channel.Permission.Api.Sending.{IsAfterTransmit}
 use Rattle.turn_client_proto_core.specs.Ending.{HasFailed, IsUnderWay, failed}
 use Rattle.turn_client_proto_core.specs.Numbering.{HasDrawn}
 use Rattle.turn_client_proto_core.specs.declared.protocol.Protocol.{Protocol}

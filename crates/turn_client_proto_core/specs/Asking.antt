@@ -1,7 +1,7 @@
 -- What a client keeps of a request that it makes (RFC 8489, section 6.2).
 use Rattle.std.specs.Prelude.{ℕ, true, List, [], ◌∷◌, ◌++◌}
 use Rattle.std.specs.declared.net.socket_addr.SocketAddr.{SocketAddr}
-use Rattle.turn_client_proto_api.specs.Sending.{with_request}
+use Rattle.turn_client_proto_connection.specs.Channel.Permission.Api.Sending.{with_request}
 use Rattle.turn_client_proto_request.specs.Requests.{request_text}
 use Rattle.turn_client_proto_request.specs.declared.request.TurnRequest.{TurnRequest}
 use Rattle.turn_client_proto_core.specs.Waiting.{Queued}

@@ -12,10 +12,10 @@ use Rattle.stun_types.specs.Types.{class_of}
 use Rattle.stun_types.specs.declared.transport.TransportType.{TransportType}
 use Rattle.turn_client_proto_connection.specs.Allocation.Changes.{change_first}
 use Rattle.turn_client_proto_connection.specs.Allocation.declared.allocation.Allocation.{Allocation}
-use Rattle.turn_client_proto_api.specs.declared.error.BindChannelError.{BindChannelError}
-use Rattle.turn_client_proto_api.specs.declared.error.BindChannelError.TheVariants.{NoAllocation, NoChannel, NoMemory}
-use Rattle.turn_client_proto_api.specs.declared.event.TurnEvent.{TurnEvent}
-use Rattle.turn_client_proto_api.specs.declared.event.TurnEvent.TheVariants.{ChannelCreated, ChannelCreateFailed, PermissionCreated, PermissionCreateFailed}
+use Rattle.turn_client_proto_connection.specs.Channel.Permission.Api.declared.error.BindChannelError.{BindChannelError}
+use Rattle.turn_client_proto_connection.specs.Channel.Permission.Api.declared.error.BindChannelError.TheVariants.{NoAllocation, NoChannel, NoMemory}
+use Rattle.turn_client_proto_connection.specs.Channel.Permission.Api.declared.event.TurnEvent.{TurnEvent}
+use Rattle.turn_client_proto_connection.specs.Channel.Permission.Api.declared.event.TurnEvent.TheVariants.{ChannelCreated, ChannelCreateFailed, PermissionCreated, PermissionCreateFailed}
 use Rattle.turn_client_proto_connection.specs.Channel.Permission.Asking.{is_of, is_past, knows, marked}
 use Rattle.turn_client_proto_connection.specs.Channel.Permission.Asking as permissions
 use Rattle.turn_client_proto_connection.specs.Channel.Permission.Granted as permitted

@@ -4,7 +4,7 @@ use Rattle.std.specs.FinMap as map
 use Rattle.rand_chacha.specs.ChaCha.{ChaCha, next_word}
 use Rattle.turn_client_proto_connection.specs.Allocation.Awaited.{has_number}
 use Rattle.turn_client_proto_connection.specs.Allocation.Listed.{is_any_awaited}
-use Rattle.turn_client_proto_api.specs.State.{Agent}
+use Rattle.turn_client_proto_connection.specs.Channel.Permission.Api.State.{Agent}
 use Rattle.turn_client_proto_core.specs.declared.protocol.Phase.{Phase}
 use Rattle.turn_client_proto_core.specs.declared.protocol.Phase.TheVariants.{Initial, InitialSent, Authenticating, Authenticated, Ended}
 use Rattle.turn_client_proto_core.specs.declared.protocol.Protocol.{Protocol}

@@ -9,9 +9,9 @@ use Rattle.stun_types.specs.Types.{class_of}
 use Rattle.stun_types.specs.declared.transport.TransportType.{TransportType}
 use Rattle.turn_client_proto_connection.specs.Allocation.Changes.{change_first}
 use Rattle.turn_client_proto_connection.specs.Allocation.declared.allocation.Allocation.{Allocation}
-use Rattle.turn_client_proto_api.specs.declared.error.CreatePermissionError.{CreatePermissionError}
-use Rattle.turn_client_proto_api.specs.declared.error.CreatePermissionError.TheVariants.{AlreadyExists, NoAllocation, NoMemory}
-use Rattle.turn_client_proto_api.specs.declared.event.TurnEvent.TheVariants.{PermissionCreated, PermissionCreateFailed}
+use Rattle.turn_client_proto_connection.specs.Channel.Permission.Api.declared.error.CreatePermissionError.{CreatePermissionError}
+use Rattle.turn_client_proto_connection.specs.Channel.Permission.Api.declared.error.CreatePermissionError.TheVariants.{AlreadyExists, NoAllocation, NoMemory}
+use Rattle.turn_client_proto_connection.specs.Channel.Permission.Api.declared.event.TurnEvent.TheVariants.{PermissionCreated, PermissionCreateFailed}
 use Rattle.turn_client_proto_connection.specs.Channel.Permission.Asking.{asking, is_of, is_past, knows, marked}
 use Rattle.turn_client_proto_connection.specs.Channel.Awaited.{asked_by}
 use Rattle.turn_client_proto_connection.specs.Channel.Granted.{all_permitted}

@@ -1,10 +1,10 @@
 -- What a client makes of a message that came from the server (RFC 8489, section 6.3; RFC 8656).
 use Rattle.std.specs.Prelude.{◌≡◌, ◌≢◌, ℕ, Bool, true, ◌&&◌, List, [], Result, Ok, Err}
 use Rattle.std.specs.Bool.{MatchBool}
-use Rattle.turn_client_proto_api.specs.Client as auth
-use Rattle.turn_client_proto_api.specs.ClientAuthErrors.{LongTermClientAuthError, IntegrityFailed, NoMemory}
-use Rattle.turn_client_proto_api.specs.ClientValidations.{LongTermClientValidation, ResendRequest, Validated}
-use Rattle.turn_client_proto_api.specs.Handling.{is_awaited, is_response}
+use Rattle.turn_client_proto_connection.specs.Channel.Permission.Api.Client as auth
+use Rattle.turn_client_proto_connection.specs.Channel.Permission.Api.ClientAuthErrors.{LongTermClientAuthError, IntegrityFailed, NoMemory}
+use Rattle.turn_client_proto_connection.specs.Channel.Permission.Api.ClientValidations.{LongTermClientValidation, ResendRequest, Validated}
+use Rattle.turn_client_proto_connection.specs.Channel.Permission.Api.Handling.{is_awaited, is_response}
 use Rattle.stun_types.specs.Attributes.{kind_at}
 use Rattle.stun_types.specs.Grammar.{number_at}
 use Rattle.stun_types.specs.Types.{class_of}
@@ -14,7 +14,7 @@ use Rattle.turn_client_proto_request.specs.Indications.{is_indication}
 use Rattle.turn_client_proto_request.specs.Judging.{IsJudged}
 use Rattle.turn_client_proto_core.specs.Outcomes.{IsIgnored}
 use Rattle.turn_client_proto_core.specs.Responding.{judged}
-use Rattle.turn_client_proto_core.specs.Standing.{IsJudgedStanding}
+use Rattle.turn_client_proto_core.specs.Standing.{IsJudgedStanding, counts}
 use Rattle.turn_client_proto_core.specs.declared.protocol.Phase.{Phase}
 use Rattle.turn_client_proto_core.specs.declared.protocol.Phase.TheVariants.{Initial, InitialSent, Authenticating, Authenticated, Ended}
 use Rattle.turn_client_proto_core.specs.declared.protocol.Protocol.{Protocol}
@@ -85,10 +85,10 @@ GrowsSigned (Err (IntegrityFailed algorithm)) p bytes = p.families ≢ []
 GrowsSigned (Err NoMemory) p bytes = Unit {0}
 GrowsSigned (Err error) p bytes = ⊥
 
--- where the server has allocated: a response that validates counts where its request is outstanding
+-- where the server has allocated: a message that validates counts by what it is
 abbrev pub GrowsStanding : Growing
 GrowsStanding (Ok (ResendRequest choice)) p bytes = Unit {0}
-GrowsStanding (Ok (Validated algorithm)) p bytes = (is_response bytes && is_awaited p.agent bytes) ≡ true
+GrowsStanding (Ok (Validated algorithm)) p bytes = counts p bytes ≡ true
 GrowsStanding (Err NoMemory) p bytes = Unit {0}
 GrowsStanding (Err error) p bytes = ⊥
 

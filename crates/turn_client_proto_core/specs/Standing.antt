@@ -1,10 +1,10 @@
 -- What a client that has allocated makes of a message (RFC 8656, sections 8.3 and 7.4).
-use Rattle.std.specs.Prelude.{◌≡◌, ℕ, ◌==◌, Bool, true, ◌&&◌, List, [], ◌++◌, map, Option, Some, None, Result, Ok, Err, if◌then◌else◌}
+use Rattle.std.specs.Prelude.{◌≡◌, ℕ, ◌==◌, Bool, true, ◌&&◌, ◌||◌, List, [], ◌++◌, map, Option, Some, None, Result, Ok, Err, if◌then◌else◌}
 use Rattle.std.specs.Bool.{MatchBool}
 use Rattle.std.specs.List.{list_any}
-use Rattle.turn_client_proto_api.specs.ClientAuthErrors.{LongTermClientAuthError, NoMemory}
-use Rattle.turn_client_proto_api.specs.ClientValidations.{LongTermClientValidation, ResendRequest, Validated}
-use Rattle.turn_client_proto_api.specs.Handling.{is_awaited, is_response}
+use Rattle.turn_client_proto_connection.specs.Channel.Permission.Api.ClientAuthErrors.{LongTermClientAuthError, NoMemory}
+use Rattle.turn_client_proto_connection.specs.Channel.Permission.Api.ClientValidations.{LongTermClientValidation, ResendRequest, Validated}
+use Rattle.turn_client_proto_connection.specs.Channel.Permission.Api.Handling.{is_awaited, is_response}
 use Rattle.stun_types.specs.Attributes.{kind_at}
 use Rattle.stun_types.specs.Grammar.{number_at}
 use Rattle.stun_types.specs.Registry.{allocation_mismatch_code}
@@ -20,6 +20,7 @@ use Rattle.turn_client_proto_request.specs.declared.request.TurnRequest.TheVaria
 use Rattle.turn_client_proto_connection.specs.Told.{answered as connections_answered, is_connect, told_of}
 use Rattle.turn_client_proto_response.specs.Told.{connection_told, first_code, is_code, lifetime_told}
 use Rattle.turn_client_proto_core.specs.Asking.{asked}
+use Rattle.turn_client_proto_core.specs.Attempting.{IsAttemptTaken, is_attempt}
 use Rattle.turn_client_proto_core.specs.Binding.{IsBindResponded}
 use Rattle.turn_client_proto_core.specs.Ending.{ended}
 use Rattle.turn_client_proto_core.specs.Numbering.{IsNextNumber, after_number}
@@ -117,11 +118,16 @@ IsRequestAnswered p bytes now handled new = MatchBool (method_of (kind_at bytes)
     (IsConnectResponded p bytes handled new)
     (IsIgnored p handled new))))
 
--- a response that validates counts where its number is outstanding; a request does not
+-- a message that validates counts where it is a response whose number is outstanding, or tells of a connection that a
+-- peer began
+abbrev pub counts : Protocol → List ℕ → Bool
+counts p bytes = (is_response bytes && is_awaited p.agent bytes) || is_attempt bytes
+
+-- a response that validates counts where its number is outstanding; of requests one that tells of a connection does
 abbrev pub IsTakenUp : Protocol → List ℕ → ℕ → Bool → Protocol → Type 0
 IsTakenUp p bytes now handled new = MatchBool (is_response bytes && is_awaited p.agent bytes)
     (IsRequestAnswered (accepted bytes p) bytes now handled new)
-    (IsIgnored p handled new)
+    (IsAttemptTaken p bytes handled new)
 
 -- by the verdict on a request or a response
 abbrev pub IsJudgedStanding : Result LongTermClientValidation LongTermClientAuthError

@@ -4,12 +4,13 @@ ghost use Rattle.std.specs.Prelude.{◌≡◌, OnOk, OnErr};
 ghost use Rattle.turn_client_proto_core.specs.Asking.{asked, asked_from};
 ghost use Rattle.turn_client_proto_core.specs.Numbering.{IsUnused};
 
-use crate::protocol::{Protocol, Queued};
+use crate::protocol::Protocol;
 use std::net::SocketAddr;
 use stun_types::NoMemory;
 use stun_types::message::TransactionId;
-use turn_client_proto_api::Instant;
-use turn_client_proto_api::agent::StunError;
+use turn_client_proto_connection::channel::permission::api::Instant;
+use turn_client_proto_connection::channel::permission::api::agent::StunError;
+use turn_client_proto_request::queued::Queued;
 use turn_client_proto_request::request::TurnRequest;
 
 impl Protocol {

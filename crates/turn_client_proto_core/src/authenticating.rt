@@ -1,7 +1,7 @@
 //! What a client that has not allocated makes of a message (RFC 8656, sections 7.3 and 7.4).
 
 ghost use Rattle.std.specs.Prelude.{◌≡◌, ◌++◌, ◌∷◌, [], ℕ, IfOk, OnOk, OnErr, Some, None, true};
-ghost use Rattle.turn_client_proto_api.specs.Handling.{is_awaited, is_response};
+ghost use Rattle.turn_client_proto_connection.specs.Channel.Permission.Api.Handling.{is_awaited, is_response};
 ghost use Rattle.stun_types.specs.Attributes.{kind_at};
 ghost use Rattle.stun_types.specs.Grammar.{number_at};
 ghost use Rattle.stun_types.specs.Types.{class_of};
@@ -19,10 +19,12 @@ use std::mem;
 use stun_types::message::{Message, MessageClass, TransactionId};
 use stun_types::registry::ADDRESS_FAMILY_NOT_SUPPORTED;
 use stun_types::{AddressFamily, ListOf, NoMemory};
-use turn_client_proto_api::Instant;
-use turn_client_proto_api::auth::{LongTermClientAuthError, LongTermClientValidation};
-use turn_client_proto_api::event::TurnEvent;
-use turn_client_proto_api::families::RequestedFamilies;
+use turn_client_proto_connection::channel::permission::api::Instant;
+use turn_client_proto_connection::channel::permission::api::auth::{
+    LongTermClientAuthError, LongTermClientValidation,
+};
+use turn_client_proto_connection::channel::permission::api::event::TurnEvent;
+use turn_client_proto_connection::channel::permission::api::families::RequestedFamilies;
 use turn_client_proto_request::request::TurnRequest;
 use turn_client_proto_response::told::first_code;
 

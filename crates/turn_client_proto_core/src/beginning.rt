@@ -10,8 +10,8 @@ use rand_core::SeedableRng;
 use std::alloc::Global;
 use std::net::SocketAddr;
 use stun_types::TransportType;
-use turn_client_proto_api::config::TurnConfig;
 use turn_client_proto_connection::allocation::listed::Allocations;
+use turn_client_proto_connection::channel::permission::api::config::TurnConfig;
 use turn_client_proto_queue::queue::QueueOf;
 use turn_client_proto_request::signer::Signer;
 

@@ -2,7 +2,7 @@
 
 ghost use Rattle.std.specs.Prelude.{◌≡◌, ◌<◌, ◌++◌, ℕ, ◌∷◌, [], IfOk, IfSome, OnErr, OnOk, Some, length, position, slice_get, slice_set};
 ghost use Rattle.std.specs.Net.Socket.{socket_ip};
-ghost use Rattle.turn_client_proto_api.specs.declared.event.TurnEvent.TheVariants.{PermissionCreated, PermissionCreateFailed};
+ghost use Rattle.turn_client_proto_connection.specs.Channel.Permission.Api.declared.event.TurnEvent.TheVariants.{PermissionCreated, PermissionCreateFailed};
 ghost use Rattle.turn_client_proto_connection.specs.Channel.Awaited.{asked_by, awaits_reply};
 ghost use Rattle.turn_client_proto_request.specs.ToldRequests.{IsLawfulRequest};
 ghost use Rattle.turn_client_proto_request.specs.declared.request.TurnRequest.TheVariants.{ChannelBind};
@@ -15,14 +15,14 @@ use crate::protocol::Protocol;
 use std::net::{IpAddr, SocketAddr};
 use stun_types::message::{Message, MessageClass, TransactionId};
 use stun_types::{AddressFamily, NoMemory, TransportType};
-use turn_client_proto_api::Instant;
-use turn_client_proto_api::error::BindChannelError;
-use turn_client_proto_api::event::TurnEvent;
 use turn_client_proto_connection::allocation::channel::ChannelId;
 use turn_client_proto_connection::channel::awaited::{Asked, asked_by};
 use turn_client_proto_connection::channel::binding::{ask, barring, forget, pending_channel};
 use turn_client_proto_connection::channel::free::free_number;
 use turn_client_proto_connection::channel::granted;
+use turn_client_proto_connection::channel::permission::api::Instant;
+use turn_client_proto_connection::channel::permission::api::error::BindChannelError;
+use turn_client_proto_connection::channel::permission::api::event::TurnEvent;
 use turn_client_proto_connection::channel::permission::{asking, granted as permitted, one};
 use turn_client_proto_request::laws::requests_are_lawful;
 use turn_client_proto_request::request::TurnRequest;

@@ -4,7 +4,7 @@ ghost use Rattle.std.specs.Prelude.{◌≡◌, ◌++◌, [], IfNone, option_to_l
 ghost use Rattle.turn_client_proto_core.specs.Deleting.{is_authenticated};
 
 use crate::protocol::{Phase, Protocol};
-use turn_client_proto_api::event::TurnEvent;
+use turn_client_proto_connection::channel::permission::api::event::TurnEvent;
 
 impl Protocol {
     /// Whether the server has allocated, and the client has not ended.

@@ -5,7 +5,7 @@ ghost use Rattle.turn_client_proto_core.specs.Ending.{ended, failed};
 
 use crate::protocol::{Phase, Protocol};
 use stun_types::NoMemory;
-use turn_client_proto_api::agent::StunAgent;
+use turn_client_proto_connection::channel::permission::api::agent::StunAgent;
 use turn_client_proto_response::telling::tell_failures;
 
 impl Protocol {

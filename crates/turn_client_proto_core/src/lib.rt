@@ -5,6 +5,7 @@
 
 pub mod allocating;
 pub mod asking;
+pub mod attempting;
 pub mod authenticating;
 pub mod beginning;
 pub mod binding;
@@ -18,9 +19,9 @@ pub mod standing;
 pub mod transactions;
 
 // What stands above this crate has these through it.
-pub use turn_client_proto_api as api;
-pub use turn_client_proto_api::{Instant, agent, laws};
 pub use turn_client_proto_connection as connection;
 pub use turn_client_proto_connection::channel::permission;
+pub use turn_client_proto_connection::channel::permission::api;
+pub use turn_client_proto_connection::channel::permission::api::{Instant, agent, laws};
 pub use turn_client_proto_connection::{allocation, channel};
 pub use turn_client_proto_request as request;

@@ -6,17 +6,17 @@ ghost use Rattle.turn_client_proto_core.specs.Numbering.{awaits};
 
 use rand_chacha::ChaCha20Rng;
 use std::alloc::Global;
-use std::marker::Model;
 use std::net::SocketAddr;
 use stun_types::message::TransactionId;
 use stun_types::{ListOf, TransportType};
-use turn_client_proto_api::Instant;
-use turn_client_proto_api::agent::StunAgent;
-use turn_client_proto_api::event::TurnEvent;
-use turn_client_proto_api::families::RequestedFamilies;
 use turn_client_proto_connection::allocation::listed::Allocations;
 use turn_client_proto_connection::allocation::numbers::has_number;
+use turn_client_proto_connection::channel::permission::api::Instant;
+use turn_client_proto_connection::channel::permission::api::agent::StunAgent;
+use turn_client_proto_connection::channel::permission::api::event::TurnEvent;
+use turn_client_proto_connection::channel::permission::api::families::RequestedFamilies;
 use turn_client_proto_queue::queue::QueueOf;
+use turn_client_proto_request::queued::Queued;
 use turn_client_proto_request::signer::Signer;
 
 /// How far a client is.
@@ -47,72 +47,6 @@ impl Phase {
             }
             Phase::Initial | Phase::Authenticated | Phase::Ended => false,
         }
-    }
-}
-
-/// A message that waits to be sent: a request, or the response to one of the server's. Contracts
-/// see the record `Queued`.
-#[derive(Debug, Drop)]
-pub struct Queued {
-    bytes: Vec<u8>,
-    from: SocketAddr,
-    is_request: bool,
-}
-
-impl Model for Queued {
-    ghost use Rattle.turn_client_proto_core.specs.Waiting.{Queued as QueuedMessage};
-
-    ghost Value = { QueuedMessage };
-
-    ghost view = { λ q. record {
-      bytes = q.bytes.items;
-      from = q.from;
-      is_request = q.is_request;
-    } };
-}
-
-impl Queued {
-    /// A message that goes from an own address.
-    pub fn new(bytes: Vec<u8>, from: SocketAddr, is_request: bool) -> Queued
-        ensures { result ≡ record {
-          bytes = bytes.items;
-          from = from;
-          is_request = is_request;
-        } }
-    {
-        Queued {
-            bytes,
-            from,
-            is_request,
-        }
-    }
-
-    /// The bytes of the message.
-    pub fn bytes(&self) -> &[u8]
-        ensures { result.now ≡ self.now.bytes }
-    {
-        self.bytes.as_slice()
-    }
-
-    /// The own address that it goes from.
-    pub fn from(&self) -> SocketAddr
-        ensures { result ≡ self.now.from }
-    {
-        self.from
-    }
-
-    /// Whether it is a request.
-    pub fn is_request(&self) -> bool
-        ensures { result ≡ self.now.is_request }
-    {
-        self.is_request
-    }
-
-    /// The bytes of the message, given away.
-    pub fn into_bytes(self) -> Vec<u8>
-        ensures { result.items ≡ self.bytes }
-    {
-        self.bytes
     }
 }
 

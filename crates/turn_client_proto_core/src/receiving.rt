@@ -7,8 +7,8 @@ ghost use Rattle.turn_client_proto_core.specs.Receiving.{IsHeard, MayGrow};
 use crate::protocol::{Phase, Protocol};
 use stun_types::NoMemory;
 use stun_types::message::{Message, MessageClass};
-use turn_client_proto_api::Instant;
 use turn_client_proto_connection::allocation::numbers::has_number;
+use turn_client_proto_connection::channel::permission::api::Instant;
 
 impl Protocol {
     /// A message came from the server at a moment. Answers whether it was for the client. Where

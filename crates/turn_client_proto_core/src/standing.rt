@@ -1,12 +1,11 @@
 //! What a client that has allocated makes of a message (RFC 8656, section 8.3).
 
-ghost use Rattle.std.specs.Prelude.{◌≡◌, ◌&&◌, ℕ, IfOk, OnOk, OnErr, Some, position, true};
+ghost use Rattle.std.specs.Prelude.{◌≡◌, ℕ, IfOk, OnOk, OnErr, Some, position, true};
 ghost use Rattle.stun_types.specs.Grammar.{number_at};
-ghost use Rattle.turn_client_proto_api.specs.Handling.{is_awaited, is_response};
 ghost use Rattle.turn_client_proto_core.specs.Ending.{IsUnderWay};
 ghost use Rattle.turn_client_proto_core.specs.Numbering.{IsNextNumber};
 ghost use Rattle.turn_client_proto_core.specs.Receiving.{GrowsBy, GrowsStanding, IsFollowed};
-ghost use Rattle.turn_client_proto_core.specs.Standing.{IsConnectResponded, IsJudgedStanding, IsRechallenged, IsTakenUp, after_refresh, asks_again, deallocated, is_refreshed, refreshed, request_for};
+ghost use Rattle.turn_client_proto_core.specs.Standing.{IsConnectResponded, IsJudgedStanding, IsRechallenged, IsTakenUp, after_refresh, asks_again, counts, deallocated, is_refreshed, refreshed, request_for};
 ghost use Rattle.turn_client_proto_connection.specs.Channel.Awaited.{awaits_reply};
 ghost use Rattle.turn_client_proto_request.specs.ToldRequests.{IsLawfulRequest};
 
@@ -14,9 +13,11 @@ use crate::protocol::{Phase, Protocol};
 use stun_types::NoMemory;
 use stun_types::message::{Message, MessageClass, TransactionId};
 use stun_types::registry::ALLOCATION_MISMATCH;
-use turn_client_proto_api::Instant;
-use turn_client_proto_api::auth::{LongTermClientAuthError, LongTermClientValidation};
 use turn_client_proto_connection::channel::awaited::{Asked, ask_too, asked_by};
+use turn_client_proto_connection::channel::permission::api::Instant;
+use turn_client_proto_connection::channel::permission::api::auth::{
+    LongTermClientAuthError, LongTermClientValidation,
+};
 use turn_client_proto_connection::told::answer;
 use turn_client_proto_request::laws::requests_are_lawful;
 use turn_client_proto_request::request::TurnRequest;
@@ -118,11 +119,10 @@ impl Protocol {
         ensures ok { IfOk result (λ handled.
             IsTakenUp self.old message.now now handled self.new) }
         ensures err { OnErr result (IsUnderWay self.old self.new) }
-        ensures memory { OnErr result
-            ((is_response message.now && is_awaited self.old.agent message.now) ≡ true) }
+        ensures memory { OnErr result (counts self.old message.now ≡ true) }
     {
         if !(message.is_response() && self.is_awaited(message)) {
-            return Ok(false);
+            return self.take_request(message);
         }
         self.accept(message)?;
         if message.method() == REFRESH {

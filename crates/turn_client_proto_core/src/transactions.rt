@@ -2,7 +2,7 @@
 //! many challenges are answered in a row (RFC 8489, sections 6.3 and 9.2.5).
 
 ghost use Rattle.std.specs.Prelude.{◌≡◌, OnOk, OnErr, false};
-ghost use Rattle.turn_client_proto_api.specs.Handling.{is_awaited};
+ghost use Rattle.turn_client_proto_connection.specs.Channel.Permission.Api.Handling.{is_awaited};
 ghost use Rattle.turn_client_proto_core.specs.Responding.{accepted, answered, challenged, is_tired};
 
 use crate::protocol::Protocol;

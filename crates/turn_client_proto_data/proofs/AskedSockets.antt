@@ -9,12 +9,13 @@ use Rattle.turn_client_proto_poll.specs.Api.declared.answer.Socket5Tuple.{Socket
 use Rattle.turn_client_proto_poll.specs.Api.declared.error.TcpAllocateError.{TcpAllocateError}
 use Rattle.turn_client_proto_poll.specs.Connection.Sockets.{awaits_socket, binding, let_go, to_bind}
 use Rattle.turn_client_proto_poll.specs.Core.Asking.{asked_from}
+use Rattle.turn_client_proto_poll.specs.Core.Attempting.{answering}
 use Rattle.turn_client_proto_poll.specs.Core.Moments.{moment_after}
 use Rattle.turn_client_proto_poll.specs.Core.Numbering.{IsNextNumber, after_number}
 use Rattle.turn_client_proto_poll.specs.Core.declared.protocol.Protocol.{Protocol}
-use Rattle.turn_client_proto_poll.specs.Request.ToldRequests.{IsLawfulRequest}
+use Rattle.turn_client_proto_poll.specs.Request.declared.answer.AttemptAnswer.TheVariants.{Accepted, Failed}
 use Rattle.turn_client_proto_poll.specs.Request.declared.request.TurnRequest.TheVariants.{ConnectionBind}
-use Rattle.turn_client_proto_data.specs.Sockets.{IsBindingAsked, IsSocketAnswered, IsSocketTaken, after_socket, binding_time, is_used, socket_refusal, socket_refusal_in, takes_sockets}
+use Rattle.turn_client_proto_data.specs.Sockets.{IsBindingAsked, IsBoundAt, IsNumber, IsSocketAnswered, IsSocketLacking, IsSocketTaken, after_socket, answering_if, attempt_at, binding_time, is_used, socket_refusal, socket_refusal_in, takes_sockets, unsocketed}
 
 module _ (old : Protocol) (connection : ℕ) (s : Socket5Tuple) (peer : SocketAddr) (here : Option SocketAddr) (now : ℕ)
     (place : Option ℕ) (takes used : Bool) (at : position (awaits_socket connection peer) old.allocations ≡ place) (takes_is : takes_sockets old s ≡ takes) (used_is : is_used here old.allocations ≡ used) where
@@ -48,18 +49,41 @@ module _ (old : Protocol) (here peer : SocketAddr) (connection now : ℕ) where
   abbrev one : ℕ → Allocation → Allocation
   one number = binding (to_bind here peer connection (record { number = number; expiry = moment_after now binding_time }))
 
+  -- the client that asks: where the peer began it, the server was told so
+  abbrev asking : Option ℕ → Protocol
+  asking attempt = answering_if Accepted attempt (after_number old)
+
+  same_allocations : (attempt : Option ℕ) → (asking attempt).allocations ≡ old.allocations
+  unfolding answering
+  same_allocations None = refl
+  same_allocations (Some number) = refl
+
   -- that it be bound was asked for, in the allocation at the place
-  pub binding_there : (place number : ℕ) (new : Protocol) (found : Option Allocation) → position (awaits_socket connection peer) old.allocations ≡ Some place → slice_get old.allocations place ≡ found
-      → IsNextNumber old number → IsLawfulRequest (ConnectionBind connection)
-      → IfSome found (λ a. new ≡ record (asked_from here (after_number old) (ConnectionBind connection) number now) { allocations = map (let_go connection peer) (slice_set old.allocations place (one number a)) })
-      → IsBindingAsked old here peer connection now new
+  pub binding_there : (place number : ℕ) (new : Protocol) (attempt : Option ℕ) → position (awaits_socket connection peer) old.allocations ≡ Some place → attempt ≡ attempt_at connection peer old → IfSome attempt IsNumber
+      → IsNextNumber old number → IsBoundAt here place peer connection number now (asking attempt) new → IsBindingAsked old here peer connection now new
   unfolding after_socket
-  binding_there place number new None at read next lawful is = absurd (never_none (awaits_socket connection peer) old.allocations place at read)
-  binding_there place number new (Some a) at read next lawful is = record {
+  binding_there place number new attempt at attempt_is fits next is = record {
     number = number;
     is_next = next;
-    lawful = lawful;
-    after = is ∙ ap (λ (l : List Allocation). record (asked_from here (after_number old) (ConnectionBind connection) number now) { allocations = map (let_go connection peer) l })
-        (changed_at (awaits_socket connection peer) (one number) old.allocations (slice_set old.allocations place (one number a)) place at
-        (subst (λ (o : Option Allocation). IfSome o (λ x. slice_set old.allocations place (one number a) ≡ slice_set old.allocations place (one number x))) (sym read) refl));
+    lawful = is.0;
+    attempt = subst (λ (o : Option ℕ). IfSome o IsNumber) attempt_is fits;
+    after = made (slice_get old.allocations place) refl (subst (λ (l : List Allocation). IfSome (slice_get l place) (λ a. new ≡ record (asked_from here (asking attempt) (ConnectionBind connection) number now) { allocations = map (let_go connection peer) (slice_set l place (one number a)) })) (same_allocations attempt) is.1)
+        ∙ ap (λ (o : Option ℕ). record (asked_from here (asking o) (ConnectionBind connection) number now) { allocations = map (let_go connection peer) (change_first (awaits_socket connection peer) (one number) old.allocations) }) attempt_is;
+  }
+    where
+      made : (found : Option Allocation) → slice_get old.allocations place ≡ found
+          → IfSome found (λ a. new ≡ record (asked_from here (asking attempt) (ConnectionBind connection) number now) { allocations = map (let_go connection peer) (slice_set old.allocations place (one number a)) })
+          → new ≡ record (asked_from here (asking attempt) (ConnectionBind connection) number now) { allocations = map (let_go connection peer) (change_first (awaits_socket connection peer) (one number) old.allocations) }
+      made None read after = absurd (never_none (awaits_socket connection peer) old.allocations place at read)
+      made (Some a) read after = after ∙ ap (λ (l : List Allocation). record (asked_from here (asking attempt) (ConnectionBind connection) number now) { allocations = map (let_go connection peer) l })
+          (changed_at (awaits_socket connection peer) (one number) old.allocations (slice_set old.allocations place (one number a)) place at
+          (subst (λ (o : Option Allocation). IfSome o (λ x. slice_set old.allocations place (one number a) ≡ slice_set old.allocations place (one number x))) (sym read) refl))
+
+  -- there is none
+  pub lacking : (new : Protocol) (attempt : Option ℕ) → attempt ≡ attempt_at connection peer old → IfSome attempt IsNumber → new ≡ record (answering_if Failed attempt old) { allocations = map (let_go connection peer) old.allocations }
+      → IsSocketLacking old connection peer new
+  unfolding unsocketed
+  lacking new attempt is fits after = record {
+    attempt = subst (λ (o : Option ℕ). IfSome o IsNumber) is fits;
+    after = after ∙ ap (λ (o : Option ℕ). record (answering_if Failed o old) { allocations = map (let_go connection peer) old.allocations }) is;
   }

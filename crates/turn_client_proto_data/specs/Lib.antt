@@ -1,11 +1,12 @@
-pub mod Closing
 pub mod Connecting
 pub mod Hearing
 pub mod Sockets
 -- What stands above this crate has these through it.
 pub use Rattle.turn_client_proto_poll.specs.Allocation
+pub use Rattle.turn_client_proto_poll.specs.Answering
 pub use Rattle.turn_client_proto_poll.specs.Api
 pub use Rattle.turn_client_proto_poll.specs.Channel
+pub use Rattle.turn_client_proto_poll.specs.Closing
 pub use Rattle.turn_client_proto_poll.specs.Connection
 pub use Rattle.turn_client_proto_poll.specs.Core
 pub use Rattle.turn_client_proto_poll.specs.Drawing

@@ -1,5 +1,5 @@
 -- A socket that a client is told of (RFC 6062, section 4.3).
-use Rattle.std.specs.Prelude.{◌≡◌, ℕ, Bool, false, not, ◌&&◌, List, map, position, Option, Some, None, Result, Ok, Err, MatchResult, IfSome, IfNone, if◌then◌else◌}
+use Rattle.std.specs.Prelude.{◌≡◌, ◌≢◌, ℕ, ◌<◌, ◌^◌, Bool, false, not, ◌&&◌, List, map, position, slice_get, slice_set, Option, Some, None, Result, Err, MatchResult, IfSome, IfNone, if◌then◌else◌}
 use Rattle.std.specs.declared.net.socket_addr.SocketAddr.{SocketAddr}
 use Rattle.stun_types.specs.declared.transport.TransportType.TheVariants.{Tcp}
 use Rattle.turn_client_proto_poll.specs.Allocation.Changes.{change_first}
@@ -7,15 +7,23 @@ use Rattle.turn_client_proto_poll.specs.Allocation.declared.allocation.Allocatio
 use Rattle.turn_client_proto_poll.specs.Api.declared.answer.Socket5Tuple.{Socket5Tuple}
 use Rattle.turn_client_proto_poll.specs.Api.declared.error.TcpAllocateError.{TcpAllocateError}
 use Rattle.turn_client_proto_poll.specs.Api.declared.error.TcpAllocateError.TheVariants.{AlreadyExists, NoAllocation, NoMemory}
+use Rattle.turn_client_proto_poll.specs.Connection.Attempts.{attempt_of}
 use Rattle.turn_client_proto_poll.specs.Connection.Sockets.{awaits_socket, binding, is_any_from, let_go, to_bind}
 use Rattle.turn_client_proto_poll.specs.Core.Asking.{asked_from}
+use Rattle.turn_client_proto_poll.specs.Core.Attempting.{answering}
 use Rattle.turn_client_proto_poll.specs.Core.Deleting.{is_authenticated}
 use Rattle.turn_client_proto_poll.specs.Core.Moments.{moment_after}
 use Rattle.turn_client_proto_poll.specs.Core.Numbering.{IsNextNumber, after_number}
 use Rattle.turn_client_proto_poll.specs.Core.declared.protocol.Protocol.{Protocol}
 use Rattle.turn_client_proto_poll.specs.Permission.Same.{is_same_address, is_same_transport}
 use Rattle.turn_client_proto_poll.specs.Request.ToldRequests.{IsLawfulRequest}
+use Rattle.turn_client_proto_poll.specs.Request.declared.answer.AttemptAnswer.{AttemptAnswer}
+use Rattle.turn_client_proto_poll.specs.Request.declared.answer.AttemptAnswer.TheVariants.{Accepted, Failed}
 use Rattle.turn_client_proto_poll.specs.Request.declared.request.TurnRequest.TheVariants.{ConnectionBind}
+
+-- the number of a message (RFC 8489, section 5)
+abbrev pub IsNumber : ℕ → Type 0
+IsNumber number = number < 2 ^ 96
 
 -- so long a CONNECTION_BIND may be answered, in nanoseconds: 39.5 seconds
 abbrev pub binding_time : ℕ
@@ -51,33 +59,65 @@ socket_refusal p connection s peer here =
     socket_refusal_in (position (awaits_socket connection peer) p.allocations) (takes_sockets p s)
     (is_used here p.allocations)
 
--- a client in which the connection of a number and to a peer waits for its socket no more
-unfoldable pub unsocketed : (connection : ℕ) → SocketAddr → Protocol → Protocol
-unsocketed connection peer p = record p { allocations = map (let_go connection peer) p.allocations }
+-- a client that answers the request by which the server told of a connection, where a peer began that
+abbrev pub answering_if : AttemptAnswer → Option ℕ → Protocol → Protocol
+answering_if answer None p = p
+answering_if answer (Some number) p = answering answer number p
 
--- a client that has a socket for it, and asks from that, at a moment and by a request of this
--- number, that it be bound
+-- that request, of a connection that waits for its socket
+abbrev pub attempt_at : (connection : ℕ) → SocketAddr → Protocol → Option ℕ
+attempt_at connection peer p = attempt_of connection peer p.allocations
+
+-- a client in which the connection of a number and to a peer waits for its socket no more, since there is none; where the
+-- peer began it, the server is told so
+unfoldable pub unsocketed : (connection : ℕ) → SocketAddr → Protocol → Protocol
+unsocketed connection peer p = record (answering_if Failed (attempt_at connection peer p) p) {
+  allocations = map (let_go connection peer) p.allocations;
+}
+
+-- a client that has a socket for it, and asks from that, at a moment and by a request of this number, that it be bound;
+-- where the peer began it, the server is told first that there is one
 unfoldable pub after_socket : (here peer : SocketAddr) → (connection number now : ℕ)
     → Protocol → Protocol
 after_socket here peer connection number now p =
-    record (asked_from here (after_number p) (ConnectionBind connection) number now) {
+    record (asked_from here (answering_if Accepted (attempt_at connection peer p) (after_number p))
+    (ConnectionBind connection) number now) {
       allocations = map (let_go connection peer) (change_first (awaits_socket connection peer)
           (binding (to_bind here peer connection (record { number = number; expiry = moment_after now binding_time })))
           p.allocations);
     }
+
+-- the allocation at a place has a connection that a request of this number, which is made at a moment, is to bind
+abbrev pub IsBoundAt : (here : SocketAddr) → (place : ℕ) → (peer : SocketAddr) → (connection number now : ℕ)
+    → Protocol → Protocol → Type 0
+IsBoundAt here place peer connection number now old new = IsLawfulRequest (ConnectionBind connection)
+    × IfSome (slice_get old.allocations place) (λ a. new
+    ≡ record (asked_from here old (ConnectionBind connection) number now) {
+      allocations = map (let_go connection peer) (slice_set old.allocations place
+          (binding (to_bind here peer connection
+          (record { number = number; expiry = moment_after now binding_time })) a));
+    })
 
 -- so it asks, by a request of the next number
 pub record IsBindingAsked (old : Protocol) (here peer : SocketAddr) (connection now : ℕ) (new : Protocol) : Type 0 where
   pub number : ℕ
   pub is_next : IsNextNumber old number
   pub lawful : IsLawfulRequest (ConnectionBind connection)
+  pub attempt : IfSome (attempt_at connection peer old) IsNumber
   pub after : new ≡ after_socket here peer connection number now old
 
+-- there is no socket
+pub record IsSocketLacking (old : Protocol) (connection : ℕ) (peer : SocketAddr) (new : Protocol) : Type 0 where
+  pub attempt : IfSome (attempt_at connection peer old) IsNumber
+  pub after : new ≡ unsocketed connection peer old
+
 -- no socket was opened; or one was, and it is asked for; or memory was refused, and nothing changed but the words that
--- were drawn
+-- were drawn: without a socket, only where the server is to be told so
 abbrev pub IsSocketTaken : Option SocketAddr → Protocol → (connection : ℕ) → SocketAddr → (now : ℕ)
     → Result (Unit {0}) TcpAllocateError → Protocol → Type 0
-IsSocketTaken None old connection peer now answer new = (answer ≡ Ok tt) × (new ≡ unsocketed connection peer old)
+IsSocketTaken None old connection peer now answer new = MatchResult answer
+    (λ _. IsSocketLacking old connection peer new)
+    (λ error. (error ≡ NoMemory) × (new ≡ old) × (attempt_at connection peer old ≢ None))
 IsSocketTaken (Some here) old connection peer now answer new = MatchResult answer
     (λ _. IsBindingAsked old here peer connection now new)
     (λ error. (error ≡ NoMemory) × (new ≡ after_number old))

@@ -1,23 +1,23 @@
 //! Sockets that a client is told of (RFC 6062, section 4.3).
 
-ghost use Rattle.std.specs.Prelude.{◌≡◌, ◌<◌, ℕ, IfSome, OnErr, OnOk, length, map, slice_get, slice_set};
-ghost use Rattle.turn_client_proto_data.specs.Sockets.{IsSocketAnswered, binding_time, is_own, takes_sockets};
-ghost use Rattle.turn_client_proto_poll.specs.Connection.Sockets.{binding, let_go, to_bind};
-ghost use Rattle.turn_client_proto_poll.specs.Core.Asking.{asked_from};
-ghost use Rattle.turn_client_proto_poll.specs.Core.Moments.{moment_after};
-ghost use Rattle.turn_client_proto_poll.specs.Core.Numbering.{IsNextNumber, after_number};
-ghost use Rattle.turn_client_proto_poll.specs.Request.ToldRequests.{IsLawfulRequest};
-ghost use Rattle.turn_client_proto_poll.specs.Request.declared.request.TurnRequest.TheVariants.{ConnectionBind};
+ghost use Rattle.std.specs.Prelude.{◌≡◌, ◌≢◌, ◌<◌, ℕ, IfSome, None, OnErr, OnOk, length};
+ghost use Rattle.turn_client_proto_data.specs.Sockets.{IsBoundAt, IsNumber, IsSocketAnswered, IsSocketLacking};
+ghost use Rattle.turn_client_proto_data.specs.Sockets.{answering_if, attempt_at, is_own, takes_sockets};
+ghost use Rattle.turn_client_proto_poll.specs.Core.Numbering.{IsNextNumber, IsUnused, after_number};
+ghost use Rattle.turn_client_proto_poll.specs.Request.declared.answer.AttemptAnswer.TheVariants.{Accepted};
 
 use std::net::SocketAddr;
 use std::time::Duration;
+use stun_types::message::TransactionId;
 use stun_types::{NoMemory, TransportType};
 use turn_client_proto_poll::Instant;
 use turn_client_proto_poll::allocation::connection::Binding;
 use turn_client_proto_poll::api::answer::Socket5Tuple;
 use turn_client_proto_poll::api::error::TcpAllocateError;
+use turn_client_proto_poll::connection::attempts::attempt_of;
 use turn_client_proto_poll::connection::sockets;
 use turn_client_proto_poll::protocol::Protocol;
+use turn_client_proto_poll::request::answer::AttemptAnswer;
 use turn_client_proto_poll::request::laws::requests_are_lawful;
 use turn_client_proto_poll::request::request::TurnRequest;
 
@@ -44,14 +44,16 @@ fn takes_sockets(protocol: &Protocol, socket: Socket5Tuple) -> bool
 
 /// Tells of the socket for a connection to a peer, by the number with which `poll` asked for it: by its
 /// own address; or that there is none. Then that connection waits no more, and where there is one, it is
-/// asked that it be bound (RFC 6062, section 4.3), from that address and within 39.5 seconds. Whether
-/// `poll` asked for the socket yet isn't looked at, nor whether the allocation's time is over.
+/// asked that it be bound (RFC 6062, section 4.3), from that address and within 39.5 seconds. Where the peer
+/// began the connection (section 4.4), the server's request is answered: by a success, before that, or by
+/// error 447. Whether `poll` asked for the socket yet isn't looked at, nor whether the allocation's time is
+/// over.
 ///
 /// It is refused, by the first that holds, with `NoAllocation` where no connection of the number and to
 /// the peer waits for its socket, where the client has not allocated over TCP or has ended, or where the
 /// five-tuple isn't that of its own connection to the server; with `AlreadyExists` where another
 /// connection has that own address; with `NoMemory`. Nothing changes then but the words that were drawn
-/// where memory is refused. Without a socket no memory is asked for.
+/// where memory is refused. Without a socket memory is asked for only where the peer began the connection.
 pub fn allocated_tcp_socket(
     protocol: &mut Protocol,
     id: u32,
@@ -70,21 +72,46 @@ pub fn allocated_tcp_socket(
         return Err(TcpAllocateError::NoAllocation);
     }
     let Some(here) = local else {
-        sockets::let_go(protocol.allocations.as_mut_slice(), id, peer);
-        return Ok(());
+        return match forgo(protocol, id, peer) {
+            Ok(()) => Ok(()),
+            Err(NoMemory) => Err(TcpAllocateError::NoMemory),
+        };
     };
     if sockets::is_any_from(allocations, here) {
         return Err(TcpAllocateError::AlreadyExists);
     }
-    match bind(protocol, place, here, peer, id, now) {
+    match join(protocol, place, here, peer, id, now) {
         Ok(()) => Ok(()),
         Err(NoMemory) => Err(TcpAllocateError::NoMemory),
     }
 }
 
-/// Asks that a connection be bound that waits for its socket in the allocation at a place. Where memory is
-/// refused, nothing changes but the words that were drawn.
-fn bind(
+/// What the type of a number keeps, in the words of the contracts: it has 96 bits. It does nothing.
+fn numbers_fit(number: TransactionId)
+    ensures { IsNumber number }
+{}
+
+/// There is no socket for a connection: it waits for none any more, and where the peer began it, the server
+/// is told so. Where memory is refused, nothing changes.
+fn forgo(protocol: &mut Protocol, connection: u32, peer: SocketAddr) -> Result<(), NoMemory>
+    ensures ok { OnOk result (IsSocketLacking protocol.old connection peer protocol.new) }
+    ensures err { OnErr result ((protocol.new ≡ protocol.old)
+        × (attempt_at connection peer protocol.old ≢ None)) }
+{
+    let Some(attempt) = attempt_of(protocol.allocations.as_slice(), connection, peer) else {
+        sockets::let_go(protocol.allocations.as_mut_slice(), connection, peer);
+        return Ok(());
+    };
+    numbers_fit(attempt);
+    protocol.answer_attempt(attempt, AttemptAnswer::Failed)?;
+    sockets::let_go(protocol.allocations.as_mut_slice(), connection, peer);
+    Ok(())
+}
+
+/// A connection that waits in the allocation at a place has a socket: where the peer began it, the server is
+/// told so, and then it is asked that it be bound. Where memory is refused, nothing changes but the words
+/// that were drawn.
+fn join(
     protocol: &mut Protocol,
     place: usize,
     here: SocketAddr,
@@ -94,17 +121,45 @@ fn bind(
 ) -> Result<(), NoMemory>
     requires { place < length protocol.old.allocations }
     ensures ok { OnOk result ((number : ℕ) × IsNextNumber protocol.old number
-        × IsLawfulRequest (ConnectionBind connection)
-        × IfSome (slice_get protocol.old.allocations place) (λ a. protocol.new
-        ≡ record (asked_from here (after_number protocol.old) (ConnectionBind connection)
-        number now) {
-          allocations = map (let_go connection peer) (slice_set protocol.old.allocations place
-              (binding (to_bind here peer connection
-              (record { number = number; expiry = moment_after now binding_time })) a));
-        })) }
+        × IfSome (attempt_at connection peer protocol.old) IsNumber
+        × IsBoundAt here place peer connection number now
+        (answering_if Accepted (attempt_at connection peer protocol.old)
+        (after_number protocol.old)) protocol.new) }
     ensures err { OnErr result (protocol.new ≡ after_number protocol.old) }
 {
+    let attempt = attempt_of(protocol.allocations.as_slice(), connection, peer);
     let number = protocol.draw_number()?;
+    let Some(attempt) = attempt else {
+        return bind(protocol, place, here, peer, connection, number, now);
+    };
+    numbers_fit(attempt);
+    protocol.answer_attempt(attempt, AttemptAnswer::Accepted)?;
+    match bind(protocol, place, here, peer, connection, number, now) {
+        Ok(()) => Ok(()),
+        Err(e) => {
+            protocol.queue.pop_back();
+            Err(e)
+        }
+    }
+}
+
+/// Asks by a request of this number that a connection be bound that waits for its socket in the allocation
+/// at a place. Where memory is refused, nothing changes.
+fn bind(
+    protocol: &mut Protocol,
+    place: usize,
+    here: SocketAddr,
+    peer: SocketAddr,
+    connection: u32,
+    number: TransactionId,
+    now: Instant,
+) -> Result<(), NoMemory>
+    requires there { place < length protocol.old.allocations }
+    requires unused { IsUnused protocol.old.agent number }
+    ensures ok { OnOk result (IsBoundAt here place peer connection number now protocol.old
+        protocol.new) }
+    ensures err { OnErr result (protocol.new ≡ protocol.old) }
+{
     let expiry = now.saturating_add(Duration::from_millis(BINDING_TIME));
     let awaited = Binding { number, expiry };
     let (alloc, allocations) = (protocol.alloc, &mut protocol.allocations);

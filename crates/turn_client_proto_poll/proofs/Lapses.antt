@@ -10,7 +10,9 @@ use Rattle.turn_client_proto_core.specs.Api.declared.event.TurnEvent.{TurnEvent}
 use Rattle.turn_client_proto_core.specs.Api.declared.event.TurnEvent.TheVariants.{ChannelCreateFailed, PermissionCreateFailed, TcpConnectFailed}
 use Rattle.turn_client_proto_core.specs.Allocation.declared.connection.Connecting.{Connecting}
 use Rattle.turn_client_proto_core.specs.Allocation.declared.connection.Connection.{Connection}
+use Rattle.turn_client_proto_core.specs.Allocation.declared.connection.Waiting.{Waiting}
 use Rattle.turn_client_proto_core.specs.Channel.Lapsing as channels
+use Rattle.turn_client_proto_core.specs.Connection.Attempts as attempts
 use Rattle.turn_client_proto_core.specs.Connection.Lapsing as joined
 use Rattle.turn_client_proto_core.specs.Connection.Told as connections
 use Rattle.turn_client_proto_core.specs.Permission.Telling as permissions
@@ -72,31 +74,40 @@ module _ (over : Option ℕ) (now : ℕ) (a : Allocation) where
       let turns = in_turn events one two three four in
       rw (is_all, is_third, is_second, is_first, is_pending, is_asked, is_standing, is_four) turns
 
-  -- of its connections, where one of their two parts isn't empty
+  -- of its connections, where one of their three parts isn't empty
   abbrev five : List TurnEvent
   five = map TcpConnectFailed (connections.peers_over over a.connecting)
 
   abbrev six : List TurnEvent
   six = map TcpConnectFailed (joined.peers_gone over now a.connections)
 
+  abbrev seven : List TurnEvent
+  seven = map TcpConnectFailed (attempts.peers_lost over a.waiting)
+
   pub told_over : connections.peers_over over a.connecting ≢ [] → connection_failures over now a ≢ []
   unfolding connection_failures
-  told_over some = λ none. some (none_mapped TcpConnectFailed (connections.peers_over over a.connecting) (none_left five six none))
+  told_over some = λ none. some (none_mapped TcpConnectFailed (connections.peers_over over a.connecting) (none_left five (six ++ seven) none))
 
   none_gone : connection_failures over now a ≡ [] → joined.peers_gone over now a.connections ≡ []
   unfolding connection_failures
-  none_gone none = none_mapped TcpConnectFailed (joined.peers_gone over now a.connections) (none_right five six none)
+  none_gone none = none_mapped TcpConnectFailed (joined.peers_gone over now a.connections) (none_left six seven (none_right five (six ++ seven) none))
 
   pub told_gone : joined.peers_gone over now a.connections ≢ [] → connection_failures over now a ≢ []
   unfolding connection_failures
   told_gone some = λ none. some (none_gone none)
 
-  -- both are told one after the other
-  pub told_joined : (events first all : List TurnEvent) (asked : List Connecting) (standing : List Connection) → asked ≡ a.connecting → standing ≡ a.connections
-      → first ≡ events ++ map TcpConnectFailed (connections.peers_over over asked) → all ≡ first ++ map TcpConnectFailed (joined.peers_gone over now standing)
+  pub told_lost : attempts.peers_lost over a.waiting ≢ [] → connection_failures over now a ≢ []
+  unfolding connection_failures
+  told_lost some = λ none. some (none_mapped TcpConnectFailed (attempts.peers_lost over a.waiting) (none_right six seven (none_right five (six ++ seven) none)))
+
+  -- they are told one after the other
+  pub told_joined : (events first second all : List TurnEvent) (asked : List Connecting) (standing : List Connection) (begun : List Waiting) → asked ≡ a.connecting → standing ≡ a.connections → begun ≡ a.waiting
+      → first ≡ events ++ map TcpConnectFailed (connections.peers_over over asked) → second ≡ first ++ map TcpConnectFailed (joined.peers_gone over now standing)
+      → all ≡ second ++ map TcpConnectFailed (attempts.peers_lost over begun)
       → all ≡ events ++ connection_failures over now a
   unfolding connection_failures
-  told_joined events first all asked standing is_asked is_standing is_first is_all = rw (is_all, is_first, is_asked, is_standing) (append_assoc events five six)
+  told_joined events first second all asked standing begun is_asked is_standing is_begun is_first is_second is_all =
+      rw (is_all, is_second, is_first, is_asked, is_standing, is_begun) (append_assoc (events ++ five) six seven ∙ append_assoc events five (six ++ seven))
 
   -- of the whole, where one of its parts isn't empty
   pub told_relays : relay_failures over now a ≢ [] → failures over now a ≢ []

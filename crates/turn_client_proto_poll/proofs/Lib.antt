@@ -1,3 +1,4 @@
+mod Answering
 pub mod Draws
 pub mod Lapses
 pub mod Last

@@ -1,5 +1,6 @@
 -- What a poll answers.
-use Rattle.std.proofs.Common.{◌≡◌, ◌≢◌, ℕ, ◌≤◌, List, [], ◌∷◌, length, Option, Some, None, IfNone, refl, subst, arith}
+use Rattle.std.proofs.Common.{◌≡◌, ◌≢◌, ℕ, ◌≤◌, true, false, List, [], ◌∷◌, length, Option, Some, None, IfNone, refl, subst, arith}
+use Rattle.std.specs.List.{list_any}
 use Rattle.std.specs.declared.net.socket_addr.SocketAddr.{SocketAddr}
 use Rattle.turn_client_proto_core.specs.AgentPolls.{StunAgentPollRet}
 use Rattle.turn_client_proto_core.specs.State as agents
@@ -8,6 +9,7 @@ use Rattle.turn_client_proto_core.specs.Api.declared.answer.TurnPollRet.TheVaria
 use Rattle.turn_client_proto_core.specs.Api.declared.event.TurnEvent.{TurnEvent}
 use Rattle.turn_client_proto_poll.specs.Polling.{Answers, IsClosing, HasToTell, HasToTellIn, IsPolled, IsPolledBy, IsPolledIn, IsTicked, ended_of, longest_pause, wait_of, wait_to_send}
 use Rattle.turn_client_proto_core.specs.Moments.{moment_after}
+use Rattle.turn_client_proto_core.specs.Waiting.{is_answer}
 use Rattle.turn_client_proto_core.specs.declared.protocol.Protocol.{Protocol}
 
 -- an answer that isn't want of memory
@@ -18,10 +20,15 @@ named old now (answer.TcpClose here there) new other is = is
 named old now answer.Closed new other is = is
 named old now answer.NoMemory new other is = absurd (other refl)
 
--- no event waits
-pub no_events : (events : List TurnEvent) (count : ℕ) (old : Protocol) (now : ℕ) (ret : TurnPollRet) (new : Protocol) → count ≡ length events → count ≤ 0 → IsTicked old now ret new → IsPolledBy events old now ret new
-no_events [] count old now ret new is none ticked = ticked
-no_events (e ∷ events) count old now ret new is none ticked = absurd (omega (arith, is, none))
+-- no event waits, and no answer
+pub no_events : (events : List TurnEvent) (count : ℕ) (old : Protocol) (now : ℕ) (ret : TurnPollRet) (new : Protocol) → count ≡ length events → count ≤ 0 → list_any is_answer old.queue ≡ false → IsTicked old now ret new → IsPolledBy events old now ret new
+no_events [] count old now ret new is none no_answer ticked = rw no_answer ticked
+no_events (e ∷ events) count old now ret new is none no_answer ticked = absurd (omega (arith, is, none))
+
+-- an answer waits, and no event
+pub answer_waits : (events : List TurnEvent) (count : ℕ) (old : Protocol) (now : ℕ) → count ≡ length events → count ≤ 0 → list_any is_answer old.queue ≡ true → IsPolledBy events old now (answer.WaitUntil now) old
+answer_waits [] count old now is none waits = rw waits (refl, refl)
+answer_waits (e ∷ events) count old now is none waits = absurd (omega (arith, is, none))
 
 -- the same of the list alone
 pub none_waits : (events : List TurnEvent) (count : ℕ) → count ≡ length events → count ≤ 0 → events ≡ []

@@ -1,9 +1,9 @@
 -- Nothing is sent before the moment until which a client waits.
 use Rattle.std.proofs.Common.{◌≡◌, ℕ, suc, ◌<◌, ◌≤◌, arith, Bool, true, false, List, [], ◌∷◌, ◌++◌, Option, Some, None, cond, zero, refl, sym, ap, ◌∙◌, subst, map}
-use Rattle.std.specs.Prelude.{find, is_some, nat_le, nat_lt, not, ◌&&◌, max, min, MatchOption, if◌then◌else◌}
+use Rattle.std.specs.Prelude.{find, is_some, nat_le, nat_lt, not, ◌&&◌, ◌||◌, max, min, MatchOption, if◌then◌else◌}
 use Rattle.std.specs.Option.{option_and_then, option_map, option_or}
 use Rattle.std.specs.Bool.{MatchBool}
-use Rattle.std.specs.List.{All, cons_option, filter_map}
+use Rattle.std.specs.List.{All, cons_option, filter_map, list_any}
 use Rattle.std.proofs.lemmas.Bool.{and_right, lt-leb, ltb-false}
 use Rattle.std.specs.FinMap as finite
 use Rattle.std.specs.declared.net.socket_addr.SocketAddr.{SocketAddr}
@@ -36,10 +36,10 @@ use Rattle.turn_client_proto_core.specs.Allocation.declared.allocation.Allocatio
 use Rattle.turn_client_proto_core.specs.Allocation.declared.refresh.PendingRefresh.{PendingRefresh}
 use Rattle.turn_client_proto_core.specs.Api.declared.answer.TurnPollRet.TheVariants as answer
 use Rattle.turn_client_proto_core.specs.Api.declared.event.TurnEvent.{TurnEvent}
-use Rattle.turn_client_proto_poll.specs.Drawing.{Again, Fresh, IsBegun, IsDrawn, IsNextSent, IsRenewed, IsStill, Sent, is_resting}
+use Rattle.turn_client_proto_poll.specs.Drawing.{Again, Fresh, IsAnswerSent, IsBegun, IsDrawn, IsNextSent, IsRenewed, IsStill, Sent, is_resting}
 use Rattle.turn_client_proto_core.specs.Ending.{ended}
-use Rattle.turn_client_proto_poll.specs.Polling.{Answers, after_asking, after_time, answer_of, IsPolled, IsPolledBy, IsPolledIn, IsPolledSent, IsWalked, cadence, ended_of, left, longest_pause, ready_after, socket_for, wait_of, wait_to_send}
-use Rattle.turn_client_proto_core.specs.Waiting.{Queued}
+use Rattle.turn_client_proto_poll.specs.Polling.{Answers, after_asking, after_time, answer_of, IsPolled, IsPolledBy, IsPolledIn, IsPolledSent, IsTicked, IsWalked, cadence, ended_of, left, longest_pause, ready_after, socket_for, wait_of, wait_to_send}
+use Rattle.turn_client_proto_core.specs.Waiting.{Queued, is_answer}
 use Rattle.turn_client_proto_core.specs.declared.protocol.Phase.{Phase}
 use Rattle.turn_client_proto_core.specs.declared.protocol.Phase.TheVariants.{Initial, InitialSent, Authenticating, Authenticated, Ended}
 use Rattle.turn_client_proto_core.specs.declared.protocol.Protocol.{Protocol}
@@ -70,11 +70,21 @@ none_queued (Some last) (q ∷ rest) now until moment wait from before within fr
     let ready = ltb-false moment (moment_after last cadence) free in
     absurd (omega (arith, before, within, ready))
 
+-- no answer is found where none waits
+none_found : (queue : List Queued) → list_any is_answer queue ≡ false → find is_answer queue ≡ None
+none_found [] none = refl
+none_found (q ∷ rest) none =
+    elim (is_answer q) as (λ (b : Bool). (b || list_any is_answer rest) ≡ false → cond b (Some q) (find is_answer rest) ≡ None) [
+      | true ↦ λ there. absurd (Prim.cc there)
+      | false ↦ λ there. none_found rest there
+    ] none
+
 module _ (p after : Protocol) (moment : ℕ) (sent : Option Sent) where
-  pub by_draw : NoneDue p.agent moment → (is_resting p.last_send moment ≡ false → IsNextSent p.queue p moment sent after → IsStill p sent after)
+  pub by_draw : list_any is_answer p.queue ≡ false → NoneDue p.agent moment → (is_resting p.last_send moment ≡ false → IsNextSent p.queue p moment sent after → IsStill p sent after)
       → IsDrawn p moment sent after → IsStill p sent after
-  by_draw none follows (Again again answer is) = absurd (Prim.cc (sym (none is.number is.transaction is.least.present) ∙ is.least.passes))
-  by_draw none follows (Fresh due is) = by_test (is_resting p.last_send moment) is follows
+  by_draw no_answer none follows (Again again answer is) = absurd (Prim.cc (sym (none is.number is.transaction is.least.present) ∙ is.least.passes))
+  by_draw no_answer none follows (Fresh due is) =
+      by_test (is_resting p.last_send moment) (subst (λ (o : Option Queued). MatchBool (is_resting p.last_send moment) (IsAnswerSent o p sent after) (IsNextSent p.queue p moment sent after)) (none_found p.queue no_answer) is) follows
 
   pub begun_by : (phase : Phase) → p.phase ≡ phase → p.queue ≡ [] → IsNextSent p.queue p moment sent after → IsBegun phase p moment sent after
   begun_by phase is empty next =
@@ -266,7 +276,7 @@ module _ (quiet : AgentsWait) (old new after : Protocol) (now until moment : ℕ
   no_longer (a ∷ rest) next is = let same : until ≡ max next now = Prim.cc is in omega (arith, same, later)
 
   -- no transaction has ended, and the agent waits
-  module _ (agent : agents.Agent) (wait : ℕ) (none : agents.NoneEnded old.agent now) (next : agents.IsNext old.agent now wait) (agent_is : agent ≡ old.agent) where
+  module _ (agent : agents.Agent) (wait : ℕ) (none : agents.NoneEnded old.agent now) (next : agents.IsNext old.agent now wait) (agent_is : agent ≡ old.agent) (no_answer : list_any is_answer old.queue ≡ false) where
     abbrev pause : ℕ
     pause = wait_to_send old.last_send old.queue now (moment_after now longest_pause)
 
@@ -285,7 +295,7 @@ module _ (quiet : AgentsWait) (old new after : Protocol) (now until moment : ℕ
         none_queued old.last_send old.queue now until moment (moment_after now longest_pause) from before short free
 
     nothing_begun : (phase : Phase) → old.phase ≡ phase → (IsBegun phase ticked moment sent after → IsStill ticked sent after) → until ≤ min pause wait → new ≡ ticked → IsStill new sent after
-    nothing_begun phase is still within same = same_client ticked same (by_draw ticked after moment sent (agent_quiet within)
+    nothing_begun phase is still within same = same_client ticked same (by_draw ticked after moment sent no_answer (agent_quiet within)
         (λ free going. still (begun_by ticked after moment sent phase is (empty_queue within free) going)))
 
     standing_still : old.phase ≡ Authenticated → IsWalked None (min pause wait) ticked now (answer.WaitUntil until) new → IsStill new sent after
@@ -305,7 +315,7 @@ module _ (quiet : AgentsWait) (old new after : Protocol) (now until moment : ℕ
         let before_next : moment < polling.next = omega (arith, before_permissions, least_of_permissions) in
         let later_channels : now < polling.earliest = omega (arith, later, most, least_of_connections) in
         let later_permissions : now < polling.sooner = omega (arith, later_channels, least_of_channels) in
-        same_client p outcome.1 (by_draw p after moment sent (agent_quiet within) (λ free going.
+        same_client p outcome.1 (by_draw p after moment sent no_answer (agent_quiet within) (λ free going.
         let none = none_due polling.next (ready_after old.last_send now) now moment (ready_by old.last_send now moment from free) before_next polling.sooner polling.earliest
         before_permissions later_permissions before_channels later_channels all polling.least.below polling.least_of_permissions.below polling.least_of_channels.below in
         let begun : IsRenewed (wanted moment p.allocations) p moment sent after = begun_by p after moment sent Authenticated is (empty_queue within free) going in
@@ -322,15 +332,19 @@ module _ (quiet : AgentsWait) (old new after : Protocol) (now until moment : ℕ
     waiting Authenticated is polling = of_walk (unasked ticked.allocations) ticked polling (standing_still is)
     waiting Ended is polling = absurd (Prim.cc polling.0)
 
-  by_agent : (ticked : StunAgentPollRet) (agent : agents.Agent) → agents.IsPolled old.agent now ticked agent
+  by_agent : list_any is_answer old.queue ≡ false → (ticked : StunAgentPollRet) (agent : agents.Agent) → agents.IsPolled old.agent now ticked agent
       → IsPolledIn old.phase (ended_of ticked) (wait_of (wait_to_send old.last_send old.queue now (moment_after now longest_pause)) ticked) (record old { agent = agent }) now (answer.WaitUntil until) new
       → IsStill new sent after
-  by_agent (TransactionTimedOut number) agent is polling = over_now old.phase number (wait_to_send old.last_send old.queue now (moment_after now longest_pause)) (record old { agent = agent }) polling
-  by_agent (TransactionCancelled number) agent is polling = over_now old.phase number (wait_to_send old.last_send old.queue now (moment_after now longest_pause)) (record old { agent = agent }) polling
-  by_agent (WaitUntil wait) agent is polling = waiting agent wait is.0 is.1 is.2 old.phase refl polling
+  by_agent no_answer (TransactionTimedOut number) agent is polling = over_now old.phase number (wait_to_send old.last_send old.queue now (moment_after now longest_pause)) (record old { agent = agent }) polling
+  by_agent no_answer (TransactionCancelled number) agent is polling = over_now old.phase number (wait_to_send old.last_send old.queue now (moment_after now longest_pause)) (record old { agent = agent }) polling
+  by_agent no_answer (WaitUntil wait) agent is polling = waiting agent wait is.0 is.1 is.2 no_answer old.phase refl polling
 
   by_events : (events : List TurnEvent) → IsPolledBy events old now (answer.WaitUntil until) new → IsStill new sent after
-  by_events [] is = by_agent is.ticked is.agent is.is_ticked is.outcome
+  by_events [] is = by_answers (list_any is_answer old.queue) refl is
+    where
+      by_answers : (waits : Bool) → list_any is_answer old.queue ≡ waits → MatchBool waits (Answers (answer.WaitUntil now) old (answer.WaitUntil until) new) (IsTicked old now (answer.WaitUntil until) new) → IsStill new sent after
+      by_answers true waits polled = not_now polled.0
+      by_answers false none polled = by_agent none polled.ticked polled.agent polled.is_ticked polled.outcome
   by_events (e ∷ events) is = not_now is.0
 
 -- a client that was told to wait has nothing to send before the wait is over

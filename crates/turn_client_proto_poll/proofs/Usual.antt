@@ -7,6 +7,7 @@ use Rattle.turn_client_proto_core.proofs.Deleting.{deleted_each}
 use Rattle.turn_client_proto_core.proofs.Numbers.{unused}
 use Rattle.turn_client_proto_core.proofs.Shown.{none_shown}
 use Rattle.turn_client_proto_core.specs.Asking.{asked}
+use Rattle.turn_client_proto_poll.specs.Closing.{without}
 use Rattle.turn_client_proto_poll.specs.Drawing.{first_allocated, first_bound, first_permitted, first_refreshed, sent_at_once}
 use Rattle.turn_client_proto_poll.specs.Polling.{after_asking, after_time}
 
@@ -20,5 +21,5 @@ pub ruleset fronts = (front_kept, whole_kept, front_of)
 
 -- What calls make of a client, to be opened: to unfold this one is to unfold all that its line names.
 unfoldable pub opened : Type 0
-unfolding asked first_allocated first_bound first_permitted first_refreshed sent_at_once after_asking after_time request_refusal
+unfolding asked first_allocated first_bound first_permitted first_refreshed sent_at_once after_asking after_time request_refusal without
 opened = Unit {0}

@@ -1,5 +1,5 @@
 -- What a client sends (RFC 8489, section 6.2.1; RFC 8656, sections 7.1, 8.1, 10.1 and 12.1).
-use Rattle.std.specs.Prelude.{◌≡◌, ◌≢◌, ◌⊎◌, ℕ, nat_lt, Bool, false, List, [], ◌∷◌, Option, Some, None, MatchOption}
+use Rattle.std.specs.Prelude.{◌≡◌, ◌≢◌, ◌⊎◌, ℕ, nat_lt, Bool, false, List, [], ◌∷◌, find, Option, Some, None, MatchOption}
 use Rattle.std.specs.Bool.{MatchBool}
 use Rattle.std.specs.declared.net.ip_addr.IpAddr.{IpAddr}
 use Rattle.std.specs.declared.net.socket_addr.SocketAddr.{SocketAddr}
@@ -19,11 +19,12 @@ use Rattle.turn_client_proto_core.specs.Request.declared.request.TurnRequest.The
 use Rattle.turn_client_proto_core.specs.Request.declared.request.TurnRequest.TheVariants.{Refresh as RefreshRequest}
 use Rattle.turn_client_proto_core.specs.Request.ToldRequests.{IsLawfulRequest}
 use Rattle.turn_client_proto_core.specs.Numbering.{IsNextNumber, after_number}
+use Rattle.turn_client_proto_poll.specs.Answering.{without_answer}
 use Rattle.turn_client_proto_poll.specs.Polling.{cadence}
 use Rattle.turn_client_proto_poll.specs.Wanting.{channel_renewal_first, refreshed_first, renewal_first, wanted}
 use Rattle.turn_client_proto_poll.specs.declared.wanting.Want.{Want}
 use Rattle.turn_client_proto_poll.specs.declared.wanting.Want.TheVariants.{Refresh, Channel, Permission}
-use Rattle.turn_client_proto_core.specs.Waiting.{Queued}
+use Rattle.turn_client_proto_core.specs.Waiting.{Queued, is_answer}
 use Rattle.turn_client_proto_core.specs.declared.protocol.Phase.{Phase}
 use Rattle.turn_client_proto_core.specs.declared.protocol.Phase.TheVariants.{Initial, InitialSent, Authenticated}
 use Rattle.turn_client_proto_core.specs.declared.protocol.Protocol.{Protocol}
@@ -42,6 +43,10 @@ sent_of t = record { bytes = data_bytes t.bytes; transport = t.transport; from =
 -- a client that sent something at a moment
 abbrev pub after_sending : ℕ → Protocol → Protocol
 after_sending now p = record p { last_send = Some now }
+
+-- nothing is sent, and nothing changes
+abbrev pub IsStill : Protocol → Option Sent → Protocol → Type 0
+IsStill old answer new = (answer ≡ None) × (new ≡ old)
 
 -- ---- a request that is sent again
 
@@ -71,6 +76,13 @@ pub record IsQueuedSent (old : Protocol) (now : ℕ) (q : Queued) (rest : List Q
     : Type 0 where
   pub is_sent : sent ≡ record { bytes = q.bytes; transport = old.agent.transport; from = q.from; to = old.server }
   pub after : new ≡ after_sending now (record old { queue = rest })
+
+-- where messages rest: the first answer to a request of the server's, which is no message that others wait for
+abbrev pub IsAnswerSent : Option Queued → Protocol → Option Sent → Protocol → Type 0
+IsAnswerSent None old answer new = IsStill old answer new
+IsAnswerSent (Some q) old answer new =
+    (answer ≡ Some (record { bytes = q.bytes; transport = old.agent.transport; from = q.from; to = old.server }))
+    × (new ≡ record old { queue = without_answer old.queue })
 
 -- ---- a request that is made and sent at once
 
@@ -140,10 +152,6 @@ pub record IsChannelRenewalSent (old : Protocol) (channel : ℕ) (peer : SocketA
 
 -- ---- all of it
 
--- nothing is sent, and nothing changes
-abbrev pub IsStill : Protocol → Option Sent → Protocol → Type 0
-IsStill old answer new = (answer ≡ None) × (new ≡ old)
-
 -- something is sent
 abbrev pub Sends : Option Sent → (Sent → Type 0) → Type 0
 Sends answer Is = MatchOption answer ⊥ Is
@@ -167,10 +175,10 @@ abbrev pub IsNextSent : List Queued → Protocol → ℕ → Option Sent → Pro
 IsNextSent (q ∷ rest) old now answer new = Sends answer (λ sent. IsQueuedSent old now q rest sent new)
 IsNextSent [] old now answer new = IsBegun old.phase old now answer new
 
--- where nothing is due again: nothing, for a short time after the last message
+-- where nothing is due again: for a short time after the last message answers alone
 abbrev pub IsFreshSent : Protocol → ℕ → Option Sent → Protocol → Type 0
 IsFreshSent old now answer new = MatchBool (is_resting old.last_send now)
-    (IsStill old answer new)
+    (IsAnswerSent (find is_answer old.queue) old answer new)
     (IsNextSent old.queue old now answer new)
 
 -- a request that is due again comes first

@@ -1,3 +1,5 @@
+pub mod Answering
+pub mod Closing
 pub mod Drawing
 pub mod OfPeers
 pub mod Payloads

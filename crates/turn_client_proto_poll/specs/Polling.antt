@@ -1,6 +1,7 @@
 -- What a client does as time goes on (RFC 8489, section 6.2.1; RFC 8656, section 8).
-use Rattle.std.specs.Prelude.{◌≡◌, ◌≢◌, ℕ, min, max, true, List, [], ◌∷◌, ◌++◌, map, Option, Some, None, MatchOption}
+use Rattle.std.specs.Prelude.{◌≡◌, ◌≢◌, ℕ, min, max, true, false, List, [], ◌∷◌, ◌++◌, map, Option, Some, None, MatchOption}
 use Rattle.std.specs.Bool.{MatchBool}
+use Rattle.std.specs.List.{list_any}
 use Rattle.std.specs.declared.net.socket_addr.SocketAddr.{SocketAddr}
 use Rattle.turn_client_proto_core.specs.AgentPolls.{StunAgentPollRet, TransactionTimedOut, TransactionCancelled, WaitUntil}
 use Rattle.turn_client_proto_core.specs.Least.{IsLeastOf}
@@ -18,7 +19,7 @@ use Rattle.turn_client_proto_core.specs.Connection.Lapsing as joined
 use Rattle.turn_client_proto_core.specs.Connection.Waiting.{all_asked, unasked}
 use Rattle.turn_client_proto_core.specs.Permission.Telling as permissions
 use Rattle.turn_client_proto_core.specs.Ending.{HasFailed, ended}
-use Rattle.turn_client_proto_core.specs.Waiting.{Queued}
+use Rattle.turn_client_proto_core.specs.Waiting.{Queued, is_answer}
 use Rattle.turn_client_proto_core.specs.declared.protocol.Phase.{Phase}
 use Rattle.turn_client_proto_core.specs.declared.protocol.Phase.TheVariants.{Initial, InitialSent, Authenticating, Authenticated, Ended}
 use Rattle.turn_client_proto_core.specs.declared.protocol.Protocol.{Protocol}
@@ -150,9 +151,11 @@ pub record IsTicked (old : Protocol) (now : ℕ) (ret : TurnPollRet) (new : Prot
       (wait_of (wait_to_send old.last_send old.queue now (moment_after now longest_pause)) ticked)
       (record old { agent = agent }) now ret new
 
--- the events come first
+-- the events come first; then the answers to requests of the server's, which wait for no moment to be sent
 abbrev pub IsPolledBy : List TurnEvent → Protocol → ℕ → TurnPollRet → Protocol → Type 0
-IsPolledBy [] old now ret new = IsTicked old now ret new
+IsPolledBy [] old now ret new = MatchBool (list_any is_answer old.queue)
+    (Answers (answer.WaitUntil now) old ret new)
+    (IsTicked old now ret new)
 IsPolledBy (e ∷ events) old now ret new = Answers (answer.WaitUntil now) old ret new
 
 -- ---- when memory may be refused
@@ -175,10 +178,12 @@ pub record HasToTell (old : Protocol) (now : ℕ) : Type 0 where
   pub is_ticked : agents.IsPolled old.agent now ticked agent
   pub tells : HasToTellIn old.phase (ended_of ticked) (record old { agent = agent }) now
 
--- a client that was polled at a moment, and was refused memory: no event waited, and one was to be told
+-- a client that was polled at a moment, and was refused memory: no event and no answer waited, and something was to be
+-- told
 pub record IsRefused (old : Protocol) (now : ℕ) (new : Protocol) : Type 0 where
   pub failed : HasFailed old new
   pub no_event : old.events ≡ []
+  pub no_answer : list_any is_answer old.queue ≡ false
   pub has_to_tell : HasToTell old now
 
 -- a client was polled at a moment

@@ -6,6 +6,7 @@ use Rattle.turn_client_proto_core.specs.Allocation.declared.allocation.Allocatio
 use Rattle.turn_client_proto_core.specs.Api.declared.event.TurnEvent.{TurnEvent}
 use Rattle.turn_client_proto_core.specs.Api.declared.event.TurnEvent.TheVariants.{ChannelCreateFailed, PermissionCreateFailed, TcpConnectFailed}
 use Rattle.turn_client_proto_core.specs.Channel.Lapsing as channels
+use Rattle.turn_client_proto_core.specs.Connection.Attempts as attempts
 use Rattle.turn_client_proto_core.specs.Connection.Lapsing as joined
 use Rattle.turn_client_proto_core.specs.Connection.Told as connections
 use Rattle.turn_client_proto_core.specs.Permission.Telling as permissions
@@ -19,11 +20,12 @@ relay_failures over now a =
     ++ (map (PermissionCreateFailed a.transport) (permissions.addresses_lapsed now a.permissions)
     ++ map (ChannelCreateFailed a.transport) (channels.peers_lapsing now a)))
 
--- what is told of its connections: those that were asked for and whose request ended, and then those that were not bound
--- in time
+-- what is told of its connections: those that were asked for and whose request ended, then those that were not bound in
+-- time, and then those that peers began by a request of the number that ended
 unfoldable pub connection_failures : Option ℕ → ℕ → Allocation → List TurnEvent
 connection_failures over now a = map TcpConnectFailed (connections.peers_over over a.connecting)
-    ++ map TcpConnectFailed (joined.peers_gone over now a.connections)
+    ++ (map TcpConnectFailed (joined.peers_gone over now a.connections)
+    ++ map TcpConnectFailed (attempts.peers_lost over a.waiting))
 
 -- what is told of an allocation
 unfoldable pub failures : Option ℕ → ℕ → Allocation → List TurnEvent

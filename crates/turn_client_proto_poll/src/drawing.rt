@@ -1,10 +1,11 @@
 //! What a client sends.
 
-ghost use Rattle.std.specs.Prelude.{◌≡◌, ◌≢◌, [], ℕ, IfOk, MatchOption, OnErr, OnOk, Some, None};
+ghost use Rattle.std.specs.Prelude.{◌≡◌, ◌≢◌, [], ℕ, IfOk, MatchOption, find, OnErr, OnOk, Some, None};
 ghost use Rattle.std.specs.Option.{option_map};
 ghost use Rattle.turn_client_proto_core.specs.Sending.{NoneDue};
 ghost use Rattle.turn_client_proto_core.specs.Request.Requests.{request_text};
-ghost use Rattle.turn_client_proto_poll.specs.Drawing.{HasToBegin, HasToRepeat, HasToSend, IsBegun};
+ghost use Rattle.turn_client_proto_core.specs.Waiting.{is_answer};
+ghost use Rattle.turn_client_proto_poll.specs.Drawing.{HasToBegin, HasToRepeat, HasToSend, IsAnswerSent, IsBegun};
 ghost use Rattle.turn_client_proto_poll.specs.Drawing.{IsChannelRenewalSent, IsDrawn, IsFirstSent, IsFreshSent};
 ghost use Rattle.turn_client_proto_poll.specs.Drawing.{IsNextSent, IsRefreshSent, IsRenewalSent};
 ghost use Rattle.turn_client_proto_poll.specs.Drawing.{IsRenewed, IsRepeated, after_sending};
@@ -15,6 +16,7 @@ ghost use Rattle.turn_client_proto_poll.specs.Wanting.{wanted};
 ghost use Rattle.turn_client_proto_core.specs.Ending.{HasFailed, IsUnderWay};
 ghost use Rattle.turn_client_proto_core.specs.Numbering.{IsNextNumber, IsUnused};
 
+use crate::answers::take_answer;
 use crate::polling::next_send;
 use crate::wanting::{Want, refresh_first, renew_channel_first, renew_first, wanted};
 use std::net::{IpAddr, SocketAddr};
@@ -30,10 +32,11 @@ use turn_client_proto_core::request::laws::requests_are_lawful;
 use turn_client_proto_core::request::request::{ALLOCATION_LIFETIME, TurnRequest};
 
 /// What is to be sent at a moment, where there is something. A request that is due again comes
-/// first; then, 50 ms after the last message at the earliest, what waits longest; then the first
-/// ALLOCATE, or what renews something whose time has come: a REFRESH for an allocation, a
-/// CHANNEL_BIND for a channel, or a CREATE_PERMISSION for a permission, for the first allocation
-/// for which there is one, in this order. Call it again until it answers `None`.
+/// first; then, 50 ms after the last message at the earliest, what waits longest, and before that
+/// moment the answer to a request of the server's that waits longest; then the first ALLOCATE, or what
+/// renews something whose time has come: a REFRESH for an allocation, a CHANNEL_BIND for a channel, or a
+/// CREATE_PERMISSION for a permission, for the first allocation for which there is one, in this order.
+/// Call it again until it answers `None`.
 ///
 /// Memory is asked for where a request is due again, and where one is made. A message that waits
 /// takes none, and neither does a call that answers `None`. Where it is refused, `NoMemory`, and
@@ -68,7 +71,7 @@ fn draw(protocol: &mut Protocol, now: Instant) -> Result<Option<Transmit<Data<'s
         return Ok(Some(again));
     }
     if is_resting(protocol, now) {
-        return Ok(None);
+        return Ok(draw_answer(protocol));
     }
     draw_next(protocol, now)
 }
@@ -101,6 +104,17 @@ fn is_resting(protocol: &Protocol, now: Instant) -> bool
         Some(last) => now < next_send(last),
         None => false,
     }
+}
+
+/// The first answer to a request of the server's that waits. It is no message for whose sake others wait.
+fn draw_answer(protocol: &mut Protocol) -> Option<Transmit<Data<'static>>>
+    ensures { IsAnswerSent (find is_answer protocol.old.queue) protocol.old
+        (option_map sent_of result) protocol.new }
+{
+    let queued = take_answer(&mut protocol.queue)?;
+    let transport = protocol.agent.transport();
+    let from = queued.from();
+    Some(transmit(queued.into_bytes(), transport, from, protocol.server))
 }
 
 /// The first message that waits, or else one that is made now.

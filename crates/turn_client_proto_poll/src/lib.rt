@@ -10,6 +10,8 @@
 //! [`laws`] has what these promise each other and a layer above.
 #![tactic(auto, using(crate::proofs::Usual::usual), unfolding(crate::proofs::Usual::opened))]
 
+mod answers;
+pub mod closing;
 pub mod deleting;
 pub mod drawing;
 pub mod indication;

@@ -13,6 +13,7 @@ ghost use Rattle.turn_client_proto_poll.specs.Polling.{ready_after, wait_of};
 ghost use Rattle.turn_client_proto_poll.specs.Polling.{wait_to_send, waits_until};
 ghost use Rattle.turn_client_proto_poll.specs.Telling.{all_failures};
 
+use crate::answers::has_answer;
 use crate::telling;
 use std::time::Duration;
 use stun_types::NoMemory;
@@ -98,25 +99,30 @@ fn answer_of(
 }
 
 /// What is to be done at a moment. Where an event waits, the answer is to wait for that very
-/// moment: `poll_event` gives it. Else a request that has ended without a response is given up. Where
+/// moment: `poll_event` gives it; and so it is where an answer to a request of the server's waits, which
+/// `poll_transmit` gives. Else a request that has ended without a response is given up. Where
 /// then a connection waits for a socket that was not asked for, the answer is to open it, and nothing
 /// else is done; what the request that ended had asked for stays as it is. Else allocations,
 /// permissions and channels whose time is over go, and connections that were not bound in time; of the
-/// channels of one allocation, one at each call. The answer is `TcpClose` where then a socket is to be
-/// closed that the caller was not told of: the first, and each once. Else it is `Closed` where the client
-/// has ended or has no allocation left, and else the moment until which nothing is to be done, at most
-/// 9999 seconds from now; it is now where a request has ended. A client that has ended answers `Closed`
-/// alone, whatever sockets are to be closed.
+/// channels of one allocation, one at each call; and of those connections that a peer began by a request
+/// of the number that ended, one. The answer is `TcpClose` where then a socket is to be closed that the
+/// caller was not told of: the first, and each once. Else it is `Closed` where the client has ended or
+/// has no allocation left, and else the moment until which nothing is to be done, at most 9999 seconds
+/// from now; it is now where a request has ended. A client that has ended answers `Closed` alone,
+/// whatever sockets are to be closed.
 ///
 /// Memory is asked for where no event waits, no socket is asked for, and something is to be told: that
 /// an ALLOCATE ended without a response; or that a permission, a channel or a connection did; that a
-/// permission or a channel has lapsed; or that a connection was not bound in time. Where it is refused,
+/// permission or a channel has lapsed; or that a connection goes. Where it is refused,
 /// `NoMemory`, and the client has failed.
 pub fn poll(protocol: &mut Protocol, now: Instant) -> TurnPollRet
     ensures { IsPolled protocol.old now result protocol.new }
 {
     let events = protocol.events.len();
     if events > 0 {
+        return TurnPollRet::WaitUntil(now);
+    }
+    if has_answer(&protocol.queue) {
         return TurnPollRet::WaitUntil(now);
     }
     match tick(protocol, now) {

@@ -10,6 +10,7 @@ use turn_client_proto_core::Instant;
 use turn_client_proto_core::allocation::allocation::Allocation;
 use turn_client_proto_core::api::event::TurnEvent;
 use turn_client_proto_core::channel::lapse;
+use turn_client_proto_core::connection::attempts::tell_lost;
 use turn_client_proto_core::connection::{lapse as joined, told as connections};
 use turn_client_proto_core::permission::queue::queue::QueueOf;
 use turn_client_proto_core::permission::telling;
@@ -51,7 +52,8 @@ fn tell_connections(
     ensures told { OnErr result (connection_failures ended.now now a.now ≢ []) }
 {
     connections::tell_over(events, a.connecting.as_slice(), ended)?;
-    joined::tell_gone(events, a.connections.as_slice(), ended, now)
+    joined::tell_gone(events, a.connections.as_slice(), ended, now)?;
+    tell_lost(events, a.waiting.as_slice(), ended)
 }
 
 /// Tells the permissions, channels and connections of an allocation that go. Where memory is refused,

@@ -1,6 +1,6 @@
 //! What comes in first goes out first; but what is put before all others goes out before them.
 
-ghost use Rattle.std.specs.Prelude.{◌≡◌, ◌<◌, [], ◌∷◌, ◌++◌, List, Some, IfNone, OnOk, OnErr, length, option_to_list, slice_get, take};
+ghost use Rattle.std.specs.Prelude.{◌≡◌, ◌<◌, [], ◌∷◌, ◌++◌, List, Some, IfNone, OnOk, OnErr, length, option_to_list, remove, slice_get, take};
 ghost use Rattle.std.specs.Option.{option_copied};
 
 use std::alloc::Global;
@@ -54,6 +54,22 @@ impl<T> QueueOf<T> {
         ensures undone { (xs : List T) (x : T) → self.old ≡ xs ++ x ∷ [] → self.new ≡ xs }
     {
         self.items.pop_back()
+    }
+
+    /// Takes out the element at a place.
+    pub fn remove(&mut self, place: usize) -> Option<T>
+        requires { place < length self.old }
+        ensures given { result ≡ slice_get self.old place }
+        ensures items { self.new ≡ remove self.old place }
+    {
+        self.items.remove(place)
+    }
+
+    /// The elements in two parts, the first ones first.
+    pub fn as_slices(&self) -> (&[T], &[T])
+        ensures { result.0.now ++ result.1.now ≡ self.now }
+    {
+        self.items.as_slices()
     }
 
     /// The last element, where there is one.

@@ -34,6 +34,7 @@ pub use Rattle.turn_client_proto_steps.specs.Sending
 pub use Rattle.turn_client_proto_steps.specs.Sockets
 pub use Rattle.turn_client_proto_steps.specs.Steps
 pub use Rattle.turn_client_proto_steps.specs.Words
+pub use Rattle.turn_client_proto_steps.specs.Adding
 pub use Rattle.turn_client_proto_steps.specs.Beginning as FirstClient
 pub use Rattle.turn_client_proto_steps.specs.ClientWords
 pub use Rattle.turn_client_proto_steps.specs.Payload

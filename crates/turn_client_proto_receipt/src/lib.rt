@@ -15,4 +15,5 @@ pub mod sockets;
 pub mod stream;
 
 // What stands above this crate has the calls through it.
+pub use turn_client_proto_steps as step_laws;
 pub use turn_client_proto_steps::calls;

@@ -1,4 +1,5 @@
 pub mod Algorithms
+pub mod Answering
 pub mod Beside
 pub mod Families
 pub mod Growing

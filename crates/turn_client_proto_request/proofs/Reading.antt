@@ -84,9 +84,9 @@ attributes_few (ConnectionBind connection) number lawful = omega arith
 record IsLeft (attributes : List Attr) (draft : Draft) : Type 0 where
   calls : AreAccepted (map Ordinary attributes) draft
   still : IsOpen (after_calls (map Ordinary attributes) draft)
-  size : length (after_calls (map Ordinary attributes) draft).bytes ≤ length draft.bytes + 24 * length attributes
+  size : length (after_calls (map Ordinary attributes) draft).bytes ≤ length draft.bytes + 40 * length attributes
 
-attributes_left : (attributes : List Attr) (draft : Draft) → AllByRecursion IsSmall attributes → IsOpen draft → length draft.bytes + 24 * length attributes ≤ 4096 → IsLeft attributes draft
+attributes_left : (attributes : List Attr) (draft : Draft) → AllByRecursion IsSmall attributes → IsOpen draft → length draft.bytes + 40 * length attributes ≤ 4096 → IsLeft attributes draft
 unfolding AreAccepted after_calls
 attributes_left [] draft small o fits = record { calls = tt; still = o; size = omega arith }
 attributes_left (a ∷ rest) draft small o fits =
@@ -221,20 +221,21 @@ type_small (ConnectionBind connection) = omega arith
 
 -- ---- what is read
 
+-- a message of small attributes and a short addition is read as it was written
+pub whole_read : (kind number : ℕ) (attributes : List Attr) (made : Addition) → kind < 2 ^ 14 → number < 2 ^ 96 → AllByRecursion IsSmall attributes → length attributes ≤ 5 → IsShortAddition made
+    → IsReadAs kind number (attributes_of kind number (map Ordinary attributes ++ calls_of made)) (message_text kind number (attributes_of kind number (map Ordinary attributes ++ calls_of made)))
+whole_read kind number attributes made k n small few short =
+    let calls = map Ordinary attributes ++ calls_of made in
+    let draft = after_calls calls (header_alone kind number) in
+    let written = all_written kind number attributes made k small few short in
+    let each = lawful_both (map Ordinary attributes) (calls_of made) (small_lawful attributes small) (lawful_both (calls_of_parts made.parts) (calls_of_signer made.signer) (short_lawful made.parts short.each) (signer_lawful made.signer)) in
+    subst (λ (b : List ℕ). IsReadAs kind number (attributes_of kind number calls) b) (written_text kind number calls draft written) (calls_read kind number calls draft k n each written)
+
 pub request_read : (client : Client) (request : TurnRequest) (number : ℕ) → HasShortTexts client → IsLawfulRequest request → number < 2 ^ 96
     → IsReadAs (request_type request) number (attributes_of (request_type request) number (request_calls client request number)) (request_text client request number)
 unfolding request_text
 request_read client request number short lawful n =
-    let kind = request_type request in
-    let attributes = request_attributes request number in
-    let made = addition_of client request in
-    let calls = map Ordinary attributes ++ calls_of made in
-    let draft = after_calls calls (header_alone kind number) in
-    let small = attributes_small request number in
-    let few = addition_short client request short in
-    let written = all_written kind number attributes made (type_small request) small (attributes_few request number lawful) few in
-    let each = lawful_both (map Ordinary attributes) (calls_of made) (small_lawful attributes small) (lawful_both (calls_of_parts made.parts) (calls_of_signer made.signer) (short_lawful made.parts few.each) (signer_lawful made.signer)) in
-    subst (λ (b : List ℕ). IsReadAs kind number (attributes_of kind number calls) b) (written_text kind number calls draft written) (calls_read kind number calls draft (type_small request) n each written)
+    whole_read (request_type request) number (request_attributes request number) (addition_of client request) (type_small request) n (attributes_small request number) (attributes_few request number lawful) (addition_short client request short)
 
 pub message_law : (client : Client) (request : TurnRequest) (number : ℕ) → HasShortTexts client → IsLawfulRequest request → number < 2 ^ 96 → refusal (request_text client request number) ≡ None
 message_law client request number short lawful n = (request_read client request number short lawful n).message

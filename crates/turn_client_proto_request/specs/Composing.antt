@@ -8,9 +8,9 @@ use Rattle.stun_types.specs.Drafts.{Draft, empty, none_ended}
 use Rattle.turn_client_proto_request.specs.Requests.{request_attributes, request_type}
 use Rattle.turn_client_proto_request.specs.declared.request.TurnRequest.{TurnRequest}
 
--- how many bytes an attribute of a request takes at most: XOR-PEER-ADDRESS of IPv6
+-- how many bytes an attribute of a request or an answer takes at most: an ERROR-CODE of an answer, with its reason
 abbrev pub most_per_attribute : ℕ
-most_per_attribute = 24
+most_per_attribute = 40
 
 -- how long a request is at most before an attribute is added to it, or before it is signed
 abbrev pub most_before : ℕ

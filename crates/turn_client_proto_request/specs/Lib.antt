@@ -1,8 +1,10 @@
+pub mod Answers
 pub mod Composing
 pub mod Judging
 pub mod Requests
 pub mod ShortTexts
 pub mod ToldRequests
+pub mod Waiting
 -- What stands above this crate has these through it.
 pub use Rattle.turn_runs_stun.specs.Headline
 pub use Rattle.turn_runs_stun.specs.Indications

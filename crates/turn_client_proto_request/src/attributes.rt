@@ -3,7 +3,6 @@
 ghost use Rattle.std.specs.Prelude.{◌≡◌, ◌+◌, ◌≤◌, ◌<◌, ◌^◌, [], ◌∷◌, length, IfOk, OnOk};
 ghost use Rattle.stun_types.specs.Adding.{attr_of};
 ghost use Rattle.stun_types.specs.Lent.{own_draft};
-ghost use Rattle.stun_types.specs.MessageClasses.{Request};
 ghost use Rattle.stun_types.specs.Types.{type_of};
 ghost use Rattle.turn_client_proto_request.specs.Composing.{IsGrown, IsOpen, IsSmall, IsUnsigned, most_before, most_per_attribute};
 ghost use Rattle.turn_client_proto_request.specs.Requests.{channel_attribute, connection_attribute, dont_fragment_attribute, families_attributes, lifetime_attribute, peer_attribute, protocol_of, transport_attribute};
@@ -22,26 +21,28 @@ use turn_types::attribute::{
     RequestedAddressFamily, RequestedTransport, XorPeerAddress,
 };
 
-/// A request of this method and number that shows nothing yet. Where memory is refused, `NoMemory`.
+/// A message of this class, method and number that shows nothing yet. Where memory is refused,
+/// `NoMemory`.
 pub(crate) fn begin(
     alloc: Global,
+    class: MessageClass,
     method: Method,
     number: TransactionId,
 ) -> Result<MessageWriteVec, NoMemory>
     requires { method.0 < 2 ^ 12 }
-    ensures unsigned { IfOk result (λ draft. IsUnsigned (type_of Request method.0) number []
+    ensures unsigned { IfOk result (λ draft. IsUnsigned (type_of class method.0) number []
         (own_draft draft)) }
     ensures is_open { IfOk result (λ draft. IsOpen (own_draft draft)) }
     ensures size { IfOk result (λ draft. length (own_draft draft).bytes ≤ 20) }
 {
-    let mtype = MessageType::from_class_method(MessageClass::Request, method);
+    let mtype = MessageType::from_class_method(class, method);
     let draft = Message::builder(mtype, number, MessageWriteVec::new(alloc))?;
     Ok(draft)
 }
 
 /// Adds an attribute, for which there is room. Where memory is refused, `NoMemory`.
 #[tactic(auto, using(crate::proofs::Growing::open_room))]
-fn add<A: AttributeWrite>(
+pub(crate) fn add<A: AttributeWrite>(
     draft: &mut MessageWriteVec,
     attribute: &dyn AttributeWrite,
     same: &A,

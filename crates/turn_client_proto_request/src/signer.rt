@@ -6,9 +6,11 @@ ghost use Rattle.turn_client_proto_api.specs.SupportedAlgorithms.{is_same_algori
 ghost use Rattle.stun_types.specs.Grammar.{number_at, refusal};
 ghost use Rattle.turn_client_proto_api.specs.Sending.{is_request};
 ghost use Rattle.stun_types.specs.Registry.{longest_username};
+ghost use Rattle.turn_client_proto_request.specs.Answers.{answer_text};
 ghost use Rattle.turn_client_proto_request.specs.Requests.{request_text};
 ghost use Rattle.turn_client_proto_request.specs.Judging.{IsJudged, signer_of};
 
+use crate::answer::{AttemptAnswer, write_answer};
 use crate::laws::{requests_are_lawful, requests_are_read, texts_stay_short};
 use crate::request::{TurnRequest, write_request};
 use std::alloc::Global;
@@ -108,5 +110,18 @@ impl Signer {
         requests_are_lawful(&request);
         requests_are_read();
         write_request(alloc, &self.auth, number, request)
+    }
+
+    /// The bytes of the answer to a CONNECTION_ATTEMPT of this number. Where memory is refused,
+    /// `NoMemory`.
+    pub fn write_answer(
+        &self,
+        alloc: Global,
+        number: TransactionId,
+        answer: AttemptAnswer,
+    ) -> Result<Vec<u8>, NoMemory>
+        ensures { IfOk result (λ bytes. bytes.items ≡ answer_text self.now answer number) }
+    {
+        write_answer(alloc, &self.auth, number, answer)
     }
 }

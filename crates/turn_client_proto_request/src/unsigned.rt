@@ -14,7 +14,7 @@ use crate::attributes::{
 use crate::request::{ALLOCATION_LIFETIME, TurnRequest};
 use std::alloc::Global;
 use std::net::{IpAddr, SocketAddr};
-use stun_types::message::{MessageWriteVec, Method, TransactionId};
+use stun_types::message::{MessageClass, MessageWriteVec, Method, TransactionId};
 use stun_types::{NoMemory, TransportType};
 use turn_client_proto_api::families::RequestedFamilies;
 use turn_types::message::{
@@ -61,7 +61,7 @@ fn write_first_allocate(
         number (own_draft draft)) }
     ensures short { IfOk result (λ draft. length (own_draft draft).bytes ≤ most_before) }
 {
-    let mut first = begin(alloc, ALLOCATE, number)?;
+    let mut first = begin(alloc, MessageClass::Request, ALLOCATE, number)?;
     add_lifetime(&mut first, ALLOCATION_LIFETIME)?;
     add_transport(&mut first, transport)?;
     add_dont_fragment(&mut first)?;
@@ -81,7 +81,7 @@ fn write_allocate(
         number (own_draft draft)) }
     ensures short { IfOk result (λ draft. length (own_draft draft).bytes ≤ most_before) }
 {
-    let mut draft = begin(alloc, ALLOCATE, number)?;
+    let mut draft = begin(alloc, MessageClass::Request, ALLOCATE, number)?;
     add_transport(&mut draft, transport)?;
     add_lifetime(&mut draft, ALLOCATION_LIFETIME)?;
     add_families(&mut draft, families)?;
@@ -98,7 +98,7 @@ fn write_refresh(
         (own_draft draft)) }
     ensures short { IfOk result (λ draft. length (own_draft draft).bytes ≤ most_before) }
 {
-    let mut draft = begin(alloc, REFRESH, number)?;
+    let mut draft = begin(alloc, MessageClass::Request, REFRESH, number)?;
     add_lifetime(&mut draft, lifetime)?;
     Ok(draft)
 }
@@ -129,7 +129,7 @@ fn write_to_peer(
         (peer_attribute number peer ∷ []) (own_draft draft)) }
     ensures short { IfOk result (λ draft. length (own_draft draft).bytes ≤ most_before) }
 {
-    let mut draft = begin(alloc, method, number)?;
+    let mut draft = begin(alloc, MessageClass::Request, method, number)?;
     add_peer(&mut draft, number, peer)?;
     Ok(draft)
 }
@@ -146,7 +146,7 @@ fn write_channel_bind(
         (own_draft draft)) }
     ensures short { IfOk result (λ draft. length (own_draft draft).bytes ≤ most_before) }
 {
-    let mut draft = begin(alloc, CHANNEL_BIND, number)?;
+    let mut draft = begin(alloc, MessageClass::Request, CHANNEL_BIND, number)?;
     add_channel(&mut draft, channel)?;
     add_peer(&mut draft, number, peer)?;
     Ok(draft)
@@ -163,7 +163,7 @@ fn write_connection_bind(
         (own_draft draft)) }
     ensures short { IfOk result (λ draft. length (own_draft draft).bytes ≤ most_before) }
 {
-    let mut draft = begin(alloc, CONNECTION_BIND, number)?;
+    let mut draft = begin(alloc, MessageClass::Request, CONNECTION_BIND, number)?;
     add_connection(&mut draft, connection)?;
     Ok(draft)
 }

@@ -1,15 +1,17 @@
--- What a response tells (RFC 8489, section 14.8; RFC 8656, section 18).
+-- What a message from the server tells (RFC 8489, section 14.8; RFC 8656, section 18).
 use Rattle.std.specs.Prelude.{ℕ, ◌==◌, Bool, false, List, find, is_some, Option, Some, None}
 use Rattle.std.specs.List.{filter_map, take_while}
 use Rattle.std.specs.Option.{option_and_then}
 use Rattle.std.specs.declared.net.socket_addr.SocketAddr.{SocketAddr}
 use Rattle.byteorder.specs.Endian.{big_number}
 use Rattle.turn_client_proto_api.specs.Claims.{code_told}
+use Rattle.stun_types.specs.Addresses.{address_again, address_of, address_read_refusal}
 use Rattle.stun_types.specs.Attributes.{Attr}
 use Rattle.stun_types.specs.Grammar.{number_at, shown}
 use Rattle.stun_types.specs.Registry.{error_code_kind}
 use Rattle.stun_types.specs.ValueReading.{value_refusal}
-use Rattle.turn_types.specs.TurnRegistry.{connection_id_kind, lifetime_kind, xor_relayed_address_kind}
+use Rattle.stun_types.specs.Xor.{xored}
+use Rattle.turn_types.specs.TurnRegistry.{connection_id_kind, lifetime_kind, xor_peer_address_kind, xor_relayed_address_kind}
 use Rattle.turn_types.specs.TurnShows.{address_in, each_shown, first_shown, unless_refused}
 
 -- the lifetime in a LIFETIME, where it is well formed
@@ -27,6 +29,14 @@ connection_in a = unless_refused (value_refusal connection_id_kind 4 4 a) (Some 
 -- the number of a connection that it tells: the first CONNECTION-ID decides (RFC 6062, section 6.2.1)
 abbrev pub connection_told : List ℕ → Option ℕ
 connection_told bytes = option_and_then connection_in (first_shown connection_id_kind bytes)
+
+-- the peer in a XOR-PEER-ADDRESS of a message of this number, where it is well formed
+abbrev pub peer_in : ℕ → Attr → Option SocketAddr
+peer_in number a = unless_refused (address_read_refusal xor_peer_address_kind a) (address_of (xored number (address_again a.value)))
+
+-- the peer that it names: the first XOR-PEER-ADDRESS decides (RFC 8656, section 18.3)
+abbrev pub peer_told : List ℕ → Option SocketAddr
+peer_told bytes = option_and_then (peer_in (number_at bytes)) (first_shown xor_peer_address_kind bytes)
 
 -- the code of the first ERROR-CODE, where it is there and well formed
 abbrev pub first_code : List ℕ → Option ℕ

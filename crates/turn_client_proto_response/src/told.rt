@@ -1,15 +1,15 @@
-//! What a response tells (RFC 8489, section 14.8; RFC 8656, section 18).
+//! What a message from the server tells (RFC 8489, section 14.8; RFC 8656, section 18).
 
 ghost use Rattle.std.specs.Prelude.{◌≡◌};
 ghost use Rattle.turn_types.specs.TurnRegistry.{xor_relayed_address_kind};
 ghost use Rattle.turn_types.specs.TurnShows.{address_in};
-ghost use Rattle.turn_client_proto_response.specs.Told.{connection_told, first_code, lifetime_told};
+ghost use Rattle.turn_client_proto_response.specs.Told.{connection_told, first_code, lifetime_told, peer_told};
 
 use std::convert::TryFrom;
 use std::net::SocketAddr;
 use stun_types::attribute::{AttributeStaticType, ErrorCode, RawAttribute};
 use stun_types::message::{Message, TransactionId};
-use turn_types::attribute::{ConnectionId, Lifetime, XorRelayedAddress};
+use turn_types::attribute::{ConnectionId, Lifetime, XorPeerAddress, XorRelayedAddress};
 
 /// The lifetime that a message tells, in seconds (RFC 8656, section 18.2): the first LIFETIME decides,
 /// and tells none where it is malformed.
@@ -31,6 +31,18 @@ pub fn connection_told(message: &Message<'_>) -> Option<u32>
     let raw = message.raw_attribute(ConnectionId::TYPE)?;
     match ConnectionId::try_from(&raw) {
         Ok(connection) => Some(connection.id()),
+        Err(_) => None,
+    }
+}
+
+/// The peer that a message names (RFC 8656, section 18.3): the first XOR-PEER-ADDRESS decides, and names
+/// none where it is malformed.
+pub fn peer_told(message: &Message<'_>) -> Option<SocketAddr>
+    ensures { result ≡ peer_told message.now }
+{
+    let raw = message.raw_attribute(XorPeerAddress::TYPE)?;
+    match XorPeerAddress::try_from(&raw) {
+        Ok(peer) => Some(peer.addr(message.transaction_id())),
         Err(_) => None,
     }
 }

@@ -1,7 +1,7 @@
 -- What becomes of the parts of a client that a run tells of, where nothing is gained.
-use Rattle.std.proofs.Common.{◌≡◌, ℕ, true, List, [], ◌∷◌, ◌++◌, refl, sym, ap, ◌∙◌, subst, ◌⊎◌, inl, inr}
+use Rattle.std.proofs.Common.{◌≡◌, ℕ, true, false, List, [], ◌∷◌, ◌++◌, refl, sym, ap, ◌∙◌, subst, ◌⊎◌, inl, inr}
 use Rattle.std.specs.declared.net.socket_addr.SocketAddr.{SocketAddr}
-use Rattle.stun_types.specs.Grammar.{refusal}
+use Rattle.stun_types.specs.Grammar.{number_at, refusal}
 use Rattle.stun_proto.specs.Numbers.{NothingNew}
 use Rattle.stun_proto.specs.Sending.{with_request}
 use Rattle.stun_proto.specs.State.{Agent}
@@ -138,9 +138,41 @@ queue_more p q request = record {
       ]
     ]
 
--- the first message of the queue is taken out
-pub queue_less : (p : Parts) (q : Queued) (rest : List Queued) → p.queue ≡ q ∷ rest → Adds [] p (record p { queue = rest })
-queue_less p q rest is = record {
+-- the response to a request of the server's waits, which was not answered before
+pub queue_answers : (p : Parts) (q : Queued) → q.is_request ≡ false → IsAttempted p.allocations p.queue (number_at q.bytes) → Adds [] p (record p { queue = p.queue ++ q ∷ [] })
+queue_answers p q response waits = record {
+  outstanding = λ m h. inl h;
+  queued = λ m h. elim (in_either h.queued p.queue (q ∷ []) h.listed) [
+    | inl was ↦ inl (record { queued = h.queued; listed = was; is_request = h.is_request; shows = h.shows })
+    | inr own ↦ elim own [
+      | inl same ↦ absurd (Prim.cc (sym response ∙ ap (λ (y : Queued). y.is_request) same ∙ h.is_request))
+      | inr none ↦ absurd none
+    ]
+  ];
+  taken = λ n h. inl (taken n h);
+  kept = λ h k. k;
+  waits = λ n peer h. h;
+  attempted = attempted;
+}
+  where
+    taken : (n : ℕ) → IsTaken (record p { queue = p.queue ++ q ∷ [] }) n → IsTaken p n
+    taken n (Outstanding t there) = Outstanding t there
+    taken n (Allocating listed) = Allocating listed
+    taken n (Pending a listed is) = Pending a listed is
+
+    attempted : (n : ℕ) → IsAttempted p.allocations (p.queue ++ q ∷ []) n → IsAttempted p.allocations p.queue n
+    attempted n (IsWaiting a listed w has is) = IsWaiting a listed w has is
+    attempted n (IsAnswered x listed answers is) = elim (in_either x p.queue (q ∷ []) listed) [
+      | inl was ↦ IsAnswered x was answers is
+      | inr own ↦ elim own [
+        | inl same ↦ subst (λ (k : ℕ). IsAttempted p.allocations p.queue k) (ap (λ (y : Queued). number_at y.bytes) same ∙ is) waits
+        | inr none ↦ absurd none
+      ]
+    ]
+
+-- a message of the queue is taken out
+pub queue_less : (p : Parts) (rest : List Queued) → ((x : Queued) → IsIn x rest → IsIn x p.queue) → Adds [] p (record p { queue = rest })
+queue_less p rest there = record {
   outstanding = λ m h. inl h;
   queued = λ m h. inl (record { queued = h.queued; listed = there h.queued h.listed; is_request = h.is_request; shows = h.shows });
   taken = λ n h. inl (taken n h);
@@ -149,9 +181,6 @@ queue_less p q rest is = record {
   attempted = attempted;
 }
   where
-    there : (x : Queued) → IsIn x rest → IsIn x p.queue
-    there x h = subst (λ (l : List Queued). IsIn x l) (sym is) (inr h)
-
     taken : (n : ℕ) → IsTaken (record p { queue = rest }) n → IsTaken p n
     taken n (Outstanding t there) = Outstanding t there
     taken n (Allocating listed) = Allocating listed

@@ -187,7 +187,7 @@ pub asked_from_orderly : (from : SocketAddr) (mid : Protocol) (request : TurnReq
 asked_from_orderly from mid request number now is allocates orderly =
     let text = request_text mid.auth request number in
     let sent : Parts = record (parts_of mid) { agent = with_request mid.agent text mid.server now } in
-    queue_orderly sent (queued_request from text) refl (request_orderly (parts_of mid) text mid.server now is.message (free mid request number is) allocates orderly)
+    queue_orderly sent (queued_request from text) (inl refl) (request_orderly (parts_of mid) text mid.server now is.message (free mid request number is) allocates orderly)
 
 pub asked_orderly : (mid : Protocol) (request : TurnRequest) (number now : ℕ) → IsMade mid request number → BeforeAllocated mid.phase (IsAllocate (parts_of mid) (request_text mid.auth request number)) → IsOrderly (parts_of mid)
     → IsOrderly (parts_of (asked (after_number mid) request number now))

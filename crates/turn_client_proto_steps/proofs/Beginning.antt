@@ -41,7 +41,7 @@ unfolding stream_after
 none_after seed = refl
 
 module _ (transport : TransportType) (here server : SocketAddr) (config : Config) (seed : List ℕ) (p : Protocol) (is : IsNew transport here server config seed p) where
-  none_there : {A : Type 0} (n : ℕ) (t : Transaction) → map.get p.agent.outstanding n ≡ Some t → A
+  pub none_there : {A : Type 0} (n : ℕ) (t : Transaction) → map.get p.agent.outstanding n ≡ Some t → A
   none_there n t there = absurd (Prim.cc (sym (map.get-empty nat_cmp n) ∙ sym (ap (λ (a : Agent). map.get a.outstanding n) is.agent) ∙ there))
 
   none_listed : {A : Type 0} (a : Allocation) → IsIn a p.allocations → A
@@ -78,7 +78,7 @@ module _ (transport : TransportType) (here server : SocketAddr) (config : Config
     });
   }
 
-  none_taken : (n : ℕ) → IsTaken (parts_of p) n → ⊥
+  pub none_taken : (n : ℕ) → IsTaken (parts_of p) n → ⊥
   none_taken n (Outstanding t there) = none_there n t there
   none_taken n (Allocating listed) = none_sent n listed
   none_taken n (Pending a listed pending) = none_listed a listed

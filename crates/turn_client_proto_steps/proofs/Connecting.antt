@@ -60,7 +60,7 @@ use Rattle.turn_client_proto_steps.proofs.Allocating.{IsOwn}
 use Rattle.turn_client_proto_steps.proofs.Asking.{IsMade, IsUnderWay, asked_adds, asked_orderly, asks, at_first, made}
 use Rattle.turn_client_proto_steps.proofs.Awaited.{IsAskedOf, IsFoundBy, OfAskedChannel, OfConnection, OfLifetime, OfNew, OfRenewal, OfRenewedChannel}
 use Rattle.turn_client_proto_steps.proofs.Ending.{still}
-use Rattle.turn_client_proto_steps.proofs.Joined.{asks_to, connected_joining, connecting_joining, given_up_distinct, given_up_joining, learns}
+use Rattle.turn_client_proto_steps.proofs.Joined.{asks_to, connected_joining, connecting_joining, given_up_distinct, given_up_joining, learns, learns_unattempted}
 use Rattle.turn_client_proto_steps.proofs.Joining.{AreJoining, allocations_joining, attempted_joining, each_joining, first_joining, itself, joining_orderly, kept_joining, none_connects, none_learnt, taken_joining, waits_joining}
 use Rattle.turn_client_proto_steps.proofs.Lessening.{same_first_distinct}
 use Rattle.turn_client_proto_steps.proofs.Lists.{found_in, found_passes, nothing_behind}
@@ -246,7 +246,7 @@ module _ (c : Client) (signer : signers.Client) (bytes : List ℕ) (message : re
   taken : (n : ℕ) → IsTaken (record (parts_of c.core) { agent = agent; allocations = left }) n → IsTaken (parts_of c.core) n
   taken n (Outstanding x at) = let was = handled_new c.core.agent bytes c.core.server n x at in Outstanding was.before was.there
   taken n (Allocating listed) = Allocating listed
-  taken n (Pending a listed p) = elim (taken_joining none_connects (learns connection peer) (parts_of c.core) left are n (Pending a listed p)) [ inl was ↦ was | inr now ↦ absurd now.1 ]
+  taken n (Pending a listed p) = elim (taken_joining none_connects (learns connection peer) (parts_of c.core) left are (learns_unattempted connection peer) n (Pending a listed p)) [ inl was ↦ was | inr now ↦ absurd now.1 ]
 
   -- the response tells of that very connection
   answers : (n : ℕ) (to : SocketAddr) → connection ≡ n → peer ≡ to → IsAnswered client_words (call_of c (bytes ∷ []) None [] (moved c c.drawn core)) [] (run.Knows n to) number
@@ -294,7 +294,7 @@ module _ (c : Client) (signer : signers.Client) (bytes : List ℕ) (message : re
       | inl was ↦ inl was
       | inr learnt ↦ inr (inl (number, answers n p (ap (λ (x : Waiting). x.connection) (sym learnt.1) ∙ learnt.2) (ap (λ (x : Waiting). x.peer) (sym learnt.1) ∙ learnt.3)))
     ];
-    attempted = λ n h. inl (attempted_joining none_connects (learns connection peer) (parts_of c.core) left are n h);
+    attempted = λ n h. inl (attempted_joining none_connects (learns connection peer) (parts_of c.core) left are (learns_unattempted connection peer) n h);
     delivers = λ p h. absurd h;
     names = λ p h. absurd h;
   }

@@ -1,6 +1,7 @@
 -- What is drawn to be sent is a step of a run.
 use Rattle.std.proofs.Common.{◌≡◌, ℕ, true, false, List, [], ◌∷◌, Option, Some, None, refl, sym, ap, ◌∙◌, subst, arith, inl, inr}
 use Rattle.std.specs.Option.{option_map}
+use Rattle.stun_types.specs.Grammar.{refusal}
 use Rattle.stun_proto.specs.Sending.{kept_under, with_request}
 use Rattle.stun_proto.specs.Agents.{transmitted}
 use Rattle.stun_proto.specs.Numbers.{NothingNew}
@@ -13,6 +14,7 @@ use Rattle.turn_client_proto_data.specs.StunWire.{stun_wire, told_by}
 use Rattle.std.specs.List.{find}
 use Rattle.std.specs.declared.net.ip_addr.IpAddr.{IpAddr}
 use Rattle.std.specs.declared.net.socket_addr.SocketAddr.{SocketAddr}
+use Rattle.turn_client_proto_data.specs.Answering.{without_answer}
 use Rattle.turn_client_proto_data.specs.Allocation.Refreshing.{refreshing}
 use Rattle.turn_client_proto_data.specs.Channel.Channels.{wants_renewal}
 use Rattle.turn_client_proto_data.specs.Channel.Numbers.{AreDistinct}
@@ -26,16 +28,16 @@ use Rattle.turn_client_proto_data.proofs.Request.Peers.{peer_read}
 use Rattle.turn_client_proto_data.specs.Request.Requests.{allocation_lifetime, request_text}
 use Rattle.turn_client_proto_data.specs.Request.declared.request.TurnRequest.{TurnRequest}
 use Rattle.turn_client_proto_data.specs.Request.declared.request.TurnRequest.TheVariants.{ChannelBind, CreatePermission, FirstAllocate, Refresh}
-use Rattle.turn_client_proto_data.specs.Drawing.{Again, Fresh, IsBegun, IsChannelRenewalSent, IsDrawn, IsFirstSent, IsNextSent, IsQueuedSent, IsRefreshSent, IsRenewalSent, IsRenewed, IsRepeated, IsStill, Sends, Sent, after_sending, first_allocated, first_bound, first_permitted, first_refreshed, is_resting, sent_at_once}
+use Rattle.turn_client_proto_data.specs.Drawing.{Again, Fresh, IsAnswerSent, IsBegun, IsChannelRenewalSent, IsDrawn, IsFirstSent, IsNextSent, IsQueuedSent, IsRefreshSent, IsRenewalSent, IsRenewed, IsRepeated, IsStill, Sends, Sent, after_sending, first_allocated, first_bound, first_permitted, first_refreshed, is_resting, sent_at_once}
 use Rattle.turn_client_proto_data.specs.Core.Numbering.{after_number}
-use Rattle.turn_client_proto_data.specs.Core.Waiting.{Queued}
+use Rattle.turn_client_proto_data.specs.Core.Waiting.{Queued, is_answer}
 use Rattle.turn_client_proto_data.specs.Core.declared.protocol.Phase.{Phase}
 use Rattle.turn_client_proto_data.specs.Core.declared.protocol.Phase.TheVariants.{Initial, InitialSent, Authenticating, Authenticated, Ended}
 use Rattle.turn_client_proto_data.specs.Core.declared.protocol.Protocol.{Protocol}
-use Rattle.turn_client_proto_steps.specs.ClientWords.{client_words}
+use Rattle.turn_client_proto_steps.specs.ClientWords.{IsAnswered, client_words}
 use Rattle.turn_client_proto_steps.specs.RunClient.{Client, Parts, parts_of}
 use Rattle.turn_client_proto_steps.specs.RunSteps.{IsRunStep}
-use Rattle.turn_client_proto_steps.specs.Sound.{AreAllocates, BeforeAllocated, CanAsk, IsSound, UntilEnded}
+use Rattle.turn_client_proto_steps.specs.Sound.{AreAllocates, BeforeAllocated, CanAsk, IsReady, IsSound, UntilEnded}
 use Rattle.turn_client_proto_steps.proofs.Adding.{AreLess, HasNumber, adds_both, agent_less, allocations_less, phase_moved, queue_less}
 use Rattle.turn_client_proto_steps.proofs.Agents.{message_read}
 use Rattle.turn_client_proto_steps.specs.Held.{Allocation, Channel}
@@ -46,7 +48,7 @@ use Rattle.turn_client_proto_steps.proofs.Ending.{still, still_can}
 use Rattle.turn_client_proto_steps.proofs.Lessening.{first_less, one_awaited, same_first_distinct}
 use Rattle.turn_client_proto_steps.proofs.Orderly.{IsAllocate, agent_orderly, allocations_orderly, before_all, drawn_orderly, phase_orderly, until_map}
 use Rattle.turn_client_proto_steps.proofs.Permissions.{first_permitting, renewing_permitting}
-use Rattle.turn_client_proto_steps.proofs.Lists.{inside}
+use Rattle.turn_client_proto_steps.proofs.Lists.{found_in, in_others, inside}
 use Rattle.turn_client_proto_steps.proofs.Permits.{asks_by, channel_fit, made_number, permission_fit}
 use Rattle.turn_client_proto_steps.proofs.Fitting.{AreFit, permitting_orderly}
 use Rattle.turn_client_proto_steps.proofs.Permitting.{ArePermitting, allocations_permitting, none_gained}
@@ -61,6 +63,10 @@ bytes_of answer = option_map (λ s. s.bytes) answer
 
 shows_own : (own bytes : List ℕ) (m : run.Message) → Some own ≡ Some bytes → stun_wire.shown bytes ≡ Some m → stun_wire.shown own ≡ Some m
 shows_own own bytes m same shows = subst (λ (b : List ℕ). stun_wire.shown b ≡ Some m) (sym (Prim.cc same)) shows
+
+-- nothing is sent
+rests : (c : Client) (answer : Option Sent) (new : Protocol) → IsSound c → IsStill c.core answer new → IsRunStep c [] (bytes_of answer) [] new
+rests c answer new sound is = subst (λ (o : Option Sent). IsRunStep c [] (bytes_of o) [] new) (sym is.0) (still c [] new sound is.1)
 
 -- ---- a request that is sent again
 
@@ -81,24 +87,46 @@ repeats c now sent new sound is =
     })))) refl)
     (agent_orderly (parts_of c.core) agent none sound.orderly) (until_map c.core.phase (still_can c core refl refl refl) sound.can_ask))
 
--- ---- a request that waits
+-- ---- a message that waits
+
+-- a message that waits, and whose bytes are these, may be drawn
+waits_drawn : (c : Client) (q : Queued) → IsReady q → IsIn q c.core.queue → (sent bytes : List ℕ) (m : run.Message) → sent ≡ q.bytes → Some sent ≡ Some bytes → stun_wire.shown bytes ≡ Some m → MayDraw client_words c [] m
+waits_drawn c q ready listed sent bytes m own same shows =
+    let shown : stun_wire.shown q.bytes ≡ Some m = ap (λ (b : List ℕ). stun_wire.shown b) (sym own) ∙ shows_own sent bytes m same shows in
+    let read : told_by q.bytes ≡ m = message_read (refusal q.bytes) (told_by q.bytes) m shown in
+    elim ready [
+      | inl request ↦ inl (inl (record { queued = q; listed = listed; is_request = request; shows = shown }))
+      | inr answers ↦
+          inr (inr (
+            subst run.IsResponse (ap (λ (x : run.Message). x.class) read) answers.1,
+            IsAnswered q listed answers.0 (ap (λ (x : run.Message). x.number) read),
+          ))
+    ]
+
+-- the client that sent one, with what waits still
+waits_sent : (c : Client) (q : Queued) (rest : List Queued) (sent : List ℕ) (core : Protocol) → IsSound c → IsIn q c.core.queue → ((x : Queued) → IsIn x rest → IsIn x c.core.queue) → sent ≡ q.bytes
+    → core ≡ record c.core { queue = rest; last_send = core.last_send } → IsRunStep c [] (Some sent) [] core
+waits_sent c q rest sent core sound listed within own is =
+    let after : Protocol = record c.core { queue = rest; last_send = core.last_send } in
+    subst (λ (p : Protocol). IsRunStep c [] (Some sent) [] p) (sym is)
+    (run_step [] [] (Some sent) [] c c.drawn after
+    (quiet (Some sent) [] c c.drawn after (counts_none c after refl) (queue_less (parts_of c.core) rest within)
+    (λ bytes m same shows. waits_drawn c q (sound.orderly.queued q listed) listed sent bytes m own same shows) refl)
+    (drawn_orderly (parts_of c.core) rest within sound.orderly) (until_map c.core.phase (still_can c after refl refl refl) sound.can_ask))
 
 queued_drawn : (c : Client) (now : ℕ) (q : Queued) (rest : List Queued) (sent : Sent) (new : Protocol) → IsSound c → c.core.queue ≡ q ∷ rest → IsQueuedSent c.core now q rest sent new
     → IsRunStep c [] (Some sent.bytes) [] new
 queued_drawn c now q rest sent new sound waits is =
-    let core : Protocol = after_sending now (record c.core { queue = rest }) in
-    let own : sent.bytes ≡ q.bytes = ap (λ (s : Sent). s.bytes) is.is_sent in
-    let listed : IsIn q c.core.queue = subst (λ (l : List Queued). IsIn q l) (sym waits) (inl refl) in
-    subst (λ (p : Protocol). IsRunStep c [] (Some sent.bytes) [] p) (sym is.after)
-    (run_step [] [] (Some sent.bytes) [] c c.drawn core
-    (quiet (Some sent.bytes) [] c c.drawn core (counts_none c core refl) (queue_less (parts_of c.core) q rest waits)
-    (λ bytes m same shows. inl (inl (record {
-      queued = q;
-      listed = listed;
-      is_request = sound.orderly.queued q listed;
-      shows = ap (λ (b : List ℕ). stun_wire.shown b) (sym own) ∙ shows_own sent.bytes bytes m same shows;
-    }))) refl)
-    (drawn_orderly (parts_of c.core) q rest waits sound.orderly) (until_map c.core.phase (still_can c core refl refl refl) sound.can_ask))
+    waits_sent c q rest sent.bytes new sound (subst (λ (l : List Queued). IsIn q l) (sym waits) (inl refl)) (λ x h. subst (λ (l : List Queued). IsIn x l) (sym waits) (inr h))
+    (ap (λ (s : Sent). s.bytes) is.is_sent) (is.after ∙ sym (ap (λ (o : Option ℕ). record c.core { queue = rest; last_send = o }) (ap (λ (p : Protocol). p.last_send) is.after)))
+
+-- the first answer that waits is sent
+answer_drawn : (c : Client) (found : Option Queued) (answer : Option Sent) (new : Protocol) → IsSound c → find is_answer c.core.queue ≡ found → IsAnswerSent found c.core answer new → IsRunStep c [] (bytes_of answer) [] new
+answer_drawn c None answer new sound at is = rests c answer new sound is
+answer_drawn c (Some q) answer new sound at is =
+    subst (λ (o : Option Sent). IsRunStep c [] (bytes_of o) [] new) (sym is.0)
+    (waits_sent c q (without_answer c.core.queue) q.bytes new sound (found_in is_answer c.core.queue q at) (λ x h. in_others is_answer x c.core.queue h) refl
+    (is.1 ∙ sym (ap (λ (o : Option ℕ). record c.core { queue = without_answer c.core.queue; last_send = o }) (ap (λ (p : Protocol). p.last_send) is.1))))
 
 -- ---- a request that is made now
 
@@ -210,9 +238,6 @@ channel_sent c channel peer now sent new sound at wants_it is =
 
 -- ---- all of it
 
-rests : (c : Client) (answer : Option Sent) (new : Protocol) → IsSound c → IsStill c.core answer new → IsRunStep c [] (bytes_of answer) [] new
-rests c answer new sound is = subst (λ (o : Option Sent). IsRunStep c [] (bytes_of o) [] new) (sym is.0) (still c [] new sound is.1)
-
 sends : (c : Client) (Is : Sent → Type 0) (answer : Option Sent) (new : Protocol) → ((sent : Sent) → Is sent → IsRunStep c [] (Some sent.bytes) [] new) → Sends answer Is → IsRunStep c [] (bytes_of answer) [] new
 sends c Is None new f h = absurd h
 sends c Is (Some sent) new f h = f sent h
@@ -238,5 +263,5 @@ pub draw_step : (c : Client) (now : ℕ) (answer : Option Sent) (new : Protocol)
 draw_step c now answer new sound (Again sent is repeated) = subst (λ (o : Option Sent). IsRunStep c [] (bytes_of o) [] new) (sym is) (repeats c now sent new sound repeated)
 draw_step c now answer new sound (Fresh none h) =
     by_test (is_resting c.core.last_send now)
-    (λ (_ : is_resting c.core.last_send now ≡ true) is. rests c answer new sound is)
+    (λ (_ : is_resting c.core.last_send now ≡ true) is. answer_drawn c (find is_answer c.core.queue) answer new sound refl is)
     (λ (_ : is_resting c.core.last_send now ≡ false) is. next_sent c c.core.queue now answer new sound refl is) h

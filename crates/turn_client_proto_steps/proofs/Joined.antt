@@ -9,7 +9,7 @@ use Rattle.turn_client_proto_data.specs.Connection.Asking.{connecting}
 use Rattle.turn_client_proto_data.specs.Connection.Told.{connected, given_up, is_over, waiting_for}
 use Rattle.turn_client_proto_data.specs.Connection.Waiting.{asked, asked_in, is_unasked}
 use Rattle.turn_client_proto_steps.specs.Held.{Allocation, Connecting, Waiting}
-use Rattle.turn_client_proto_steps.proofs.Joining.{AskingFor, IsJoining, Learning, none_connects, none_learnt, waited_itself}
+use Rattle.turn_client_proto_steps.proofs.Joining.{AskingFor, IsJoining, IsUnattempted, Learning, none_connects, none_learnt, waited_itself}
 use Rattle.turn_client_proto_steps.proofs.Lessening.{IsAlike, same_distinct}
 use Rattle.turn_client_proto_steps.proofs.Lists.{found_in, in_either, in_filter, in_first, inside}
 
@@ -20,6 +20,9 @@ asks_to peer number c = c ≡ record { number = number; peer = peer }
 -- one of this number and peer is known
 abbrev pub learns : ℕ → SocketAddr → Learning
 learns connection peer w = w ≡ waiting_for connection peer
+
+pub learns_unattempted : (connection : ℕ) (peer : SocketAddr) → IsUnattempted (learns connection peer)
+learns_unattempted connection peer w same = ap (λ (x : Waiting). x.attempt) same
 
 -- ---- as time goes on
 
@@ -89,7 +92,7 @@ connected_joining connection peer number a = record {
   waiting = λ w listed. elim (in_either w a.waiting (waiting_for connection peer ∷ []) listed) [
     | inl was ↦ inl (waited_itself a.waiting w was)
     | inr own ↦ elim own [
-      | inl same ↦ inr (sym same, ap (λ (x : Waiting). x.attempt) (sym same))
+      | inl same ↦ inr (sym same)
       | inr none ↦ absurd none
     ]
   ];

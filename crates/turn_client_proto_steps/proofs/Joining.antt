@@ -40,11 +40,18 @@ pub record Waited (old : List Waiting) (w : Waiting) : Type 0 where
 pub waited_itself : (old : List Waiting) (w : Waiting) → IsIn w old → Waited old w
 waited_itself old w listed = record { before = w; listed = listed; connection = refl; peer = refl; attempt = refl }
 
+-- what is known now is no request of the server's
+abbrev pub IsUnattempted : Learning → Type 0
+IsUnattempted New = (w : Waiting) → New w → w.attempt ≡ None
+
+pub none_attempts : IsUnattempted none_learnt
+none_attempts w h = absurd h
+
 -- an allocation is as before but for these two lists: what is new of them is asked for, or is known, now
 pub record IsJoining (Now : AskingFor) (New : Learning) (before after : Allocation) : Type 0 where
   pub others : after ≡ record before { connecting = after.connecting; waiting = after.waiting }
   pub connecting : (c : Connecting) → IsIn c after.connecting → IsIn c before.connecting ⊎ Now c
-  pub waiting : (w : Waiting) → IsIn w after.waiting → Waited before.waiting w ⊎ (New w × (w.attempt ≡ None))
+  pub waiting : (w : Waiting) → IsIn w after.waiting → Waited before.waiting w ⊎ New w
 
 -- what an allocation was before
 pub record WasJoining (Now : AskingFor) (New : Learning) (old : List Allocation) (after : Allocation) : Type 0 where
@@ -104,30 +111,30 @@ module _ (Now : AskingFor) (New : Learning) where
       | inl was ↦
           inl (subst (λ (k : ℕ). Knows before k w.peer) (sym was.connection)
           (subst (λ (x : SocketAddr). Knows before was.before.connection x) (sym was.peer) (ByWaiting was.before was.listed)))
-      | inr new ↦ inr (w, new.0, refl, refl)
+      | inr new ↦ inr (w, new, refl, refl)
     ]
 
     knows_before : (n : ℕ) (peer : SocketAddr) → Knows after n peer → Knows before n peer ⊎ ((w : Waiting) × New w × (w.connection ≡ n) × (w.peer ≡ peer))
     knows_before n peer knows = knows_mixed n peer (subst (λ (a : Allocation). Knows a n peer) is.others knows)
 
-    pending_mixed : (n : ℕ) → IsPending n mixed → IsPending n before ⊎ ((c : Connecting) × Now c × (c.number ≡ n))
-    pending_mixed n (OfPermission p listed has) = inl (OfPermission p listed has)
-    pending_mixed n (OfChannel c listed has) = inl (OfChannel c listed has)
-    pending_mixed n (OfNewPermission p listed has) = inl (OfNewPermission p listed has)
-    pending_mixed n (OfNewChannel c listed has) = inl (OfNewChannel c listed has)
-    pending_mixed n (OfRefresh r listed has) = inl (OfRefresh r listed has)
-    pending_mixed n (OfConnect c listed has) = elim (is.connecting c listed) [ inl was ↦ inl (OfConnect c was has) | inr now ↦ inr (c, now, has) ]
-    pending_mixed n (OfAttempt w listed has) = elim (is.waiting w listed) [
+    pending_mixed : IsUnattempted New → (n : ℕ) → IsPending n mixed → IsPending n before ⊎ ((c : Connecting) × Now c × (c.number ≡ n))
+    pending_mixed free n (OfPermission p listed has) = inl (OfPermission p listed has)
+    pending_mixed free n (OfChannel c listed has) = inl (OfChannel c listed has)
+    pending_mixed free n (OfNewPermission p listed has) = inl (OfNewPermission p listed has)
+    pending_mixed free n (OfNewChannel c listed has) = inl (OfNewChannel c listed has)
+    pending_mixed free n (OfRefresh r listed has) = inl (OfRefresh r listed has)
+    pending_mixed free n (OfConnect c listed has) = elim (is.connecting c listed) [ inl was ↦ inl (OfConnect c was has) | inr now ↦ inr (c, now, has) ]
+    pending_mixed free n (OfAttempt w listed has) = elim (is.waiting w listed) [
       | inl was ↦ inl (OfAttempt was.before was.listed (sym was.attempt ∙ has))
-      | inr new ↦ absurd (Prim.cc (sym new.1 ∙ has))
+      | inr new ↦ absurd (Prim.cc (sym (free w new) ∙ has))
     ]
-    pending_mixed n (OfBinding c listed b awaited has) = inl (OfBinding c listed b awaited has)
+    pending_mixed free n (OfBinding c listed b awaited has) = inl (OfBinding c listed b awaited has)
 
-    pending_before : (n : ℕ) → IsPending n after → IsPending n before ⊎ ((c : Connecting) × Now c × (c.number ≡ n))
-    pending_before n pending = pending_mixed n (subst (λ (a : Allocation). IsPending n a) is.others pending)
+    pending_before : IsUnattempted New → (n : ℕ) → IsPending n after → IsPending n before ⊎ ((c : Connecting) × Now c × (c.number ≡ n))
+    pending_before free n pending = pending_mixed free n (subst (λ (a : Allocation). IsPending n a) is.others pending)
 
-    attempted_before : (n : ℕ) (w : Waiting) → IsIn w after.waiting → w.attempt ≡ Some n → Waited before.waiting w
-    attempted_before n w listed has = elim (is.waiting w listed) [ inl was ↦ was | inr new ↦ absurd (Prim.cc (sym new.1 ∙ has)) ]
+    attempted_before : IsUnattempted New → (n : ℕ) (w : Waiting) → IsIn w after.waiting → w.attempt ≡ Some n → Waited before.waiting w
+    attempted_before free n w listed has = elim (is.waiting w listed) [ inl was ↦ was | inr new ↦ absurd (Prim.cc (sym (free w new) ∙ has)) ]
 
   -- ---- all of them
 
@@ -145,21 +152,21 @@ module _ (Now : AskingFor) (New : Learning) where
           | inr learnt ↦ inr learnt
         ]
 
-    pub taken_joining : (n : ℕ) → IsTaken (record p { allocations = new }) n → IsTaken p n ⊎ ((c : Connecting) × Now c × (c.number ≡ n))
-    taken_joining n (Outstanding t there) = inl (Outstanding t there)
-    taken_joining n (Allocating listed) = inl (Allocating listed)
-    taken_joining n (Pending a listed pending) =
+    pub taken_joining : IsUnattempted New → (n : ℕ) → IsTaken (record p { allocations = new }) n → IsTaken p n ⊎ ((c : Connecting) × Now c × (c.number ≡ n))
+    taken_joining free n (Outstanding t there) = inl (Outstanding t there)
+    taken_joining free n (Allocating listed) = inl (Allocating listed)
+    taken_joining free n (Pending a listed pending) =
         let was = are a listed in
-        elim (pending_before was.before a was.is n pending) [
+        elim (pending_before was.before a was.is free n pending) [
           | inl old ↦ inl (Pending was.before was.listed old)
           | inr now ↦ inr now
         ]
 
-    pub attempted_joining : (n : ℕ) → IsAttempted new p.queue n → IsAttempted p.allocations p.queue n
-    attempted_joining n (IsAnswered q listed response number) = IsAnswered q listed response number
-    attempted_joining n (IsWaiting a listed w has number) =
+    pub attempted_joining : IsUnattempted New → (n : ℕ) → IsAttempted new p.queue n → IsAttempted p.allocations p.queue n
+    attempted_joining free n (IsAnswered q listed response number) = IsAnswered q listed response number
+    attempted_joining free n (IsWaiting a listed w has number) =
         let was = are a listed in
-        let waited = attempted_before was.before a was.is n w has number in
+        let waited = attempted_before was.before a was.is free n w has number in
         IsWaiting was.before was.listed waited.before waited.listed (sym waited.attempt ∙ number)
 
     -- what is asked for now can be named, and what is outstanding asks for it
@@ -192,11 +199,11 @@ pub allocations_joining : (begun : List run.Message) (Now : AskingFor) (p : Part
 allocations_joining begun Now p new are made = record {
   outstanding = λ m h. inl h;
   queued = λ m h. inl h;
-  taken = λ n h. elim (taken_joining Now none_learnt p new are n h) [
+  taken = λ n h. elim (taken_joining Now none_learnt p new are none_attempts n h) [
     | inl was ↦ inl was
     | inr now ↦ let one = made now.0 now.1 in inr (record { one = one.one; listed = one.listed; is = one.is ∙ now.2 })
   ];
   kept = kept_joining Now none_learnt p new are;
   waits = λ n peer h. elim (waits_joining Now none_learnt p new are n peer h) [ inl was ↦ was | inr learnt ↦ absurd learnt.1 ];
-  attempted = attempted_joining Now none_learnt p new are;
+  attempted = attempted_joining Now none_learnt p new are none_attempts;
 }

@@ -1,9 +1,11 @@
 pub mod Adding
 pub mod Agents
 pub mod Allocating
+pub mod Answered
 pub mod AnsweredSockets
 pub mod Answering
 pub mod Asking
+pub mod Attempting
 pub mod Awaited
 pub mod AwaitedChannels
 pub mod Beginning
@@ -16,6 +18,7 @@ pub mod Connecting
 pub mod Drawing
 pub mod Ending
 pub mod Finding
+pub mod FirstNumber
 pub mod Fitting
 pub mod Frames
 pub mod Gaining
@@ -56,6 +59,7 @@ pub mod StandingChannels
 pub mod Streaming
 pub mod Taken
 pub mod Tying
+pub mod Unasked
 pub mod Wanting
 -- What stands above this crate has these through it.
 pub use Rattle.turn_client_proto_data.proofs.OfPeers

@@ -1,8 +1,8 @@
 -- Members of lists.
-use Rattle.std.proofs.Common.{◌≡◌, Bool, true, false, List, [], ◌∷◌, ◌++◌, ◌||◌, Some, refl, sym, ap, ◌∙◌, subst, ◌⊎◌, inl, inr}
+use Rattle.std.proofs.Common.{◌≡◌, ℕ, suc, zero, ◌+◌, Bool, true, false, List, [], ◌∷◌, ◌++◌, ◌||◌, Some, refl, sym, ap, ◌∙◌, subst, ◌⊎◌, inl, inr}
 use Rattle.std.proofs.lemmas.Bool.{cases_Bool}
-use Rattle.std.specs.Prelude.{map}
-use Rattle.std.specs.List.{filter, find, list_any}
+use Rattle.std.specs.Prelude.{drop, map, take}
+use Rattle.std.specs.List.{after_first, before_first, filter, find, list_any, position_or_len}
 use Rattle.turn_client_proto_data.specs.Members.{IsIn}
 use Rattle.turn_client_proto_data.specs.Allocation.Changes.{change_first}
 
@@ -138,4 +138,22 @@ passes_one p [] h = absurd (Prim.cc h)
 passes_one p (x ∷ xs) h = elim (either (p x) (list_any p xs) h) [
   | inl is ↦ record { one = x; listed = inl refl; passes = is }
   | inr later ↦ let rest = passes_one p xs later in record { one = rest.one; listed = inr rest.listed; passes = rest.passes }
+]
+
+in_taken : {X : Type 0} (x : X) (n : ℕ) (xs : List X) → IsIn x (take n xs) → IsIn x xs
+in_taken x zero xs h = absurd h
+in_taken x (suc n) [] h = absurd h
+in_taken x (suc n) (y ∷ ys) (inl same) = inl same
+in_taken x (suc n) (y ∷ ys) (inr more) = inr (in_taken x n ys more)
+
+in_dropped : {X : Type 0} (x : X) (n : ℕ) (xs : List X) → IsIn x (drop n xs) → IsIn x xs
+in_dropped x zero xs h = h
+in_dropped x (suc n) [] h = absurd h
+in_dropped x (suc n) (y ∷ ys) h = inr (in_dropped x n ys h)
+
+-- what is left where the first that passes is taken out was there
+pub in_others : {X : Type 0} (p : X → Bool) (x : X) (xs : List X) → IsIn x (before_first p xs ++ after_first p xs) → IsIn x xs
+in_others p x xs h = elim (in_either x (before_first p xs) (after_first p xs) h) [
+  | inl before ↦ in_taken x (position_or_len p xs) xs before
+  | inr after ↦ in_dropped x (position_or_len p xs + 1) xs after
 ]

@@ -1,5 +1,5 @@
 -- What stays true of the parts of a client that a run tells of.
-use Rattle.std.proofs.Common.{◌≡◌, ℕ, true, List, [], ◌∷◌, ◌++◌, Some, None, refl, sym, ap, ◌∙◌, subst, inl, inr}
+use Rattle.std.proofs.Common.{◌≡◌, ℕ, List, [], ◌∷◌, ◌++◌, Some, None, refl, sym, subst, inl, inr}
 use Rattle.std.specs.declared.net.socket_addr.SocketAddr.{SocketAddr}
 use Rattle.stun_types.specs.Grammar.{number_at, refusal}
 use Rattle.stun_types.specs.declared.transport.TransportType.{TransportType}
@@ -18,7 +18,7 @@ use Rattle.turn_client_proto_data.specs.Core.declared.protocol.Phase.TheVariants
 use Rattle.turn_client_proto_steps.specs.ClientWords.{IsPending, OfBinding, OfChannel, OfConnect, OfNewChannel, OfNewPermission}
 use Rattle.turn_client_proto_steps.specs.Held.{Allocation, PendingRefresh}
 use Rattle.turn_client_proto_steps.specs.RunClient.{Parts}
-use Rattle.turn_client_proto_steps.specs.Sound.{AreAllocates, AreShort, AsksFor, AsksOf, BeforeAllocated, IsOrderly, UntilEnded}
+use Rattle.turn_client_proto_steps.specs.Sound.{AreAllocates, AreShort, AsksFor, AsksOf, BeforeAllocated, IsOrderly, IsReady, UntilEnded}
 use Rattle.turn_client_proto_steps.proofs.Adding.{AreLess}
 use Rattle.turn_client_proto_steps.proofs.Agents.{allocates_sent, messages_sent, still_allocates, still_messages}
 use Rattle.turn_client_proto_steps.proofs.Lessening.{still_short}
@@ -129,14 +129,14 @@ request_orderly p bytes to now message free allocate is = record {
       | inr own ↦ absurd (free a listed (subst (λ (k : ℕ). IsPending k a) own.0 pending))
     ]
 
-pub queue_orderly : (p : Parts) (q : Queued) → q.is_request ≡ true → IsOrderly p → IsOrderly (record p { queue = p.queue ++ q ∷ [] })
-queue_orderly p q request is = record {
+pub queue_orderly : (p : Parts) (q : Queued) → IsReady q → IsOrderly p → IsOrderly (record p { queue = p.queue ++ q ∷ [] })
+queue_orderly p q ready is = record {
   numbers = is.numbers;
   messages = is.messages;
   allocates = is.allocates;
   queued = λ x h. elim (in_either x p.queue (q ∷ []) h) [
     | inl was ↦ is.queued x was
-    | inr own ↦ elim own [ inl same ↦ ap (λ (y : Queued). y.is_request) (sym same) ∙ request | inr none ↦ absurd none ]
+    | inr own ↦ elim own [ inl same ↦ subst IsReady same ready | inr none ↦ absurd none ]
   ];
   lifetimes = is.lifetimes;
   permissions = is.permissions;
@@ -146,12 +146,12 @@ queue_orderly p q request is = record {
   distinct = is.distinct;
 }
 
-pub drawn_orderly : (p : Parts) (q : Queued) (rest : List Queued) → p.queue ≡ q ∷ rest → IsOrderly p → IsOrderly (record p { queue = rest })
-drawn_orderly p q rest same is = record {
+pub drawn_orderly : (p : Parts) (rest : List Queued) → ((x : Queued) → IsIn x rest → IsIn x p.queue) → IsOrderly p → IsOrderly (record p { queue = rest })
+drawn_orderly p rest waited is = record {
   numbers = is.numbers;
   messages = is.messages;
   allocates = is.allocates;
-  queued = λ x h. is.queued x (subst (λ (l : List Queued). IsIn x l) (sym same) (inr h));
+  queued = λ x h. is.queued x (waited x h);
   lifetimes = is.lifetimes;
   permissions = is.permissions;
   channels = is.channels;

@@ -2,15 +2,16 @@
 use Rattle.std.proofs.Common.{ℕ, [], Option, refl, inl}
 use Rattle.std.specs.Prelude.{not}
 use Rattle.std.specs.declared.net.socket_addr.SocketAddr.{SocketAddr}
+use Rattle.turn_client_proto_data.specs.Connection.Attempts.{is_lost}
 use Rattle.turn_client_proto_data.specs.Connection.Lapsing.{has_gone, polled}
 use Rattle.turn_client_proto_data.specs.Connection.Sockets.{closed, is_from, is_socket_for, let_go}
 use Rattle.turn_client_proto_data.specs.Connection.Told.{given_up, is_over}
-use Rattle.turn_client_proto_steps.specs.Held.{Allocation, Connecting, Connection, Waiting}
+use Rattle.turn_client_proto_steps.specs.Held.{Allocation, Connecting, Connection}
 use Rattle.turn_client_proto_steps.proofs.Adding.{IsLess}
 use Rattle.turn_client_proto_steps.proofs.Lessening.{IsAlike}
-use Rattle.turn_client_proto_steps.proofs.Lists.{in_filter}
+use Rattle.turn_client_proto_steps.proofs.Lists.{in_filter, in_others}
 
--- those whose request ended, and those that were not bound in time
+-- those whose request ended, those that were not bound in time, and the first whose number ended
 pub parted_less : (over : Option ℕ) (now : ℕ) (a : Allocation) → IsLess [] a (polled over now a)
 unfolding polled given_up
 parted_less over now a = record {
@@ -22,7 +23,7 @@ parted_less over now a = record {
   new_channels = λ c h. h;
   refreshes = λ r h. inl h;
   connecting = λ c h. (in_filter (λ (x : Connecting). not (is_over over x)) c a.connecting h).0;
-  waiting = λ w h. h;
+  waiting = λ w h. in_others (is_lost over) w a.waiting h;
   connections = λ c h. (in_filter (λ (x : Connection). not (has_gone over now x)) c a.connections h).0;
 }
 
@@ -50,7 +51,7 @@ pub closed_alike : (here : SocketAddr) (a : Allocation) → IsAlike a (closed he
 unfolding closed
 closed_alike here a = (refl, refl)
 
--- the one that waited for its socket
+-- the first that waited for its socket
 pub let_go_less : (connection : ℕ) (peer : SocketAddr) (a : Allocation) → IsLess [] a (let_go connection peer a)
 unfolding let_go
 let_go_less connection peer a = record {
@@ -62,7 +63,7 @@ let_go_less connection peer a = record {
   new_channels = λ c h. h;
   refreshes = λ r h. inl h;
   connecting = λ c h. h;
-  waiting = λ w h. (in_filter (λ (x : Waiting). not (is_socket_for connection peer x)) w a.waiting h).0;
+  waiting = λ w h. in_others (is_socket_for connection peer) w a.waiting h;
   connections = λ c h. h;
 }
 

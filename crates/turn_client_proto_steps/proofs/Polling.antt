@@ -1,6 +1,7 @@
 -- A poll is a step of a run.
 use Rattle.std.proofs.Common.{◌≡◌, ℕ, Bool, true, false, List, [], ◌∷◌, ◌++◌, map, Option, Some, None, MatchOption, refl, sym, ap, ◌∙◌, subst, arith}
 use Rattle.std.specs.Bool.{MatchBool}
+use Rattle.std.specs.List.{list_any}
 use Rattle.stun_proto.specs.AgentPolls.{StunAgentPollRet}
 use Rattle.stun_proto.specs.State as agents
 use Rattle.stun_proto_agent.proofs.Numbers.{polled_new}
@@ -17,10 +18,12 @@ use Rattle.turn_client_proto_data.specs.Api.declared.answer.TurnPollRet.{TurnPol
 use Rattle.turn_client_proto_data.specs.Api.declared.answer.TurnPollRet.TheVariants as answer
 use Rattle.turn_client_proto_data.specs.Api.declared.event.TurnEvent.{TurnEvent}
 use Rattle.turn_client_proto_data.specs.Core.Ending.{ended}
+use Rattle.turn_client_proto_data.specs.Core.Waiting.{is_answer}
+use Rattle.turn_client_proto_data.specs.Connection.Attempts as attempts
 use Rattle.turn_client_proto_data.specs.Connection.Lapsing as parted
 use Rattle.turn_client_proto_data.specs.Connection.Told as connections
 use Rattle.turn_client_proto_data.specs.Connection.Waiting.{asked_in, has_unasked, unasked}
-use Rattle.turn_client_proto_data.specs.Polling.{IsClosing, IsPolled, IsPolledBy, IsPolledIn, IsPolledSent, IsWalked, after_asking, after_time, left, socket_for, waits_until}
+use Rattle.turn_client_proto_data.specs.Polling.{IsClosing, IsPolled, IsPolledBy, IsPolledIn, IsPolledSent, IsTicked, IsWalked, after_asking, after_time, left, socket_for, waits_until}
 use Rattle.turn_client_proto_data.specs.Core.declared.protocol.Phase.{Phase}
 use Rattle.turn_client_proto_data.specs.Core.declared.protocol.Phase.TheVariants.{Initial, InitialSent, Authenticating, Authenticated, Ended}
 use Rattle.turn_client_proto_data.specs.Core.declared.protocol.Protocol.{Protocol}
@@ -83,7 +86,9 @@ unfolding telling.connection_failures
 of_connections over now a =
     let peers = connections.peers_over over a.connecting in
     let gone = parted.peers_gone over now a.connections in
-    neither_told (map TcpConnectFailed peers) (map TcpConnectFailed gone) (none_connected peers) (none_connected gone)
+    let lost = attempts.peers_lost over a.waiting in
+    neither_told (map TcpConnectFailed peers) _ (none_connected peers)
+    (neither_told (map TcpConnectFailed gone) (map TcpConnectFailed lost) (none_connected gone) (none_connected lost))
 
 of_one : (over : Option ℕ) (now : ℕ) (a : Allocation) → notices (telling.failures over now a) ≡ []
 unfolding telling.failures
@@ -207,7 +212,10 @@ module _ (c : Client) (sound : IsSound c) (now : ℕ) (ticked : StunAgentPollRet
 
 polled_by : (c : Client) (events : List TurnEvent) (now : ℕ) (ret : TurnPollRet) (new : Protocol) → IsSound c → IsPolledBy events c.core now ret new → IsRunStep c [] None [] new
 polled_by c (e ∷ events) now ret new sound h = still c [] new sound h.1
-polled_by c [] now ret new sound h = ticked_in c sound now h.ticked h.agent h.is_ticked c.core.phase _ _ ret new h.outcome
+polled_by c [] now ret new sound h =
+    by_test (list_any is_answer c.core.queue)
+    (λ (_ : list_any is_answer c.core.queue ≡ true) (o : (ret ≡ answer.WaitUntil now) × (new ≡ c.core)). still c [] new sound o.1)
+    (λ (_ : list_any is_answer c.core.queue ≡ false) (o : IsTicked c.core now ret new). ticked_in c sound now o.ticked o.agent o.is_ticked c.core.phase _ _ ret new o.outcome) h
 
 pub poll_step : (c : Client) (now : ℕ) (ret : TurnPollRet) (new : Protocol) → IsSound c → IsPolled c.core now ret new → IsRunStep c [] None [] new
 poll_step c now (answer.WaitUntil moment) new sound h = polled_by c c.core.events now _ new sound h

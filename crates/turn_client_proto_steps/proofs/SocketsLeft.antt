@@ -23,14 +23,18 @@ use Rattle.turn_client_proto_data.specs.Channel.Awaited.{asked_by, asked_too, aw
 use Rattle.turn_client_proto_data.specs.Channel.Granted as channels
 use Rattle.turn_client_proto_data.specs.Channel.declared.awaited.Asked.{Asked}
 use Rattle.turn_client_proto_data.specs.Channel.declared.awaited.Asked.TheVariants.{ChannelRenewal, Lifetime, NewChannel, NewConnection, NewPermission, Renewal}
+use Rattle.turn_client_proto_data.specs.Connection.Attempts as attempts
 use Rattle.turn_client_proto_data.specs.Connection.Streams.{first_raw, has_raw, is_any_raw}
 use Rattle.turn_client_proto_data.specs.Connection.Told as connections
 use Rattle.turn_client_proto_data.specs.Permission.Granted as permissions
 use Rattle.turn_client_proto_data.specs.Allocation.Permissions as permissions_asked
 use Rattle.turn_client_proto_data.specs.Indications.{is_indication}
-use Rattle.turn_client_proto_data.specs.Response.Told.{connection_told, lifetime_told}
+use Rattle.turn_client_proto_data.specs.Response.Told.{connection_told, lifetime_told, peer_told}
+use Rattle.turn_client_proto_data.specs.Request.declared.answer.AttemptAnswer.{AttemptAnswer}
+use Rattle.turn_client_proto_data.specs.Request.declared.answer.AttemptAnswer.TheVariants.{AlreadyExists, BadRequest}
 use Rattle.turn_client_proto_data.specs.Core.Allocating.{IsAllocatedFor, allocated, brought}
 use Rattle.turn_client_proto_data.specs.Core.Asking.{asked}
+use Rattle.turn_client_proto_data.specs.Core.Attempting.{IsAttemptTaken, after_attempt, after_attempt_in, after_attempt_of, answering, is_attempt, may_join}
 use Rattle.turn_client_proto_data.specs.Core.Authenticating.{IsAccepted, IsAllocateAnswered, IsAllocatingAgain, IsChallenged, IsErrorAnswered, IsFirstJudged, IsSignedJudged, IsTurnedAway, allocates_again, allocates_other, family_left}
 use Rattle.turn_client_proto_data.specs.Core.Binding.{IsBindResponded, IsBoundFor, IsUnboundFor, bound, lets_lapse, permission_with, permitted_with, renews_channels, turned_down_with, unbound}
 use Rattle.turn_client_proto_data.specs.Core.Ending.{ended}
@@ -382,8 +386,31 @@ module _ (bytes : List ℕ) (now : ℕ) where
   unfolding accepted
   request_accepted p = record { keeps = (request_keeps (accepted bytes p)).keeps }
 
+  -- the server's own request changes no connection
+  answer_stays : (answer : AttemptAnswer) (p : Protocol) → AreOf p.allocations (answering answer (number_at bytes) p).allocations
+  unfolding answering
+  answer_stays answer p = of_all p.allocations
+
+  attempt_in : (found : Option Allocation) (connection : ℕ) (peer : SocketAddr) (p : Protocol) → AreOf p.allocations (after_attempt_in found connection peer (number_at bytes) p).allocations
+  attempt_in None connection peer p = answer_stays BadRequest p
+  attempt_in (Some a) connection peer p =
+      let change = attempts.attempted connection peer (number_at bytes) in
+      elim (attempts.is_joining peer a) as (λ (b : Bool). AreOf p.allocations (if b then answering AlreadyExists (number_at bytes) p
+      else record p { allocations = change_first (may_join peer p) change p.allocations }).allocations) [
+        | true ↦ answer_stays AlreadyExists p
+        | false ↦ of_first change (λ a. refl) (may_join peer p) p.allocations
+      ]
+
+  attempt_of : (connection : Option ℕ) (peer : Option SocketAddr) (p : Protocol) → AreOf p.allocations (after_attempt_of connection peer (number_at bytes) p).allocations
+  attempt_of None peer p = answer_stays BadRequest p
+  attempt_of (Some connection) None p = answer_stays BadRequest p
+  attempt_of (Some connection) (Some peer) p = attempt_in (find (may_join peer p) p.allocations) connection peer p
+
+  attempt_keeps : (p : Protocol) → Keeps p.allocations (IsAttemptTaken p bytes)
+  attempt_keeps p = tested (is_attempt bytes) (handled_so p.allocations (after_attempt bytes p) (attempt_of (connection_told bytes) (peer_told bytes) p)) (ignored p)
+
   taken_keeps : (p : Protocol) → Keeps p.allocations (IsTakenUp p bytes now)
-  taken_keeps p = tested (is_response bytes && is_awaited p.agent bytes) (request_accepted p) (ignored p)
+  taken_keeps p = tested (is_response bytes && is_awaited p.agent bytes) (request_accepted p) (attempt_keeps p)
 
   standing_keeps : (verdict : Verdict) (p : Protocol) → Keeps p.allocations (IsJudgedStanding verdict p bytes now)
   standing_keeps (Ok (ResendRequest choice)) p = rechallenged_keeps p

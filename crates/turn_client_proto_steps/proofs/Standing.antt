@@ -39,6 +39,7 @@ use Rattle.turn_client_proto_steps.specs.Sound.{CanAsk, IsOrderly}
 use Rattle.turn_client_proto_steps.proofs.Adding.{AreLess, adds_both, allocations_less, phase_moved}
 use Rattle.turn_client_proto_steps.proofs.Allocating.{IsOwn, validated_own}
 use Rattle.turn_client_proto_steps.proofs.Asking.{IsUnderWay, once_accepted, once_judged}
+use Rattle.turn_client_proto_steps.proofs.Attempting.{attempt_step}
 use Rattle.turn_client_proto_steps.proofs.Awaited.{found_by}
 use Rattle.turn_client_proto_steps.proofs.Connecting.{KnowsOne, connect_found, connect_responded, known_step}
 use Rattle.turn_client_proto_steps.proofs.Granting.{asked_in, granted_step}
@@ -212,7 +213,8 @@ module _ (c : Client) (bytes : List ℕ) (now : ℕ) (orderly : IsOrderly (parts
       let some = (both_of (is_response bytes) (is_awaited c.core.agent bytes) taken).1 in
       request_answered c (accepted bytes (judged signer c.core)) bytes now accepts
       (grants_one algorithm signer is taken accepts found refl some) (binds_one algorithm signer is taken accepts found refl some) (knows_one algorithm signer is taken accepts found refl some) handled new one)
-      (λ (_ : (is_response bytes && is_awaited c.core.agent bytes) ≡ false) (o : (handled ≡ false) × (new ≡ judged signer c.core)). done c (bytes ∷ []) (judged signer c.core) new under_way o.1) h
+      (λ (_ : (is_response bytes && is_awaited c.core.agent bytes) ≡ false) other.
+      attempt_step c signer bytes message (validated_own c.core.auth signer bytes algorithm c.credentials are_bytes can.account is) under_way handled new other) h
 
   pub standing_judged : (verdict : Result LongTermClientValidation LongTermClientAuthError) (signer : signers.Client) (handled : Bool) (new : Protocol) → IsJudged c.core.auth bytes verdict signer
       → IsJudgedStanding verdict (judged signer c.core) bytes now handled new → IsRunStep c (bytes ∷ []) None [] new

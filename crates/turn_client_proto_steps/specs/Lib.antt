@@ -4,6 +4,7 @@ pub mod ClientWords
 pub mod Sound
 pub mod Beginning
 pub mod RunSteps
+pub mod Adding
 -- What stands above this crate has these through it.
 pub use Rattle.turn_client_proto_data.specs.Payload
 pub use Rattle.turn_client_proto_data.specs.Core

@@ -1,12 +1,14 @@
 -- What is always true of a client (RFC 8489, sections 5, 6 and 9.2; RFC 8656, sections 7, 8, 10 and 12; RFC 6062, section 4).
-use Rattle.std.specs.Prelude.{◌≡◌, ℕ, ◌*◌, ◌<◌, ◌≤◌, ◌^◌, List, true, length, Some, None}
+use Rattle.std.specs.Prelude.{◌≡◌, ◌⊎◌, ℕ, ◌*◌, ◌<◌, ◌≤◌, ◌^◌, List, false, true, length, Some, None}
 use Rattle.std.specs.FinMap as map
 use Rattle.rand_chacha.specs.ChaCha.{ChaCha, next_word}
 use Rattle.rand_core.specs.Steps.{steps_u32, stream_of}
 use Rattle.rand_core.specs.Stream.{Stream}
 use Rattle.stun_types.specs.Generated.{number_words}
 use Rattle.stun_types.specs.GeneratorWords.{stream_after}
+use Rattle.stun_types.specs.Attributes.{kind_at}
 use Rattle.stun_types.specs.Grammar.{refusal}
+use Rattle.stun_types.specs.Types.{class_of}
 use Rattle.stun_types.specs.declared.transport.TransportType.{TransportType}
 use Rattle.stun_proto.specs.Agents.{Transaction}
 use Rattle.stun_proto.specs.Numbers.{ShowsNumbers}
@@ -16,7 +18,7 @@ use Rattle.turn_client_proto_data.specs.Members.{IsIn}
 use Rattle.std.specs.Net.Socket.{IsSocketAddr, socket_flowinfo, socket_scope_id}
 use Rattle.std.specs.declared.net.socket_addr.SocketAddr.{SocketAddr}
 use Rattle.turn_client_proto_data.specs.Channel.Numbers.{AreDistinct}
-use Rattle.turn_client_proto_data.specs.Messages.{Asks, Gain, Held, Holds, Knows, Permission, Channel as ChannelHeld, Connection as ConnectionHeld}
+use Rattle.turn_client_proto_data.specs.Messages.{Asks, Gain, Held, Holds, IsResponse, Knows, Permission, Channel as ChannelHeld, Connection as ConnectionHeld}
 use Rattle.turn_client_proto_data.specs.StunWire.{told_by}
 use Rattle.turn_client_proto_data.specs.Core.Waiting.{Queued}
 use Rattle.turn_client_proto_data.specs.Core.declared.protocol.Phase.{Phase}
@@ -89,14 +91,18 @@ pub record AreConnecting (agent : Agent) (a : Allocation) : Type 0 where
   pub binds : (c : Connection) → IsIn c a.connections → (b : Binding) → c.awaited ≡ Some b
       → AsksFor agent (ConnectionHeld c.here c.peer c.connection) b.number
 
+-- what waits to be sent is a request, or answers one of the server's
+abbrev pub IsReady : Queued → Type 0
+IsReady q = (q.is_request ≡ true) ⊎ ((q.is_request ≡ false) × IsResponse (class_of (kind_at q.bytes)))
+
 -- each outstanding request is a message, kept under its own number; until the server has allocated it is an
--- ALLOCATE for the client's transport; what waits to be sent is requests; what allocations await was asked for; the
--- peers of channels can be named in requests; and no two channels have one number
+-- ALLOCATE for the client's transport; what waits to be sent is requests and answers; what allocations await was asked
+-- for; the peers of channels can be named in requests; and no two channels have one number
 pub record IsOrderly (p : Parts) : Type 0 where
   pub numbers : ShowsNumbers p.agent
   pub messages : AreMessages p.agent
   pub allocates : BeforeAllocated p.phase (AreAllocates p.allocates p.agent)
-  pub queued : (q : Queued) → IsIn q p.queue → q.is_request ≡ true
+  pub queued : (q : Queued) → IsIn q p.queue → IsReady q
   pub lifetimes : (a : Allocation) → IsIn a p.allocations → AreShort a.pending_refreshes
   pub permissions : (a : Allocation) → IsIn a p.allocations → AreAsked p.agent a
   pub channels : (a : Allocation) → IsIn a p.allocations → AreBinding p.agent a

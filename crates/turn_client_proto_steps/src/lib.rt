@@ -6,9 +6,11 @@
 //! run, and leaves a sound client sound. A getter is no step, for nothing changes; nor are bytes that
 //! did not come from the server, or that are no message and give nothing of a peer. [`framed`] has the
 //! steps of what comes over TCP, [`sockets`] those of what comes over the sockets of connections to
-//! peers, and [`definite`] that what a client does is determined.
+//! peers, [`added`] what a message may add to what is held, and [`definite`] that what a client does is
+//! determined.
 #![tactic(auto)]
 
+pub mod added;
 pub mod definite;
 pub mod framed;
 pub mod sockets;
@@ -35,10 +37,12 @@ ghost use Rattle.turn_client_proto_data.specs.Core.declared.protocol.Protocol.{P
 ghost use Rattle.turn_client_proto_steps.specs.Beginning.{first_client};
 ghost use Rattle.turn_client_proto_steps.specs.ClientWords.{client_words, run_words, notice_of};
 ghost use Rattle.turn_client_proto_steps.specs.RunClient.{Client};
-ghost use Rattle.turn_client_proto_steps.specs.Sound.{IsSound, IsWhole};
+ghost use Rattle.turn_client_proto_steps.specs.Sound.{IsSound, IsWhole, stream_from};
 ghost use Rattle.std.specs.List.{filter_map, list_any};
 ghost use Rattle.std.specs.Option.{option_map};
-ghost use Rattle.stun_types.specs.Grammar.{refusal};
+ghost use Rattle.rand_chacha.specs.ChaCha.{of_seed};
+ghost use Rattle.stun_types.specs.Grammar.{number_at, refusal};
+ghost use Rattle.turn_client_proto_data.specs.StunWire.{stun_wire};
 ghost use Rattle.stun_types.specs.Headers.{AreBytes};
 ghost use Rattle.turn_client_proto_data.specs.Api.declared.answer.TurnPollRet.{TurnPollRet};
 ghost use Rattle.turn_client_proto_data.specs.Api.declared.error.BindChannelError.{BindChannelError};
@@ -211,7 +215,8 @@ pub fn connects_are_steps()
 /// `allocated_tcp_socket` is a step in which a CONNECTION_BIND is made, where it is answered so. Where
 /// there is no socket, or it is refused, nothing is made; where memory is refused, the number that was
 /// drawn counts, and nothing else changes. Nothing is held in addition, for the connection is not bound
-/// yet; and its number was known with its very peer before (RFC 6062, section 4.3).
+/// yet; and its number was known with its very peer before (RFC 6062, section 4.3). Of a connection that a
+/// peer began, the response to the server's request waits then (section 4.4).
 pub fn sockets_are_steps()
     ensures { (c : Client) (connection : ℕ) (socket : Socket5Tuple) (peer : SocketAddr)
         (here : Option SocketAddr) (now : ℕ) (answer : Result (Unit {0}) TcpAllocateError)
@@ -240,7 +245,7 @@ pub fn sends_are_steps()
 {}
 
 /// `poll` is a step in which nothing is asked for and nothing gained: requests and allocations may
-/// go, and a socket may be asked for.
+/// go, connections that wait, too, and a socket may be asked for.
 pub fn polls_are_steps()
     ensures { (c : Client) (now : ℕ) (answer : TurnPollRet) (new : Protocol)
         → IsSound c
@@ -249,7 +254,8 @@ pub fn polls_are_steps()
 {}
 
 /// `poll_transmit` is a step in which a request is drawn: one that is outstanding, one that waits,
-/// or one that is made now, under the number at the next place of the client's stream.
+/// or one that is made now, under the number at the next place of the client's stream; or the response to a
+/// request of the server's, which tells of a connection that a peer began (RFC 6062, section 4.4).
 pub fn draws_are_steps()
     ensures { (c : Client) (now : ℕ) (answer : Option Sent) (new : Protocol)
         → IsSound c
@@ -257,12 +263,27 @@ pub fn draws_are_steps()
         → IsRunStep c [] (option_map (λ sent. sent.bytes) answer) [] new }
 {}
 
+/// The first message that a new client sends, its ALLOCATE, has the number at place 0 of the stream of the
+/// client's seed (RFC 8489, section 5): the first 96 bits that the seed's generator gives. Each later
+/// request has the number at a later place, in order, unless that one is taken (`numbered` of
+/// `ClientStep`, which every step has).
+pub fn first_numbers_are_of_the_seed()
+    ensures { (transport : TransportType) (here server : SocketAddr) (config : Config)
+        (seed : List ℕ) (core new : Protocol) (now : ℕ) (sent : Sent)
+        → IsNew transport here server config seed core
+        → length config.credentials.username ≤ longest_username
+        → length config.families ≤ 2
+        → IsDrawn core now (Some sent) new
+        → number_at sent.bytes ≡ stun_wire.number (stream_from (of_seed seed)) 0 }
+{}
+
 /// A message that came is a step. What the client then holds in addition was brought by that
 /// message: it validates under a key of the client's, answers an ALLOCATE that was outstanding, or a
 /// CREATE_PERMISSION for that very address, or a CHANNEL_BIND of that very number to that very peer,
 /// and that is outstanding no more (RFC 8656, sections 7.3, 10.3 and 12.3). The number of a connection to a
 /// peer that it then knows was brought so, too, by the answer to a CONNECT to that very peer (RFC 6062,
-/// section 4.3). A challenge may make a request (RFC 8489, section 9.2.5).
+/// section 4.3), or by a CONNECTION_ATTEMPT, which validates under a key of the client's, too (section
+/// 4.4). A challenge may make a request (RFC 8489, section 9.2.5).
 pub fn messages_are_steps()
     ensures { (c : Client) (bytes : List ℕ) (now : ℕ) (handled : Bool) (new : Protocol)
         → IsSound c

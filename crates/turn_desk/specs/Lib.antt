@@ -11,3 +11,16 @@ pub use Rattle.turn_desk_core.specs.Requests
 pub use Rattle.turn_desk_core.specs.State
 pub use Rattle.turn_desk_core.specs.Steps
 pub use Rattle.turn_desk_core.specs.Verdicts
+-- Those of the runs of a world, and of the runs of any client and server.
+pub use Rattle.turn_desk_replay.specs.Copies
+pub use Rattle.turn_desk_replay.specs.Determined
+pub use Rattle.turn_desk_replay.specs.Headline
+pub use Rattle.turn_desk_replay.specs.Messages
+pub use Rattle.turn_desk_replay.specs.Model
+pub use Rattle.turn_desk_replay.specs.Replay
+pub use Rattle.turn_desk_replay.specs.Runs
+pub use Rattle.turn_desk_replay.specs.RunsOfAny
+pub use Rattle.turn_desk_replay.specs.Safety
+pub use Rattle.turn_desk_replay.specs.StepsOfAny
+pub use Rattle.turn_desk_replay.specs.Told
+pub use Rattle.turn_desk_replay.specs.Words

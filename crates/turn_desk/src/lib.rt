@@ -1,10 +1,16 @@
-//! A small TURN server core (RFC 8656): bytes of a request in, bytes of a reply out. It does no IO.
+//! A small TURN server core (RFC 8656), bytes of a request in, bytes of a reply out; and what it and a client
+//! do together. It performs no input or output.
 //!
-//! A world of such a desk and a client is `turn_desk_world`, and the replay of a trace of what happens to
-//! them `turn_desk_replay`.
+//! A [`Desk`] replies, as a [`Decision`] of its driver wants. A [`World`] is a desk, a client, and a network
+//! that may hand either of them any bytes at any moment: [`event`]s in, their [`answer`]s out; [`replay`] does
+//! what a written list of them says. `desk_steps` and `desks_answer_alike` are laws on desks, and [`run_laws`]
+//! has those on the runs of a world.
 #![tactic(auto)]
 
 pub use turn_desk_core::decision::Decision;
 pub use turn_desk_core::desk::Desk;
 pub use turn_desk_core::grant::Grant;
 pub use turn_desk_core::laws::{desk_steps, desks_answer_alike};
+pub use turn_desk_replay::trace::replay;
+pub use turn_desk_replay::world::World;
+pub use turn_desk_replay::{answer, client, event, run_laws};

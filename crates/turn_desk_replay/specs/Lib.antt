@@ -7,6 +7,15 @@ pub mod Replay
 pub mod Settings
 pub mod Wanted
 -- What stands above this crate has these through it.
+pub use Rattle.turn_desk_world.specs.Copies
+pub use Rattle.turn_desk_world.specs.Determined
+pub use Rattle.turn_desk_world.specs.Headline
+pub use Rattle.turn_desk_world.specs.Messages
+pub use Rattle.turn_desk_world.specs.RunsOfAny
+pub use Rattle.turn_desk_world.specs.Safety
+pub use Rattle.turn_desk_world.specs.StepsOfAny
+pub use Rattle.turn_desk_world.specs.Told
+pub use Rattle.turn_desk_world.specs.Words
 pub use Rattle.turn_desk_world.specs.AskedFor
 pub use Rattle.turn_desk_world.specs.AuthLending
 pub use Rattle.turn_desk_world.specs.Decisions

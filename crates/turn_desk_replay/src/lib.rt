@@ -12,5 +12,6 @@ mod wanted;
 
 // What stands above this crate has these through it.
 pub use turn_desk_world::{
-    answer, client, core_desk as desk, core_laws as laws, decision, event, grant, world,
+    answer, client, core_desk as desk, core_laws as laws, decision, event, grant, laws as run_laws,
+    world,
 };

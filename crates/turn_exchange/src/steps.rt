@@ -10,7 +10,8 @@ use stun_proto::Instant;
 use stun_proto::auth::LongTermServerAuth;
 use stun_types::message::{IntegrityAlgorithm, LongTermCredentials};
 use stun_types::{ListOf, NoMemory};
-use turn_desk::{Decision, Desk};
+use turn_desk_core::decision::Decision;
+use turn_desk_core::desk::Desk;
 
 /// What an exchange has made so far.
 #[derive(Drop)]

@@ -1,11 +1,12 @@
 -- What a client sends, and what it is then, are one.
 use Rattle.std.proofs.Common.{◌≡◌, ℕ, List, [], ◌∷◌, Option, Some, None, sym, ap, ◌∙◌}
+use Rattle.std.specs.List.{find}
 use Rattle.std.specs.declared.net.ip_addr.IpAddr.{IpAddr}
 use Rattle.std.specs.declared.net.socket_addr.SocketAddr.{SocketAddr}
 use Rattle.stun_proto.specs.Agents.{Transaction, transmitted}
 use Rattle.stun_proto.specs.Sending.{NoneDue, is_due_of, kept_under}
 use Rattle.stun_proto.specs.State.{is_tcp}
-use Rattle.turn_client_proto_data.specs.Drawing.{Again, Fresh, IsBegun, IsChannelRenewalSent, IsDrawn, IsFirstSent, IsFreshSent, IsMade, IsNextSent, IsQueuedSent, IsRefreshSent, IsRenewalSent, IsRenewed, IsRepeated, IsStill, Sends, Sent, after_sending, first_allocated, first_bound, first_permitted, first_refreshed, is_resting}
+use Rattle.turn_client_proto_data.specs.Drawing.{Again, Fresh, IsAnswerSent, IsBegun, IsChannelRenewalSent, IsDrawn, IsFirstSent, IsFreshSent, IsMade, IsNextSent, IsQueuedSent, IsRefreshSent, IsRenewalSent, IsRenewed, IsRepeated, IsStill, Sends, Sent, after_sending, first_allocated, first_bound, first_permitted, first_refreshed, is_resting}
 use Rattle.turn_client_proto_data.specs.Wanting.{wanted}
 use Rattle.turn_client_proto_data.specs.Want.{Want}
 use Rattle.turn_client_proto_data.specs.Want.TheVariants.{Refresh, Channel, Permission}
@@ -13,7 +14,8 @@ use Rattle.turn_client_proto_data.specs.Request.Requests.{allocation_lifetime, r
 use Rattle.turn_client_proto_data.specs.Request.declared.request.TurnRequest.{TurnRequest}
 use Rattle.turn_client_proto_data.specs.Request.declared.request.TurnRequest.TheVariants.{ChannelBind, CreatePermission, FirstAllocate}
 use Rattle.turn_client_proto_data.specs.Request.declared.request.TurnRequest.TheVariants.{Refresh as RefreshRequest}
-use Rattle.turn_client_proto_data.specs.Core.Waiting.{Queued}
+use Rattle.turn_client_proto_data.specs.Answering.{without_answer}
+use Rattle.turn_client_proto_data.specs.Core.Waiting.{Queued, is_answer}
 use Rattle.turn_client_proto_data.specs.Core.declared.protocol.Phase.{Phase}
 use Rattle.turn_client_proto_data.specs.Core.declared.protocol.Phase.TheVariants.{Initial, InitialSent, Authenticating, Authenticated, Ended}
 use Rattle.turn_client_proto_data.specs.Core.declared.protocol.Protocol.{Protocol}
@@ -73,6 +75,10 @@ module _ (old : Protocol) (now : ℕ) where
   queued_definite : (q : Queued) (rest : List Queued) → IsDefinite (λ (sent : Sent) (new : Protocol). IsQueuedSent old now q rest sent new)
   queued_definite q rest = record { same = λ sent more one other a b. (a.is_sent ∙ sym b.is_sent, a.after ∙ sym b.after) }
 
+  -- the answer that is sent
+  abbrev answer_sent : Queued → Sent
+  answer_sent q = record { bytes = q.bytes; transport = old.agent.transport; from = q.from; to = old.server }
+
   -- ---- where nothing is due again
 
   renewed_definite : (want : Option Want) → IsDefinite (IsRenewed want old now)
@@ -92,8 +98,12 @@ module _ (old : Protocol) (now : ℕ) where
   next_definite [] = begun_definite old.phase
   next_definite (q ∷ rest) = sends (queued_definite q rest)
 
+  answer_definite : (found : Option Queued) → IsDefinite (IsAnswerSent found old)
+  answer_definite None = still_definite
+  answer_definite (Some q) = only (Some (answer_sent q)) (record old { queue = without_answer old.queue })
+
   fresh_definite : IsDefinite (IsFreshSent old now)
-  fresh_definite = tested (is_resting old.last_send now) still_definite (next_definite old.queue)
+  fresh_definite = tested (is_resting old.last_send now) (answer_definite (find is_answer old.queue)) (next_definite old.queue)
 
   -- ---- a request that is due again
 

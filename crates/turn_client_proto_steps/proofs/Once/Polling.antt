@@ -1,5 +1,6 @@
 -- What a client answers when it is polled, and what it is then, are one, but for want of memory.
 use Rattle.std.proofs.Common.{◌≡◌, ◌≢◌, ℕ, List, [], ◌∷◌, ◌++◌, Option, Some, None, MatchOption, refl, subst}
+use Rattle.std.specs.List.{list_any}
 use Rattle.std.specs.declared.net.socket_addr.SocketAddr.{SocketAddr}
 use Rattle.stun_proto.specs.AgentPolls.{StunAgentPollRet}
 use Rattle.stun_proto.specs.Least.{IsLeastOf}
@@ -15,6 +16,7 @@ use Rattle.turn_client_proto_data.specs.Permission.Telling as permissions
 use Rattle.turn_client_proto_data.specs.Connection.Lapsing as joined
 use Rattle.turn_client_proto_data.specs.Connection.Waiting.{unasked}
 use Rattle.turn_client_proto_data.specs.Core.Ending.{ended}
+use Rattle.turn_client_proto_data.specs.Core.Waiting.{is_answer}
 use Rattle.turn_client_proto_steps.specs.Held.{Waiting}
 use Rattle.turn_client_proto_data.specs.Polling.{IsClosing, IsPolled, IsPolledBy, IsPolledIn, IsPolledSent, IsPolledStanding, IsTicked, IsWalked, after_asking, after_time, answer_of, ended_of, left, longest_pause, ready_after, socket_for, wait_of, wait_to_send, waits_until}
 use Rattle.turn_client_proto_data.specs.Core.declared.protocol.Phase.{Phase}
@@ -86,7 +88,7 @@ module _ (old : Protocol) (now : ℕ) where
   }
 
   by_definite : (events : List TurnEvent) → IsDefinite (IsPolledBy events old now)
-  by_definite [] = ticked_definite
+  by_definite [] = tested (list_any is_answer old.queue) (only (answer.WaitUntil now) old) ticked_definite
   by_definite (e ∷ events) = only (answer.WaitUntil now) old
 
   -- a poll, where memory was not refused

@@ -15,7 +15,9 @@ module _ (old : Protocol) (connection : ℕ) (peer : SocketAddr) (now : ℕ) whe
 
   taken_same : (here : Option SocketAddr) (answer again : Result (Unit {0}) TcpAllocateError) (one other : Protocol) → answer ≢ Err NoMemory → again ≢ Err NoMemory
       → IsSocketTaken here old connection peer now answer one → IsSocketTaken here old connection peer now again other → (answer ≡ again) × (one ≡ other)
-  taken_same None answer again one other enough ample a b = (a.0 ∙ sym b.0, a.1 ∙ sym b.1)
+  taken_same None (Ok x) (Ok y) one other enough ample a b = (refl, a.after ∙ sym b.after)
+  taken_same None (Err e) again one other enough ample a b = absurd (enough (ap (λ (x : TcpAllocateError). Err x) a.0))
+  taken_same None (Ok x) (Err e) one other enough ample a b = absurd (ample (ap (λ (y : TcpAllocateError). Err y) b.0))
   taken_same (Some here) (Ok x) (Ok y) one other enough ample a b = (refl, asked_same here one other a b)
   taken_same (Some here) (Err e) again one other enough ample a b = absurd (enough (ap (λ (x : TcpAllocateError). Err x) a.0))
   taken_same (Some here) (Ok x) (Err e) one other enough ample a b = absurd (ample (ap (λ (y : TcpAllocateError). Err y) b.0))

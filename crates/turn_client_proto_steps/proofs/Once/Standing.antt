@@ -10,6 +10,7 @@ use Rattle.turn_types.specs.TurnRegistry.{channel_bind_method, connect_method, c
 use Rattle.turn_client_proto_data.specs.Channel.Awaited.{asked_by}
 use Rattle.turn_client_proto_data.specs.Channel.declared.awaited.Asked.{Asked}
 use Rattle.turn_client_proto_data.specs.Connection.Told.{is_connect}
+use Rattle.turn_client_proto_data.specs.Core.Attempting.{after_attempt, is_attempt}
 use Rattle.turn_client_proto_data.specs.Core.Ending.{ended}
 use Rattle.turn_client_proto_data.specs.Core.Responding.{accepted, challenged, is_tired}
 use Rattle.turn_client_proto_data.specs.Core.Standing.{IsAskedAgain, IsJudgedStanding, IsRechallenged, IsRequestAnswered, IsSentAgain, IsTakenUp, after_connect, after_refresh, asks_again}
@@ -42,7 +43,8 @@ module _ (bytes : List ℕ) (now : ℕ) where
       (tested (method_of (kind_at bytes) == connect_method) (only (is_connect (asked_by (number_at bytes) p.allocations)) (after_connect bytes p)) (ignored p))))
 
   taken_definite : (p : Protocol) → IsDefinite (IsTakenUp p bytes now)
-  taken_definite p = tested (is_response bytes && is_awaited p.agent bytes) (request_definite (accepted bytes p)) (ignored p)
+  taken_definite p = tested (is_response bytes && is_awaited p.agent bytes) (request_definite (accepted bytes p))
+      (tested (is_attempt bytes) (handled (after_attempt bytes p)) (ignored p))
 
   -- by the verdict
   pub standing_definite : (verdict : Verdict) (p : Protocol) → IsDefinite (IsJudgedStanding verdict p bytes now)

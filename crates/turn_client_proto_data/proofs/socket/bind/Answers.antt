@@ -1,11 +1,10 @@
-use Rattle.std.proofs.Common.{◌<◌, length, refl, slice_get, subst, sym, ◌∙◌}
+use Rattle.std.proofs.Common.{refl, slice_get}
 use Rattle.turn_client_proto_poll.specs.Connection.Sockets.{binding}
 use Rattle.turn_client_proto_poll.proofs.Core.Places.{read_there, undone}
 use Rattle.turn_client_proto_data.proofs.socket.bind.Goals as goal
 
 pub returns-in-Err-clause-err : goal.returns-in-Err-clause-err
 returns-in-Err-clause-err c =
-    let drew = c.draw_number.new.self in
-    let within = subst (λ p. c.args.place < length p.allocations) (sym c.draw_number.ensures.after) c.requires in
-    undone binding drew c.ask_from.new.self c.forget.new.allocations c.bind.new.allocations c.args.place _ (slice_get drew.allocations c.args.place) refl (read_there drew.allocations c.args.place within)
-    c.in_ok-bind.ensures.ok c.in-Err.ensures.err c.forget.ensures ∙ c.draw_number.ensures.after
+    let old = c.args.protocol.now in
+    undone binding old c.ask_from.new.self c.forget.new.allocations c.bind.new.allocations c.args.place _ (slice_get old.allocations c.args.place) refl (read_there old.allocations c.args.place c.requires.there)
+    c.in_ok-bind.ensures.ok c.in-Err.ensures.err c.forget.ensures

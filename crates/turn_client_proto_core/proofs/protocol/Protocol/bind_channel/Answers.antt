@@ -2,7 +2,7 @@ use Rattle.std.proofs.Common.{ap, get_or, slice_get, refl, sym, ◌∙◌}
 use Rattle.std.proofs.lemmas.List.Quantifiers.{position-Some}
 use Rattle.std.specs.Prelude.{None, Some, Ok, Err}
 use Rattle.stun_types.specs.Family.{family_of_socket}
-use Rattle.turn_client_proto_api.specs.declared.error.BindChannelError.TheVariants.{NoAllocation, NoChannel, NoMemory}
+use Rattle.turn_client_proto_connection.specs.Channel.Permission.Api.declared.error.BindChannelError.TheVariants.{NoAllocation, NoChannel, NoMemory}
 use Rattle.turn_client_proto_connection.specs.Channel.Permission.Asking.{is_of}
 use Rattle.turn_client_proto_core.proofs.AskedChannels.{all_taken, asked_there, barred, ended, free, past, refused_by, refused_memory, tried_by}
 use Rattle.turn_client_proto_core.proofs.Places.{found, marked_past, nowhere, place_is, read_there, unmarked}

@@ -2,7 +2,7 @@ use Rattle.std.proofs.Common.{ap, get_or, slice_get, refl, sym, ◌∙◌, lengt
 use Rattle.std.proofs.lemmas.List.Quantifiers.{position-Some}
 use Rattle.std.proofs.lemmas.Option.{slice_get_read}
 use Rattle.std.specs.Prelude.{None, Some, Ok, Err}
-use Rattle.turn_client_proto_api.specs.declared.error.CreatePermissionError.TheVariants.{AlreadyExists, NoAllocation, NoMemory}
+use Rattle.turn_client_proto_connection.specs.Channel.Permission.Api.declared.error.CreatePermissionError.TheVariants.{AlreadyExists, NoAllocation, NoMemory}
 use Rattle.turn_client_proto_connection.specs.Channel.Permission.Asking.{is_of}
 use Rattle.turn_client_proto_core.specs.Permitting.{family_of_ip}
 use Rattle.turn_client_proto_core.proofs.Granting.{answered_by, asked_there, ended, free, known, past, refused_by}

@@ -2,9 +2,9 @@
 use Rattle.std.specs.Prelude.{Bool, ◌&&◌, ◌∷◌, map, if◌then◌else◌}
 use Rattle.std.specs.declared.net.socket_addr.SocketAddr.{SocketAddr}
 use Rattle.stun_types.specs.declared.transport.TransportType.TheVariants.{Tcp}
-use Rattle.turn_client_proto_poll.specs.Connection.Sockets.{closed, is_any_from}
-use Rattle.turn_client_proto_poll.specs.Core.declared.protocol.Protocol.{Protocol}
-use Rattle.turn_client_proto_poll.specs.Permission.Same.{is_same_address, is_same_transport}
+use Rattle.turn_client_proto_core.specs.Connection.Sockets.{closed, is_any_from}
+use Rattle.turn_client_proto_core.specs.declared.protocol.Protocol.{Protocol}
+use Rattle.turn_client_proto_core.specs.Permission.Same.{is_same_address, is_same_transport}
 
 -- a socket of a client over TCP, between an own address and the server, is that of a connection
 abbrev pub is_joined : (here server : SocketAddr) → Protocol → Bool

@@ -1,12 +1,12 @@
 //! Sockets that were closed (RFC 6062, section 4.6).
 
 ghost use Rattle.std.specs.Prelude.{◌≡◌, OnErr, OnOk, true};
-ghost use Rattle.turn_client_proto_data.specs.Closing.{after_close, is_joined};
+ghost use Rattle.turn_client_proto_poll.specs.Closing.{after_close, is_joined};
 
 use std::net::SocketAddr;
 use stun_types::{NoMemory, TransportType};
-use turn_client_proto_poll::connection::sockets;
-use turn_client_proto_poll::protocol::Protocol;
+use turn_client_proto_core::connection::sockets;
+use turn_client_proto_core::protocol::Protocol;
 
 /// Whether a socket between an own address and the server is that of a connection.
 fn is_joined(protocol: &Protocol, local: SocketAddr, remote: SocketAddr) -> bool

@@ -1,0 +1,15 @@
+use Rattle.std.proofs.Common.{ap, get_or, sym, ◌∙◌}
+use Rattle.std.specs.Option.{option_and_then}
+use Rattle.turn_client_proto_channel.proofs.Permission.Allocation.Changes.{found_at}
+use Rattle.turn_client_proto_channel.specs.Permission.Allocation.declared.allocation.Allocation.{Allocation}
+use Rattle.turn_client_proto_connection.specs.Attempts.{attempt_among, attempt_in}
+use Rattle.turn_client_proto_connection.specs.Sockets.{awaits_socket}
+use Rattle.turn_client_proto_connection.proofs.attempts.attempt_of.Goals as goal
+
+pub returns : goal.returns
+returns c =
+    let x : Allocation = get_or c.args.allocations.now c.in_ok-place.place c.index-allocations-place.result in
+    let is_there = ap (λ y. get_or c.args.allocations.now c.in_ok-place.place y) c.index-allocations-place.is in
+    c.attempt_among.ensures
+    ∙ ap (attempt_among c.args.connection c.args.peer) c.as_slice.ensures
+    ∙ sym (ap (option_and_then (attempt_in c.args.connection c.args.peer)) (found_at (awaits_socket c.args.connection c.args.peer) c.args.allocations.now c.in_ok-place.place x (sym c.place_of.ensures ∙ c.in_ok-place.was) is_there))

@@ -1,0 +1,28 @@
+use Rattle.std.proofs.Common.{◌≡◌, ◌≢◌, ◌++◌, [], Option, OnOk, ap, get_or, map, subst, sym, ◌∙◌}
+use Rattle.std.specs.Prelude.{option_to_list}
+use Rattle.turn_client_proto_channel.proofs.Permission.Allocation.Changes.{at_place, find_is, found_at}
+use Rattle.turn_client_proto_channel.proofs.Permission.Told.{always_told}
+use Rattle.turn_client_proto_channel.specs.Permission.Allocation.declared.connection.Waiting.{Waiting}
+use Rattle.turn_client_proto_channel.specs.Permission.Api.declared.event.TurnEvent.TheVariants.{TcpConnectFailed}
+use Rattle.turn_client_proto_connection.specs.Attempts.{is_lost}
+use Rattle.turn_client_proto_connection.proofs.Taken.{none_behind}
+use Rattle.turn_client_proto_connection.proofs.attempts.tell_lost.Goals as goal
+
+pub returns-in-Some-clause-ok : goal.returns-in-Some-clause-ok
+returns-in-Some-clause-ok c =
+    let x : Waiting = get_or c.args.waiting.now c.in-Some.place c.index-waiting-place.result in
+    let is_there = ap (λ y. get_or c.args.waiting.now c.in-Some.place y) c.index-waiting-place.is in
+    let found = found_at (is_lost c.args.ended.now) c.args.waiting.now c.in-Some.place x (sym c.place_lost.ensures ∙ c.in-Some.is) is_there in
+    subst (λ (o : Option Waiting). OnOk c.push_back.result (c.push_back.new.self ≡ c.args.events.now ++ map TcpConnectFailed (map (λ (w : Waiting). w.peer) (option_to_list o)))) (sym found) c.push_back.ensures.ok
+
+pub returns-in-Some-clause-told : goal.returns-in-Some-clause-told
+returns-in-Some-clause-told c =
+    let x : Waiting = get_or c.args.waiting.now c.in-Some.place c.index-waiting-place.result in
+    let is_there = ap (λ y. get_or c.args.waiting.now c.in-Some.place y) c.index-waiting-place.is in
+    let found = found_at (is_lost c.args.ended.now) c.args.waiting.now c.in-Some.place x (sym c.place_lost.ensures ∙ c.in-Some.is) is_there in
+    always_told c.push_back.result (subst (λ (o : Option Waiting). map (λ (w : Waiting). w.peer) (option_to_list o) ≢ []) (sym found) (λ e. absurd (Prim.cc e)))
+
+pub returns-in-None-clause-ok : goal.returns-in-None-clause-ok
+returns-in-None-clause-ok c =
+    let none = find_is (is_lost c.args.ended.now) c.args.waiting.now ∙ ap (at_place c.args.waiting.now) (sym c.place_lost.ensures ∙ c.in-None.is) in
+    subst (λ (o : Option Waiting). c.args.events.now ≡ c.args.events.now ++ map TcpConnectFailed (map (λ (w : Waiting). w.peer) (option_to_list o))) (sym none) (none_behind c.args.events.now)

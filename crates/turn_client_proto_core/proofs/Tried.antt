@@ -1,0 +1,52 @@
+-- What is made of a CONNECTION_ATTEMPT, by the place of the allocation that may have the connection.
+use Rattle.std.proofs.Common.{◌≡◌, ℕ, true, false, List, Option, Some, None, get_or, position, slice_get, slice_set, refl, sym, ap, ◌∙◌}
+use Rattle.std.specs.Prelude.{find, IfSome}
+use Rattle.std.specs.declared.net.socket_addr.SocketAddr.{SocketAddr}
+use Rattle.stun_types.specs.Family.{family_of_socket}
+use Rattle.stun_types.specs.Grammar.{number_at}
+use Rattle.stun_types.specs.declared.family.AddressFamily.{AddressFamily}
+use Rattle.stun_types.specs.declared.transport.TransportType.{TransportType}
+use Rattle.turn_client_proto_connection.proofs.Allocation.Changes.{at_place, changed_at, find_is, found_at}
+use Rattle.turn_client_proto_connection.specs.Allocation.declared.allocation.Allocation.{Allocation}
+use Rattle.turn_client_proto_connection.specs.Attempts.{attempted, is_joining}
+use Rattle.turn_client_proto_connection.specs.Channel.Permission.Asking.{is_of}
+use Rattle.turn_client_proto_request.specs.declared.answer.AttemptAnswer.TheVariants.{AlreadyExists, BadRequest}
+use Rattle.turn_client_proto_response.specs.Told.{connection_told, peer_told}
+use Rattle.turn_client_proto_core.specs.Attempting.{after_attempt, after_attempt_in, after_attempt_of, answering, may_join}
+use Rattle.turn_client_proto_core.specs.declared.protocol.Protocol.{Protocol}
+
+-- a place, by what it was looked for with
+pub place_by : (p : Protocol) (peer : SocketAddr) (transport : TransportType) (family : AddressFamily) (all : List Allocation) (found place : Option ℕ)
+    → transport ≡ p.agent.transport → family ≡ family_of_socket peer → all ≡ p.allocations → found ≡ position (is_of transport family) all → found ≡ place → position (may_join peer p) p.allocations ≡ place
+place_by p peer transport family all found place t f a is at = sym (is ∙ (λ i. position (is_of (t i) (f i)) (a i))) ∙ at
+
+module _ (bytes : List ℕ) (p : Protocol) (connection : ℕ) (peer : SocketAddr) (number : ℕ) (told : connection_told bytes ≡ Some connection) (named : peer_told bytes ≡ Some peer) (number_is : number ≡ number_at bytes) where
+  by_names : after_attempt bytes p ≡ after_attempt_in (find (may_join peer p) p.allocations) connection peer number p
+  by_names =
+      ap (λ (o : Option ℕ). after_attempt_of o (peer_told bytes) (number_at bytes) p) told
+      ∙ ap (λ (o : Option SocketAddr). after_attempt_of (Some connection) o (number_at bytes) p) named
+      ∙ ap (λ (n : ℕ). after_attempt_in (find (may_join peer p) p.allocations) connection peer n p) (sym number_is)
+
+  by_place : (place : Option ℕ) → position (may_join peer p) p.allocations ≡ place → after_attempt bytes p ≡ after_attempt_in (at_place p.allocations place) connection peer number p
+  by_place place at =
+      by_names
+      ∙ ap (λ (o : Option Allocation). after_attempt_in o connection peer number p) (find_is (may_join peer p) p.allocations ∙ ap (at_place p.allocations) at)
+
+  -- no allocation may have it
+  pub nowhere : position (may_join peer p) p.allocations ≡ None → answering BadRequest number p ≡ after_attempt bytes p
+  nowhere at = sym (by_place None at)
+
+  module _ (place : ℕ) (a : Allocation) (at : position (may_join peer p) p.allocations ≡ Some place) (read : a ≡ get_or p.allocations place a) where
+    there : after_attempt bytes p ≡ after_attempt_in (Some a) connection peer number p
+    there = by_names ∙ ap (λ (o : Option Allocation). after_attempt_in o connection peer number p) (found_at (may_join peer p) p.allocations place a at read)
+
+    -- there is one to the peer already
+    pub barred : is_joining peer a ≡ true → answering AlreadyExists number p ≡ after_attempt bytes p
+    barred joins = sym (there ∙ rw joins refl)
+
+    -- it is taken up
+    pub begun : (new : List Allocation) → is_joining peer a ≡ false → IfSome (slice_get p.allocations place) (λ x. new ≡ slice_set p.allocations place (attempted connection peer number x))
+        → record p { allocations = new } ≡ after_attempt bytes p
+    begun new free is =
+        ap (λ (l : List Allocation). record p { allocations = l }) (changed_at (may_join peer p) (attempted connection peer number) p.allocations new place at is)
+        ∙ sym (there ∙ rw free refl)

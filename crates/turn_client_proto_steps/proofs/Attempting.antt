@@ -1,0 +1,205 @@
+-- A request of the server's by which it tells of a connection that a peer began is a step of a run (RFC 6062, section 4.4).
+use Rattle.std.proofs.Common.{◌≡◌, ℕ, ◌==◌, Bool, true, false, ◌&&◌, List, [], ◌∷◌, ◌++◌, Option, Some, None, if◌then◌else◌, refl, sym, ap, ◌∙◌, subst, arith, inl, inr}
+use Rattle.std.proofs.lemmas.Bool.{eqb-true}
+use Rattle.std.specs.List.{find}
+use Rattle.std.specs.declared.net.socket_addr.SocketAddr.{SocketAddr}
+use Rattle.stun_types.specs.Attributes.{kind_at}
+use Rattle.stun_types.specs.Grammar.{number_at, refusal}
+use Rattle.stun_types.specs.MessageClasses.{MessageClass, Request, Indication, Success, Error}
+use Rattle.stun_types.specs.Types.{class_of, method_of}
+use Rattle.stun_proto.specs.Client as signers
+use Rattle.stun_proto.specs.Sending.{is_request, is_request_class}
+use Rattle.turn_types.specs.TurnRegistry.{connection_attempt_method}
+use Rattle.turn_client_proto_data.specs.Allocation.Changes.{change_first}
+use Rattle.turn_client_proto_data.specs.Channel.Numbers.{AreDistinct}
+use Rattle.turn_client_proto_data.specs.Connection.Attempts.{attempt_by, attempted, is_joining}
+use Rattle.turn_client_proto_data.specs.Messages as run
+use Rattle.turn_client_proto_data.specs.Request.Answers.{answer_class, answer_text}
+use Rattle.turn_client_proto_data.specs.Request.declared.answer.AttemptAnswer.{AttemptAnswer}
+use Rattle.turn_client_proto_data.specs.Request.declared.answer.AttemptAnswer.TheVariants.{Accepted, AlreadyExists, BadRequest, Failed}
+use Rattle.turn_client_proto_data.specs.Response.Told.{connection_told, peer_told}
+use Rattle.turn_client_proto_data.specs.Steps.{ClientStep, IsTried}
+use Rattle.turn_client_proto_data.specs.StunWire.{told_by}
+use Rattle.turn_client_proto_data.specs.Core.Attempting.{IsAttemptTaken, after_attempt, after_attempt_in, after_attempt_of, answering, is_attempt, may_join, queued_answer}
+use Rattle.turn_client_proto_data.specs.Core.Responding.{judged}
+use Rattle.turn_client_proto_data.specs.Core.Waiting.{Queued}
+use Rattle.turn_client_proto_data.specs.Core.declared.protocol.Protocol.{Protocol}
+use Rattle.turn_client_proto_data.proofs.Request.Answering.{answer_is}
+use Rattle.turn_client_proto_steps.specs.ClientWords.{IsKept, IsQueued, client_words}
+use Rattle.turn_client_proto_steps.specs.Held.{Allocation}
+use Rattle.turn_client_proto_steps.specs.RunClient.{Client, moved, parts_of}
+use Rattle.turn_client_proto_steps.specs.RunSteps.{IsRunStep, call_of}
+use Rattle.turn_client_proto_steps.specs.Sound.{IsOrderly, IsReady}
+use Rattle.turn_client_proto_steps.proofs.Agents.{message_shown}
+use Rattle.turn_client_proto_steps.proofs.Allocating.{IsOwn}
+use Rattle.turn_client_proto_steps.proofs.Asking.{IsUnderWay}
+use Rattle.turn_client_proto_steps.proofs.Hearing.{done}
+use Rattle.turn_client_proto_steps.proofs.Joining.{AreJoining, IsJoining, Learning, first_joining, joining_orderly, kept_joining, none_connects, waited_itself}
+use Rattle.turn_client_proto_steps.proofs.Lessening.{same_first_distinct}
+use Rattle.turn_client_proto_steps.proofs.Lists.{in_either, nothing_behind}
+use Rattle.turn_client_proto_steps.proofs.Orderly.{queue_orderly, until_all}
+use Rattle.turn_client_proto_steps.proofs.Plain.{counts_none, held_is_kept, nothing_drawn, notices}
+use Rattle.turn_client_proto_steps.proofs.Polling.{by_test}
+
+-- ---- an answer
+
+response_class : (answer : AttemptAnswer) → run.IsResponse (answer_class answer)
+response_class Accepted = inl refl
+response_class BadRequest = inr refl
+response_class AlreadyExists = inr refl
+response_class Failed = inr refl
+
+-- an answer that waits is a response
+pub answer_ready : (client : signers.Client) (answer : AttemptAnswer) (number : ℕ) (from : SocketAddr) → IsReady (queued_answer from (answer_text client answer number))
+answer_ready client answer number from = inr (refl, subst run.IsResponse (sym (answer_is client answer number)) (response_class answer))
+
+-- no request waits but those that waited
+still_queued : (queue : List Queued) (q : Queued) → q.is_request ≡ false → (m : run.Message) → IsQueued (queue ++ q ∷ []) m → IsQueued queue m
+still_queued queue q response m h = elim (in_either h.queued queue (q ∷ []) h.listed) [
+  | inl was ↦ record { queued = h.queued; listed = was; is_request = h.is_request; shows = h.shows }
+  | inr own ↦ elim own [
+    | inl same ↦ absurd (Prim.cc (sym response ∙ ap (λ (y : Queued). y.is_request) same ∙ h.is_request))
+    | inr none ↦ absurd none
+  ]
+]
+
+-- ---- a connection that is begun
+
+-- one of this number and peer is known, of which the server told by the request of this number
+abbrev begins : ℕ → SocketAddr → ℕ → Learning
+begins connection peer number w = w ≡ attempt_by connection peer number
+
+begun_joining : (connection : ℕ) (peer : SocketAddr) (number : ℕ) (a : Allocation) → IsJoining none_connects (begins connection peer number) a (attempted connection peer number a)
+begun_joining connection peer number a = record {
+  others = refl;
+  connecting = λ c listed. inl listed;
+  waiting = λ w listed. elim (in_either w a.waiting (attempt_by connection peer number ∷ []) listed) [
+    | inl was ↦ inl (waited_itself a.waiting w was)
+    | inr own ↦ elim own [ inl same ↦ inr (sym same) | inr none ↦ absurd none ]
+  ];
+}
+
+-- ---- the request
+
+request_class : (class : MessageClass) → is_request_class class ≡ true → class ≡ Request
+request_class Request is = refl
+request_class Indication is = absurd (Prim.cc is)
+request_class Success is = absurd (Prim.cc is)
+request_class Error is = absurd (Prim.cc is)
+
+both_so : (x y : Bool) → (x && y) ≡ true → (x ≡ true) × (y ≡ true)
+both_so true y h = (refl, h)
+both_so false y h = absurd (Prim.cc h)
+
+module _ (c : Client) (signer : signers.Client) (bytes : List ℕ) (message : refusal bytes ≡ None) (own : IsOwn c.credentials bytes) (under_way : IsUnderWay c (judged signer c.core)) where
+  abbrev mid : Protocol
+  mid = judged signer c.core
+
+  abbrev number : ℕ
+  number = number_at bytes
+
+  tried : (core : Protocol) → is_attempt bytes ≡ true → IsTried client_words (call_of c (bytes ∷ []) None [] (moved c c.drawn core))
+  tried core is =
+      let both = both_so (is_request bytes) (method_of (kind_at bytes) == connection_attempt_method) is in
+      record {
+        bytes = bytes;
+        attempt = told_by bytes;
+        arrives = record { handled = inl refl; shows = message_shown bytes message; key = own.key; own = own.own; algorithm = own.algorithm; text = own.text; valid = own.valid };
+        class_is = request_class (class_of (kind_at bytes)) both.0;
+        method_is = eqb-true (method_of (kind_at bytes)) connection_attempt_method both.1;
+      }
+
+  -- the client with this queue and these allocations
+  module _ (is : is_attempt bytes ≡ true) (queue : List Queued) (left : List Allocation) (queued : (m : run.Message) → IsQueued queue m → IsQueued c.core.queue m)
+      (kept : (h : run.Held) → IsKept left h → IsKept c.core.allocations h) (orderly : IsOrderly (record (parts_of mid) { allocations = left; queue = queue })) where
+    abbrev core : Protocol
+    core = record mid { allocations = left; queue = queue }
+
+    step : ClientStep client_words (call_of c (bytes ∷ []) None [] (moved c c.drawn core))
+    step = record {
+      account = refl;
+      seed = refl;
+      counted = (counts_none c core refl).counted;
+      few = (counts_none c core refl).few;
+      begun = [];
+      requests = λ m h. absurd h;
+      numbered = omega arith;
+      outstanding = λ m h. inl h;
+      queued = λ m h. inl (queued m h);
+      taken = λ n h. inr (inr (tried core is));
+      draws = nothing_drawn [] c;
+      handles = λ x h. inl h;
+      buffers = λ x h. inr h;
+      gained = [];
+      gains = λ h k. inl (kept h k);
+      answers = λ t h. absurd h;
+      once = tt;
+      spent = λ t m h. absurd h;
+      known = λ t h. absurd h;
+      is_of = λ t h. absurd h;
+      tells = nothing_behind (notices c.core.events);
+      shows = λ h k. held_is_kept left h k;
+      shown = λ h i. absurd i;
+      waits = λ n p w. inr (inr (tried core is));
+      attempted = λ n h. inr (tried core is);
+      delivers = λ p h. absurd h;
+      names = λ p h. absurd h;
+    }
+
+    takes : IsRunStep c (bytes ∷ []) None [] core
+    takes = record {
+      after = moved c c.drawn core;
+      core_is = refl;
+      waits = refl;
+      step = step;
+      sound = record {
+        orderly = orderly;
+        can_ask = until_all c.core.phase (record {
+          account = under_way.can_ask.account;
+          texts = under_way.can_ask.texts;
+          families = under_way.can_ask.families;
+          words = under_way.can_ask.words;
+        });
+      };
+    }
+
+  module _ (is : is_attempt bytes ≡ true) where
+    -- it is answered
+    answers : (answer : AttemptAnswer) → IsRunStep c (bytes ∷ []) None [] (answering answer number mid)
+    unfolding answering
+    answers answer =
+        let q = queued_answer mid.agent.here (answer_text mid.auth answer number) in
+        takes is (mid.queue ++ q ∷ []) c.core.allocations (still_queued c.core.queue q refl) (λ h k. k)
+        (queue_orderly (parts_of mid) q (answer_ready mid.auth answer number mid.agent.here) under_way.orderly)
+
+    -- it is taken up
+    begins_one : (connection : ℕ) (peer : SocketAddr) → IsRunStep c (bytes ∷ []) None [] (record mid { allocations = change_first (may_join peer mid) (attempted connection peer number) mid.allocations })
+    begins_one connection peer =
+        let change = attempted connection peer number in
+        let left : List Allocation = change_first (may_join peer mid) change c.core.allocations in
+        let are : AreJoining none_connects (begins connection peer number) c.core.allocations left =
+        first_joining none_connects (begins connection peer number) (may_join peer mid) change c.core.allocations (λ a found. begun_joining connection peer number a) in
+        let distinct : AreDistinct left = same_first_distinct (may_join peer mid) change (λ a. (refl, refl)) c.core.allocations under_way.orderly.distinct in
+        takes is c.core.queue left (λ m h. h) (kept_joining none_connects (begins connection peer number) (parts_of c.core) left are)
+        (joining_orderly none_connects (begins connection peer number) (parts_of mid) left are (λ k h. absurd h) (λ k h. absurd h) distinct under_way.orderly)
+
+    by_allocation : (found : Option Allocation) (connection : ℕ) (peer : SocketAddr) → IsRunStep c (bytes ∷ []) None [] (after_attempt_in found connection peer number mid)
+    by_allocation None connection peer = answers BadRequest
+    by_allocation (Some a) connection peer =
+        elim (is_joining peer a) as (λ (b : Bool). IsRunStep c (bytes ∷ []) None [] (if b then answering AlreadyExists number mid
+        else record mid { allocations = change_first (may_join peer mid) (attempted connection peer number) mid.allocations })) [
+          | true ↦ answers AlreadyExists
+          | false ↦ begins_one connection peer
+        ]
+
+    by_names : (connection : Option ℕ) (peer : Option SocketAddr) → IsRunStep c (bytes ∷ []) None [] (after_attempt_of connection peer number mid)
+    by_names None peer = answers BadRequest
+    by_names (Some connection) None = answers BadRequest
+    by_names (Some connection) (Some peer) = by_allocation (find (may_join peer mid) mid.allocations) connection peer
+
+  pub attempt_step : (handled : Bool) (new : Protocol) → IsAttemptTaken mid bytes handled new → IsRunStep c (bytes ∷ []) None [] new
+  attempt_step handled new h =
+      by_test (is_attempt bytes)
+      (λ (is : is_attempt bytes ≡ true) (o : (handled ≡ true) × (new ≡ after_attempt bytes mid)).
+      subst (λ (p : Protocol). IsRunStep c (bytes ∷ []) None [] p) (sym o.1) (by_names is (connection_told bytes) (peer_told bytes)))
+      (λ (_ : is_attempt bytes ≡ false) (o : (handled ≡ false) × (new ≡ mid)). done c (bytes ∷ []) mid new under_way o.1) h

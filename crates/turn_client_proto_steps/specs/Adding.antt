@@ -1,0 +1,53 @@
+-- What a message that came adds to what a client keeps (RFC 8489, sections 6.3 and 9.2.5; RFC 8656, sections 7.3, 10.3
+-- and 12.3; RFC 6062, section 4.3).
+use Rattle.std.specs.Prelude.{◌≡◌, ◌≢◌, ◌⊎◌, ℕ, List, Some, None}
+use Rattle.stun_types.specs.Attributes.{Attr}
+use Rattle.stun_types.specs.Credentials.{NameAndPassword}
+use Rattle.stun_types.specs.Grammar.{shown}
+use Rattle.stun_types.specs.Integrity.{algorithm_of}
+use Rattle.stun_types.specs.IntegrityAlgorithms.{IntegrityAlgorithm}
+use Rattle.stun_types.specs.MessageClasses.{Success}
+use Rattle.turn_client_proto_data.specs.Members.{IsIn}
+use Rattle.turn_client_proto_data.specs.Messages.{Asks, Brings, Held, Holds, Message}
+use Rattle.turn_client_proto_data.specs.Steps.{IsOwnKey, WasKnown}
+use Rattle.turn_client_proto_data.specs.StunWire.{AreValid, stun_wire}
+use Rattle.turn_client_proto_data.specs.Core.declared.protocol.Protocol.{Protocol}
+use Rattle.turn_client_proto_steps.specs.ClientWords.{IsKept, IsOutstanding, client_words}
+use Rattle.turn_client_proto_steps.specs.RunClient.{Client}
+
+-- bytes validate under a key of an account: one of its name and password, in some realm
+pub record IsSignedFor (account : NameAndPassword) (bytes : List ℕ) : Type 0 where
+  pub key : List ℕ
+  pub own : IsOwnKey stun_wire account key
+  pub algorithm : IntegrityAlgorithm
+  pub text : List ℕ
+  pub valid : AreValid bytes key algorithm text
+
+-- no attribute that the bytes show is a MESSAGE-INTEGRITY or a MESSAGE-INTEGRITY-SHA256
+abbrev pub ShowNoIntegrity : List ℕ → Type 0
+ShowNoIntegrity bytes = (a : Attr) → IsIn a (shown bytes) → algorithm_of a.kind ≡ None
+
+-- the bytes are the success response that brings this to a client: they validate under a key of its own, and a request
+-- of their number was outstanding, which asked for this very thing. Afterwards none of that number is. The number and
+-- the peer of a connection were known before
+pub record IsAnsweredBy (c : Client) (bytes : List ℕ) (new : Protocol) (held : Held) : Type 0 where
+  pub response : Message
+  pub shows : stun_wire.shown bytes ≡ Some response
+  pub signed : IsSignedFor c.credentials bytes
+  pub success : response.class ≡ Success
+  pub brings : Brings response (Holds held)
+  pub request : Message
+  pub waited : IsOutstanding c.core.agent request
+  pub number_is : request.number ≡ response.number
+  pub asks : Asks request (Holds held)
+  pub spent : (other : Message) → IsOutstanding new.agent other → other.number ≢ response.number
+  pub known : WasKnown client_words c held
+
+-- all that is kept was kept before, or is what these bytes bring as a response
+abbrev pub AddsAnswered : Client → (bytes : List ℕ) → Protocol → Type 0
+AddsAnswered c bytes new = (held : Held) → IsKept new.allocations held
+    → IsKept c.core.allocations held ⊎ IsAnsweredBy c bytes new held
+
+-- all that is kept was kept before
+abbrev pub AddsNothing : (old new : Protocol) → Type 0
+AddsNothing old new = (held : Held) → IsKept new.allocations held → IsKept old.allocations held

@@ -1,0 +1,89 @@
+//! What a message that came adds to what a client keeps: allocations, permissions, channels and bound
+//! connections (RFC 8656, sections 7.3, 10.3 and 12.3; RFC 6062, section 4.3). A response adds what its
+//! own request asked for, and nothing else adds anything. The functions here do nothing; each contract
+//! is a law.
+
+ghost use Rattle.std.specs.Prelude.{◌≡◌, ℕ, List, [], Bool, false, None};
+ghost use Rattle.std.specs.declared.net.socket_addr.SocketAddr.{SocketAddr};
+ghost use Rattle.stun_proto.specs.Handling.{is_awaited};
+ghost use Rattle.stun_types.specs.Credentials.{NameAndPassword};
+ghost use Rattle.stun_types.specs.Grammar.{refusal};
+ghost use Rattle.stun_types.specs.Headers.{AreBytes};
+ghost use Rattle.turn_client_proto_data.specs.Core.Receiving.{IsHeard};
+ghost use Rattle.turn_client_proto_data.specs.Core.declared.protocol.Protocol.{Protocol};
+ghost use Rattle.turn_client_proto_data.specs.Hearing.{IsHeardAt};
+ghost use Rattle.turn_client_proto_data.specs.Steps.{Call, ClientStep};
+ghost use Rattle.turn_client_proto_steps.specs.Adding.{AddsAnswered, AddsNothing, IsSignedFor, ShowNoIntegrity};
+ghost use Rattle.turn_client_proto_steps.specs.ClientWords.{client_words};
+ghost use Rattle.turn_client_proto_steps.specs.RunClient.{Client};
+ghost use Rattle.turn_client_proto_steps.specs.Sound.{IsSound};
+
+/// What a message adds is what it brings as the success response to a request of the client's own. It
+/// validates under a key of the client's (RFC 8489, section 9.2.5); the request of its number was
+/// outstanding, is so no more, and asked for that very thing: an allocation over that transport, a
+/// permission for that address, a channel of that number to that peer, or that a connection of that
+/// number be bound (RFC 8656, sections 7.3, 10.3 and 12.3; RFC 6062, section 4.3). It is so of a message
+/// of the control connection (`heard`), and of one that came over the socket of a connection
+/// (`heard_at`).
+pub fn answers_alone_add()
+    ensures heard { (c : Client) (bytes : List ℕ) (now : ℕ) (handled : Bool) (new : Protocol)
+        → IsSound c
+        → AreBytes bytes
+        → refusal bytes ≡ None
+        → IsHeard c.core bytes now handled new
+        → AddsAnswered c bytes new }
+    ensures heard_at { (c : Client) (here : SocketAddr) (bytes : List ℕ) (now : ℕ) (new : Protocol)
+        → IsSound c
+        → AreBytes bytes
+        → refusal bytes ≡ None
+        → IsHeardAt here c.core bytes now new
+        → AddsAnswered c bytes new }
+{}
+
+/// A message that is not signed, or is signed wrongly, adds nothing: where it validates under no key of
+/// the client's own name and password, in whichever realm and by whichever algorithm, all that is kept
+/// afterwards was kept before (RFC 8489, section 9.2.5). One that shows neither a MESSAGE-INTEGRITY nor a
+/// MESSAGE-INTEGRITY-SHA256 validates under none (`unsigned`).
+pub fn unsigned_adds_nothing()
+    ensures heard { (c : Client) (bytes : List ℕ) (now : ℕ) (handled : Bool) (new : Protocol)
+        → IsSound c
+        → AreBytes bytes
+        → refusal bytes ≡ None
+        → (IsSignedFor c.credentials bytes → ⊥)
+        → IsHeard c.core bytes now handled new
+        → AddsNothing c.core new }
+    ensures heard_at { (c : Client) (here : SocketAddr) (bytes : List ℕ) (now : ℕ) (new : Protocol)
+        → IsSound c
+        → AreBytes bytes
+        → refusal bytes ≡ None
+        → (IsSignedFor c.credentials bytes → ⊥)
+        → IsHeardAt here c.core bytes now new
+        → AddsNothing c.core new }
+    ensures unsigned { (account : NameAndPassword) (bytes : List ℕ)
+        → ShowNoIntegrity bytes
+        → IsSignedFor account bytes
+        → ⊥ }
+{}
+
+/// A message that nothing asked for adds nothing: where no request of its number is outstanding, all
+/// that is kept afterwards was kept before, whatever it shows and whoever signed it (RFC 8489, section
+/// 6.3). It is so of any client, and of any bytes.
+pub fn unasked_adds_nothing()
+    ensures heard { (old new : Protocol) (bytes : List ℕ) (now : ℕ) (handled : Bool)
+        → is_awaited old.agent bytes ≡ false
+        → IsHeard old bytes now handled new
+        → AddsNothing old new }
+    ensures heard_at { (old new : Protocol) (here : SocketAddr) (bytes : List ℕ) (now : ℕ)
+        → is_awaited old.agent bytes ≡ false
+        → IsHeardAt here old bytes now new
+        → AddsNothing old new }
+{}
+
+/// A call that takes up no message adds nothing: neither one that asks for something, nor the passing of
+/// time, nor what is drawn to be sent. All that is kept after such a step was kept before.
+pub fn calls_add_nothing()
+    ensures { (call : Call Client)
+        → ClientStep client_words call
+        → call.handled ≡ []
+        → AddsNothing call.before.core call.after.core }
+{}
