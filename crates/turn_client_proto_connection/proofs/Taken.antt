@@ -1,15 +1,12 @@
 -- What is left of a list where the first element that passes is taken out.
-use Rattle.std.proofs.Common.{◌≡◌, ℕ, Bool, List, [], ◌∷◌, ◌++◌, Some, None, position, arith, ap, refl}
+use Rattle.std.proofs.Common.{◌≡◌, ℕ, Bool, List, [], ◌∷◌, ◌++◌, Some, position, arith, ap, refl}
 use Rattle.std.proofs.lemmas.Grind.{common_steps}
 use Rattle.std.specs.Prelude.{remove}
-use Rattle.std.specs.List.{after_first, before_first}
+use Rattle.turn_client_proto_channel.specs.Permission.Allocation.Changes.{without_first}
 
 module _ {X : Type 0} (p : X → Bool) where
-  pub taken_at : (xs : List X) (i : ℕ) → position p xs ≡ Some i → remove xs i ≡ before_first p xs ++ after_first p xs
+  pub taken_at : (xs : List X) (i : ℕ) → position p xs ≡ Some i → remove xs i ≡ without_first p xs
   taken_at xs i h = grind (arith, common_steps)
-
-  pub none_taken : (xs : List X) → position p xs ≡ None → before_first p xs ++ after_first p xs ≡ xs
-  none_taken xs h = grind (arith, common_steps)
 
 pub none_behind : {X : Type 0} (xs : List X) → xs ≡ xs ++ []
 none_behind [] = refl

@@ -1,8 +1,9 @@
 -- Connections that peers begin (RFC 6062, section 4.4).
 use Rattle.std.specs.Prelude.{ℕ, Bool, false, ◌||◌, List, [], ◌∷◌, ◌++◌, find, map, Option, Some, None, option_and_then, option_to_list}
-use Rattle.std.specs.List.{after_first, before_first, list_any}
+use Rattle.std.specs.List.{list_any}
 use Rattle.std.specs.declared.net.socket_addr.SocketAddr.{SocketAddr}
 use Rattle.turn_client_proto_channel.specs.Permission.Allocation.Awaited.{is_attempt}
+use Rattle.turn_client_proto_channel.specs.Permission.Allocation.Changes.{without_first}
 use Rattle.turn_client_proto_channel.specs.Permission.Allocation.declared.allocation.Allocation.{Allocation}
 use Rattle.turn_client_proto_channel.specs.Permission.Allocation.declared.connection.Waiting.{Waiting}
 use Rattle.turn_client_proto_connection.specs.Asking.{is_joined_to, is_waiting_for}
@@ -44,4 +45,4 @@ abbrev pub peers_lost : Option ℕ → List Waiting → List SocketAddr
 peers_lost ended waiting = map (λ w. w.peer) (option_to_list (find (is_lost ended) waiting))
 
 abbrev pub not_lost : Option ℕ → List Waiting → List Waiting
-not_lost ended waiting = before_first (is_lost ended) waiting ++ after_first (is_lost ended) waiting
+not_lost ended waiting = without_first (is_lost ended) waiting

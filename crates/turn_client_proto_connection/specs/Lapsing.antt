@@ -38,8 +38,8 @@ all_gone ended now allocations = flat_map (λ (a : Allocation). sockets_gone end
 abbrev pub not_gone : Option ℕ → ℕ → List Connection → List Connection
 not_gone ended now connections = filter (λ c. not (has_gone ended now c)) connections
 
--- an allocation with those, without the connections that were asked for and whose request ended, and without those that
--- peers began by a request of that number
+-- an allocation with those, without the connections that were asked for and whose request ended, and without the first
+-- that a peer began by a request of that number
 unfoldable pub polled : Option ℕ → ℕ → Allocation → Allocation
 polled ended now a = record (given_up ended a) {
   connections = not_gone ended now a.connections;

@@ -1,7 +1,8 @@
 -- Sockets for connections to peers, and their end (RFC 6062, sections 4.3 and 4.6).
 use Rattle.std.specs.Prelude.{ℕ, ◌==◌, Bool, not, ◌&&◌, List, [], ◌∷◌, ◌++◌, filter, Some}
-use Rattle.std.specs.List.{after_first, before_first, list_any}
+use Rattle.std.specs.List.{list_any}
 use Rattle.std.specs.declared.net.socket_addr.SocketAddr.{SocketAddr}
+use Rattle.turn_client_proto_channel.specs.Permission.Allocation.Changes.{without_first}
 use Rattle.turn_client_proto_channel.specs.Permission.Allocation.Streams.{alive}
 use Rattle.turn_client_proto_channel.specs.Permission.Allocation.declared.allocation.Allocation.{Allocation}
 use Rattle.turn_client_proto_channel.specs.Permission.Allocation.declared.connection.Binding.{Binding}
@@ -20,8 +21,7 @@ awaits_socket connection peer a = list_any (is_socket_for connection peer) a.wai
 
 -- what waits but for the first such, and an allocation in which that waits no more
 abbrev pub not_for : (connection : ℕ) → SocketAddr → List Waiting → List Waiting
-not_for connection peer waiting =
-    before_first (is_socket_for connection peer) waiting ++ after_first (is_socket_for connection peer) waiting
+not_for connection peer waiting = without_first (is_socket_for connection peer) waiting
 
 unfoldable pub let_go : (connection : ℕ) → SocketAddr → Allocation → Allocation
 let_go connection peer a = record a { waiting = not_for connection peer a.waiting }

@@ -21,7 +21,7 @@ relay_failures over now a =
     ++ map (ChannelCreateFailed a.transport) (channels.peers_lapsing now a)))
 
 -- what is told of its connections: those that were asked for and whose request ended, then those that were not bound in
--- time, and then those that peers began by a request of the number that ended
+-- time, and then the first that a peer began by a request of the number that ended
 unfoldable pub connection_failures : Option ℕ → ℕ → Allocation → List TurnEvent
 connection_failures over now a = map TcpConnectFailed (connections.peers_over over a.connecting)
     ++ (map TcpConnectFailed (joined.peers_gone over now a.connections)

@@ -138,17 +138,21 @@ queue_more p q request = record {
       ]
     ]
 
+-- no request waits but those that waited
+pub still_queued : (queue : List Queued) (q : Queued) → q.is_request ≡ false → (m : run.Message) → IsQueued (queue ++ q ∷ []) m → IsQueued queue m
+still_queued queue q response m h = elim (in_either h.queued queue (q ∷ []) h.listed) [
+  | inl was ↦ record { queued = h.queued; listed = was; is_request = h.is_request; shows = h.shows }
+  | inr own ↦ elim own [
+    | inl same ↦ absurd (Prim.cc (sym response ∙ ap (λ (y : Queued). y.is_request) same ∙ h.is_request))
+    | inr none ↦ absurd none
+  ]
+]
+
 -- the response to a request of the server's waits, which was not answered before
 pub queue_answers : (p : Parts) (q : Queued) → q.is_request ≡ false → IsAttempted p.allocations p.queue (number_at q.bytes) → Adds [] p (record p { queue = p.queue ++ q ∷ [] })
 queue_answers p q response waits = record {
   outstanding = λ m h. inl h;
-  queued = λ m h. elim (in_either h.queued p.queue (q ∷ []) h.listed) [
-    | inl was ↦ inl (record { queued = h.queued; listed = was; is_request = h.is_request; shows = h.shows })
-    | inr own ↦ elim own [
-      | inl same ↦ absurd (Prim.cc (sym response ∙ ap (λ (y : Queued). y.is_request) same ∙ h.is_request))
-      | inr none ↦ absurd none
-    ]
-  ];
+  queued = λ m h. inl (still_queued p.queue q response m h);
   taken = λ n h. inl (taken n h);
   kept = λ h k. k;
   waits = λ n peer h. h;

@@ -24,7 +24,7 @@ use Rattle.turn_types.specs.TurnRegistry.{allocate_method}
 use Rattle.turn_client_proto_data.specs.Members.{IsIn}
 use Rattle.turn_client_proto_data.specs.Messages as run
 use Rattle.turn_client_proto_data.specs.Steps.{ClientStep, IsAnswered, IsOwnKey, Told, WasKnown}
-use Rattle.turn_client_proto_data.specs.StunWire.{AreValid, stun_wire, told_by}
+use Rattle.turn_client_proto_data.specs.StunWire.{stun_wire, told_by}
 use Rattle.turn_client_proto_data.specs.Api.declared.event.TurnEvent.TheVariants.{AllocationCreateFailed}
 use Rattle.turn_client_proto_data.specs.Request.Judging.{IsJudged}
 use Rattle.turn_client_proto_data.specs.Response.Granting.{are_of_one_family, families_without, first_of_each, is_wanted}
@@ -35,6 +35,7 @@ use Rattle.turn_client_proto_data.specs.Core.Authenticating.{numbers_sent}
 use Rattle.turn_client_proto_data.specs.Core.Responding.{accepted, judged}
 use Rattle.turn_client_proto_data.specs.Core.declared.protocol.Phase.{Phase}
 use Rattle.turn_client_proto_data.specs.Core.declared.protocol.Protocol.{Protocol}
+use Rattle.turn_client_proto_steps.specs.Adding.{IsSignedFor}
 use Rattle.turn_client_proto_steps.specs.ClientWords.{IsTaken, Outstanding, Allocating, Pending, client_words}
 use Rattle.turn_client_proto_steps.specs.Held.{Allocation}
 use Rattle.turn_client_proto_steps.specs.RunClient.{Client, moved, parts_of}
@@ -49,15 +50,7 @@ use Rattle.turn_client_proto_steps.proofs.Plain.{counts_none, failures_tell_noth
 
 -- ---- the key
 
--- bytes validate under a key of an account
-pub record IsOwn (account : NameAndPassword) (bytes : List ℕ) : Type 0 where
-  pub key : List ℕ
-  pub own : IsOwnKey stun_wire account key
-  pub algorithm : IntegrityAlgorithm
-  pub text : List ℕ
-  pub valid : AreValid bytes key algorithm text
-
-pub validated_own : (old new : signers.Client) (bytes : List ℕ) (algorithm : IntegrityAlgorithm) (account : NameAndPassword) → AreBytes bytes → old.account ≡ Some account → IsJudged old bytes (Ok (Validated algorithm)) new → IsOwn account bytes
+pub validated_own : (old new : signers.Client) (bytes : List ℕ) (algorithm : IntegrityAlgorithm) (account : NameAndPassword) → AreBytes bytes → old.account ≡ Some account → IsJudged old bytes (Ok (Validated algorithm)) new → IsSignedFor account bytes
 validated_own old new bytes algorithm account are_bytes has is =
     let from = (step_of old new bytes (Ok (Validated algorithm)) is).from_server in
     let same : from.own.account ≡ account = inside (sym from.own.own ∙ has) in
@@ -88,7 +81,7 @@ allocate_sent c bytes are h = sent_by c (number_at bytes) (finite.get c.core.age
 -- ---- the step
 
 module _ (c : Client) (signer : signers.Client) (bytes : List ℕ) (lifetime now : ℕ) (message : refusal bytes ≡ None) (success : class_of (kind_at bytes) ≡ Success) (ends : ends_one c.core.agent bytes ≡ true)
-    (own : IsOwn c.credentials bytes) (sent : IsAllocateSent c (number_at bytes)) (orderly : IsOrderly (parts_of c.core)) (under_way : IsUnderWay c (accepted bytes (judged signer c.core))) where
+    (own : IsSignedFor c.credentials bytes) (sent : IsAllocateSent c (number_at bytes)) (orderly : IsOrderly (parts_of c.core)) (under_way : IsUnderWay c (accepted bytes (judged signer c.core))) where
   abbrev number : ℕ
   number = number_at bytes
 

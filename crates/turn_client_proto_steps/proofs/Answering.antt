@@ -1,5 +1,5 @@
 -- A message that came over the socket of a connection that is to be bound is a step of a run (RFC 6062, section 4.3).
-use Rattle.std.proofs.Common.{◌≡◌, ◌⊎◌, ℕ, ◌==◌, Bool, true, false, ◌&&◌, List, [], ◌∷◌, ◌++◌, map, Option, Some, None, Result, Ok, Err, refl, sym, ap, ◌∙◌, subst, arith, inl, inr}
+use Rattle.std.proofs.Common.{◌≡◌, ◌⊎◌, ℕ, ◌==◌, true, false, List, [], ◌∷◌, ◌++◌, map, Option, Some, None, Result, Ok, Err, refl, sym, ap, ◌∙◌, subst, arith, inl, inr}
 use Rattle.std.proofs.lemmas.Bool.{eqb-true}
 use Rattle.std.specs.FinMap as finite
 use Rattle.std.specs.Prelude.{is_some, option_and_then}
@@ -42,6 +42,7 @@ use Rattle.turn_client_proto_data.specs.Core.Responding.{accepted, answered, jud
 use Rattle.turn_client_proto_data.specs.Core.declared.protocol.Phase.{Phase}
 use Rattle.turn_client_proto_data.specs.Core.declared.protocol.Phase.TheVariants.{Authenticated}
 use Rattle.turn_client_proto_data.specs.Core.declared.protocol.Protocol.{Protocol}
+use Rattle.turn_client_proto_steps.specs.Adding.{IsSignedFor}
 use Rattle.turn_client_proto_steps.specs.ClientWords.{ByConnection, IsKept, IsTaken, Outstanding, Allocating, Pending, client_words}
 use Rattle.turn_client_proto_steps.specs.Held.{Allocation, Binding, Connection}
 use Rattle.turn_client_proto_steps.specs.RunClient.{Client, Parts, moved, parts_of}
@@ -49,13 +50,13 @@ use Rattle.turn_client_proto_steps.specs.RunSteps.{IsRunStep, call_of}
 use Rattle.turn_client_proto_steps.specs.Sound.{AsksFor, CanAsk, IsOrderly, IsSound, UntilEnded}
 use Rattle.turn_client_proto_steps.proofs.Adding.{HasNumber, adds_both, allocations_less}
 use Rattle.turn_client_proto_steps.proofs.Agents.{has_other, message_shown, outstanding_before}
-use Rattle.turn_client_proto_steps.proofs.Allocating.{IsOwn, validated_own}
+use Rattle.turn_client_proto_steps.proofs.Allocating.{validated_own}
 use Rattle.turn_client_proto_steps.proofs.Asking.{IsMade, IsUnderWay, asked_from_adds, asked_from_orderly, asks, at_first, made, once_accepted, once_answered, once_judged}
 use Rattle.turn_client_proto_steps.proofs.Binds.{asks_bind}
 use Rattle.turn_client_proto_steps.proofs.Changing.{AreChanging, Bounding, IsChanging, IsFirst, IsTurned, Rebinding, allocations_changing, attempted_changing, changing_orderly, first_changing, held_as, kept_changing, none_bound, none_rebound, one_changing, taken_changing, waits_changing}
 use Rattle.turn_client_proto_steps.proofs.Ending.{still}
 use Rattle.turn_client_proto_steps.proofs.Lessening.{each_less, same_distinct, same_first_distinct}
-use Rattle.turn_client_proto_steps.proofs.Lists.{found_in, inside}
+use Rattle.turn_client_proto_steps.proofs.Lists.{both_so, found_in, inside}
 use Rattle.turn_client_proto_steps.proofs.Orderly.{allocations_orderly, until_all}
 use Rattle.turn_client_proto_steps.proofs.Parting.{closed_alike, closed_less}
 use Rattle.turn_client_proto_steps.proofs.Plain.{counts_none, held_is_kept, joined, none_told, nothing_drawn, quiet, run_step}
@@ -163,7 +164,7 @@ module _ (c : Client) (mid : Protocol) (bytes : List ℕ) (now : ℕ) (under_way
 -- ---- it is bound
 
 module _ (c : Client) (signer : signers.Client) (bytes : List ℕ) (message : refusal bytes ≡ None) (success : class_of (kind_at bytes) ≡ Success) (ends : ends_one c.core.agent bytes ≡ true)
-    (own : IsOwn c.credentials bytes) (here : SocketAddr) (j : Joining) (is : IsJoining here c.core.allocations j) (number_is : number_at bytes ≡ j.number)
+    (own : IsSignedFor c.credentials bytes) (here : SocketAddr) (j : Joining) (is : IsJoining here c.core.allocations j) (number_is : number_at bytes ≡ j.number)
     (t : Transaction) (there : finite.get c.core.agent.outstanding (number_at bytes) ≡ Some t)
     (orderly : IsOrderly (parts_of c.core)) (under_way : IsUnderWay c (accepted bytes (judged signer c.core))) where
   abbrev agent : Agent
@@ -296,10 +297,6 @@ module _ (c : Client) (signer : signers.Client) (bytes : List ℕ) (message : re
   }
 
 -- ---- by the verdict
-
-both_so : (x y : Bool) → (x && y) ≡ true → (x ≡ true) × (y ≡ true)
-both_so true y h = (refl, h)
-both_so false y h = absurd (Prim.cc h)
 
 success_class : (class : MessageClass) → is_success_class class ≡ true → class ≡ Success
 success_class Success is = refl

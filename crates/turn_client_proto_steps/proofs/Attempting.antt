@@ -1,5 +1,5 @@
 -- A request of the server's by which it tells of a connection that a peer began is a step of a run (RFC 6062, section 4.4).
-use Rattle.std.proofs.Common.{◌≡◌, ℕ, ◌==◌, Bool, true, false, ◌&&◌, List, [], ◌∷◌, ◌++◌, Option, Some, None, if◌then◌else◌, refl, sym, ap, ◌∙◌, subst, arith, inl, inr}
+use Rattle.std.proofs.Common.{◌≡◌, ℕ, ◌==◌, Bool, true, false, List, [], ◌∷◌, ◌++◌, Option, Some, None, if◌then◌else◌, refl, sym, subst, arith, inl, inr}
 use Rattle.std.proofs.lemmas.Bool.{eqb-true}
 use Rattle.std.specs.List.{find}
 use Rattle.std.specs.declared.net.socket_addr.SocketAddr.{SocketAddr}
@@ -25,18 +25,19 @@ use Rattle.turn_client_proto_data.specs.Core.Responding.{judged}
 use Rattle.turn_client_proto_data.specs.Core.Waiting.{Queued}
 use Rattle.turn_client_proto_data.specs.Core.declared.protocol.Protocol.{Protocol}
 use Rattle.turn_client_proto_data.proofs.Request.Answering.{answer_is}
+use Rattle.turn_client_proto_steps.specs.Adding.{IsSignedFor}
 use Rattle.turn_client_proto_steps.specs.ClientWords.{IsKept, IsQueued, client_words}
 use Rattle.turn_client_proto_steps.specs.Held.{Allocation}
 use Rattle.turn_client_proto_steps.specs.RunClient.{Client, moved, parts_of}
 use Rattle.turn_client_proto_steps.specs.RunSteps.{IsRunStep, call_of}
 use Rattle.turn_client_proto_steps.specs.Sound.{IsOrderly, IsReady}
+use Rattle.turn_client_proto_steps.proofs.Adding.{still_queued}
 use Rattle.turn_client_proto_steps.proofs.Agents.{message_shown}
-use Rattle.turn_client_proto_steps.proofs.Allocating.{IsOwn}
 use Rattle.turn_client_proto_steps.proofs.Asking.{IsUnderWay}
 use Rattle.turn_client_proto_steps.proofs.Hearing.{done}
 use Rattle.turn_client_proto_steps.proofs.Joining.{AreJoining, IsJoining, Learning, first_joining, joining_orderly, kept_joining, none_connects, waited_itself}
 use Rattle.turn_client_proto_steps.proofs.Lessening.{same_first_distinct}
-use Rattle.turn_client_proto_steps.proofs.Lists.{in_either, nothing_behind}
+use Rattle.turn_client_proto_steps.proofs.Lists.{both_so, in_either, nothing_behind}
 use Rattle.turn_client_proto_steps.proofs.Orderly.{queue_orderly, until_all}
 use Rattle.turn_client_proto_steps.proofs.Plain.{counts_none, held_is_kept, nothing_drawn, notices}
 use Rattle.turn_client_proto_steps.proofs.Polling.{by_test}
@@ -52,16 +53,6 @@ response_class Failed = inr refl
 -- an answer that waits is a response
 pub answer_ready : (client : signers.Client) (answer : AttemptAnswer) (number : ℕ) (from : SocketAddr) → IsReady (queued_answer from (answer_text client answer number))
 answer_ready client answer number from = inr (refl, subst run.IsResponse (sym (answer_is client answer number)) (response_class answer))
-
--- no request waits but those that waited
-still_queued : (queue : List Queued) (q : Queued) → q.is_request ≡ false → (m : run.Message) → IsQueued (queue ++ q ∷ []) m → IsQueued queue m
-still_queued queue q response m h = elim (in_either h.queued queue (q ∷ []) h.listed) [
-  | inl was ↦ record { queued = h.queued; listed = was; is_request = h.is_request; shows = h.shows }
-  | inr own ↦ elim own [
-    | inl same ↦ absurd (Prim.cc (sym response ∙ ap (λ (y : Queued). y.is_request) same ∙ h.is_request))
-    | inr none ↦ absurd none
-  ]
-]
 
 -- ---- a connection that is begun
 
@@ -87,11 +78,7 @@ request_class Indication is = absurd (Prim.cc is)
 request_class Success is = absurd (Prim.cc is)
 request_class Error is = absurd (Prim.cc is)
 
-both_so : (x y : Bool) → (x && y) ≡ true → (x ≡ true) × (y ≡ true)
-both_so true y h = (refl, h)
-both_so false y h = absurd (Prim.cc h)
-
-module _ (c : Client) (signer : signers.Client) (bytes : List ℕ) (message : refusal bytes ≡ None) (own : IsOwn c.credentials bytes) (under_way : IsUnderWay c (judged signer c.core)) where
+module _ (c : Client) (signer : signers.Client) (bytes : List ℕ) (message : refusal bytes ≡ None) (own : IsSignedFor c.credentials bytes) (under_way : IsUnderWay c (judged signer c.core)) where
   abbrev mid : Protocol
   mid = judged signer c.core
 

@@ -49,6 +49,7 @@ use Rattle.turn_client_proto_data.specs.Core.Standing.{IsConnectResponded, after
 use Rattle.turn_client_proto_data.specs.Core.declared.protocol.Phase.{Phase}
 use Rattle.turn_client_proto_data.specs.Core.declared.protocol.Phase.TheVariants.{Authenticated}
 use Rattle.turn_client_proto_data.specs.Core.declared.protocol.Protocol.{Protocol}
+use Rattle.turn_client_proto_steps.specs.Adding.{IsSignedFor}
 use Rattle.turn_client_proto_steps.specs.ClientWords.{IsTaken, Outstanding, Allocating, Pending, client_words}
 use Rattle.turn_client_proto_steps.specs.Held.{Allocation, Connecting, Waiting}
 use Rattle.turn_client_proto_steps.specs.RunClient.{Client, Parts, moved, parts_of}
@@ -56,7 +57,6 @@ use Rattle.turn_client_proto_steps.specs.RunSteps.{IsRunStep, call_of}
 use Rattle.turn_client_proto_steps.specs.Sound.{AsksOf, CanAsk, IsOrderly, IsSound, IsWhole, UntilEnded}
 use Rattle.turn_client_proto_steps.proofs.Adding.{HasNumber, adds_both}
 use Rattle.turn_client_proto_steps.proofs.Agents.{message_shown, outstanding_before}
-use Rattle.turn_client_proto_steps.proofs.Allocating.{IsOwn}
 use Rattle.turn_client_proto_steps.proofs.Asking.{IsMade, IsUnderWay, asked_adds, asked_orderly, asks, at_first, made}
 use Rattle.turn_client_proto_steps.proofs.Awaited.{IsAskedOf, IsFoundBy, OfAskedChannel, OfConnection, OfLifetime, OfNew, OfRenewal, OfRenewedChannel}
 use Rattle.turn_client_proto_steps.proofs.Ending.{still}
@@ -223,7 +223,7 @@ number_told bytes connection told = by (find (λ (a : Attr). eqb a.kind connecti
         same_kind connection_id_kind connection a _ kind is
 
 module _ (c : Client) (signer : signers.Client) (bytes : List ℕ) (message : refusal bytes ≡ None) (response : is_response_class (class_of (kind_at bytes)) ≡ true)
-    (own : IsOwn c.credentials bytes) (peer : SocketAddr) (connection : ℕ) (told : connection_told bytes ≡ Some connection)
+    (own : IsSignedFor c.credentials bytes) (peer : SocketAddr) (connection : ℕ) (told : connection_told bytes ≡ Some connection)
     (is : IsConnectFound (number_at bytes) peer c.core.allocations) (t : Transaction) (there : finite.get c.core.agent.outstanding (number_at bytes) ≡ Some t)
     (orderly : IsOrderly (parts_of c.core)) (under_way : IsUnderWay c (accepted bytes (judged signer c.core))) where
   abbrev number : ℕ

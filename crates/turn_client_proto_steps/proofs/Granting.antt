@@ -28,6 +28,7 @@ use Rattle.turn_client_proto_data.specs.Api.declared.event.TurnEvent.TheVariants
 use Rattle.turn_client_proto_data.specs.Core.Permitting.{granted}
 use Rattle.turn_client_proto_data.specs.Core.Responding.{accepted, judged}
 use Rattle.turn_client_proto_data.specs.Core.declared.protocol.Protocol.{Protocol}
+use Rattle.turn_client_proto_steps.specs.Adding.{IsSignedFor}
 use Rattle.turn_client_proto_steps.specs.ClientWords.{IsTaken, Outstanding, Allocating, Pending, client_words}
 use Rattle.turn_client_proto_steps.specs.Held.{Allocation, PendingPermission}
 use Rattle.turn_client_proto_steps.specs.RunClient.{Client, moved, parts_of}
@@ -40,7 +41,6 @@ use Rattle.turn_client_proto_steps.proofs.Permissions.{first_permitting, permitt
 use Rattle.turn_client_proto_steps.proofs.Fitting.{permitting_orderly}
 use Rattle.turn_client_proto_steps.proofs.Permitting.{ArePermitting, Gaining, attempted_permitting, kept_permitting, none_asks, taken_permitting, waits_permitting}
 use Rattle.turn_client_proto_steps.proofs.Agents.{has_other, message_shown, outstanding_before}
-use Rattle.turn_client_proto_steps.proofs.Allocating.{IsOwn}
 use Rattle.turn_client_proto_steps.proofs.Asking.{IsUnderWay}
 use Rattle.turn_client_proto_steps.proofs.Awaited.{IsAskedOf, IsFoundBy, OfAskedChannel, OfConnection, OfLifetime, OfNew, OfRenewal, OfRenewedChannel, found_by}
 use Rattle.turn_client_proto_steps.proofs.Lists.{found_in, found_passes, inside}
@@ -98,7 +98,7 @@ pub record AreGranted (c : Client) (bytes asked : List ℕ) (gained : List Told)
   pub once : NoneTwice told_for gained
 
 module _ (c : Client) (signer : signers.Client) (bytes : List ℕ) (message : refusal bytes ≡ None) (ends : ends_one c.core.agent bytes ≡ true)
-    (own : IsOwn c.credentials bytes) (t : Transaction) (there : finite.get c.core.agent.outstanding (number_at bytes) ≡ Some t)
+    (own : IsSignedFor c.credentials bytes) (t : Transaction) (there : finite.get c.core.agent.outstanding (number_at bytes) ≡ Some t)
     (orderly : IsOrderly (parts_of c.core)) (under_way : IsUnderWay c (accepted bytes (judged signer c.core))) where
   abbrev agent : Agent
   agent = after_message c.core.agent bytes c.core.server
@@ -191,7 +191,7 @@ module _ (c : Client) (signer : signers.Client) (bytes : List ℕ) (message : re
 -- ---- a permission
 
 module _ (c : Client) (signer : signers.Client) (bytes : List ℕ) (now : ℕ) (message : refusal bytes ≡ None) (success : class_of (kind_at bytes) ≡ Success) (ends : ends_one c.core.agent bytes ≡ true)
-    (own : IsOwn c.credentials bytes) (transport : TransportType) (ip : IpAddr) (is : IsAskedIn (number_at bytes) transport ip c.core.allocations) (t : Transaction) (there : finite.get c.core.agent.outstanding (number_at bytes) ≡ Some t)
+    (own : IsSignedFor c.credentials bytes) (transport : TransportType) (ip : IpAddr) (is : IsAskedIn (number_at bytes) transport ip c.core.allocations) (t : Transaction) (there : finite.get c.core.agent.outstanding (number_at bytes) ≡ Some t)
     (orderly : IsOrderly (parts_of c.core)) (under_way : IsUnderWay c (accepted bytes (judged signer c.core))) where
   abbrev told : Told
   told = record { notice = run.PermissionCreated transport ip; held = run.Permission transport ip; number = number_at bytes }

@@ -36,12 +36,12 @@ use Rattle.turn_client_proto_data.specs.Permission.Granted.{permitted}
 use Rattle.turn_client_proto_data.specs.Core.Binding.{bound, permission_with, permitted_with, told_with}
 use Rattle.turn_client_proto_data.specs.Core.Responding.{accepted, judged}
 use Rattle.turn_client_proto_data.proofs.Channel.Distinct.{bound_stay_distinct}
+use Rattle.turn_client_proto_steps.specs.Adding.{IsSignedFor}
 use Rattle.turn_client_proto_steps.specs.ClientWords.{client_words}
 use Rattle.turn_client_proto_steps.specs.Held.{Allocation, Channel, Connecting, PendingChannel, PendingPermission, Permission}
 use Rattle.turn_client_proto_steps.specs.RunClient.{Client, parts_of}
 use Rattle.turn_client_proto_steps.specs.RunSteps.{IsRunStep}
 use Rattle.turn_client_proto_steps.specs.Sound.{IsOrderly, IsWhole}
-use Rattle.turn_client_proto_steps.proofs.Allocating.{IsOwn}
 use Rattle.turn_client_proto_steps.proofs.Asking.{IsUnderWay}
 use Rattle.turn_client_proto_steps.proofs.Awaited.{found_by}
 use Rattle.turn_client_proto_steps.proofs.AwaitedChannels.{IsChannelOf, channel_of}
@@ -124,7 +124,7 @@ beside number all a ip found is = by (find (asks_for_permission number) a.pendin
 -- ---- the step
 
 module _ (c : Client) (signer : signers.Client) (bytes : List ℕ) (now : ℕ) (message : refusal bytes ≡ None) (success : class_of (kind_at bytes) ≡ Success) (ends : ends_one c.core.agent bytes ≡ true)
-    (own : IsOwn c.credentials bytes) (transport : TransportType) (channel : ℕ) (peer : SocketAddr) (asked : asked_by (number_at bytes) c.core.allocations ≡ Some (NewChannel transport channel peer))
+    (own : IsSignedFor c.credentials bytes) (transport : TransportType) (channel : ℕ) (peer : SocketAddr) (asked : asked_by (number_at bytes) c.core.allocations ≡ Some (NewChannel transport channel peer))
     (t : Transaction) (there : finite.get c.core.agent.outstanding (number_at bytes) ≡ Some t) (orderly : IsOrderly (parts_of c.core)) (under_way : IsUnderWay c (accepted bytes (judged signer c.core))) where
   abbrev number : ℕ
   number = number_at bytes

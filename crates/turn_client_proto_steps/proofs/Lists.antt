@@ -1,13 +1,17 @@
 -- Members of lists.
-use Rattle.std.proofs.Common.{◌≡◌, ℕ, suc, zero, ◌+◌, Bool, true, false, List, [], ◌∷◌, ◌++◌, ◌||◌, Some, refl, sym, ap, ◌∙◌, subst, ◌⊎◌, inl, inr}
+use Rattle.std.proofs.Common.{◌≡◌, ℕ, suc, zero, ◌+◌, Bool, true, false, List, [], ◌∷◌, ◌++◌, ◌&&◌, ◌||◌, Some, refl, sym, ap, ◌∙◌, subst, ◌⊎◌, inl, inr}
 use Rattle.std.proofs.lemmas.Bool.{cases_Bool}
 use Rattle.std.specs.Prelude.{drop, map, take}
 use Rattle.std.specs.List.{after_first, before_first, filter, find, list_any, position_or_len}
 use Rattle.turn_client_proto_data.specs.Members.{IsIn}
-use Rattle.turn_client_proto_data.specs.Allocation.Changes.{change_first}
+use Rattle.turn_client_proto_data.specs.Allocation.Changes.{change_first, without_first}
 
 pub inside : {A : Type 0} {a b : A} → Some a ≡ Some b → a ≡ b
 inside p = Prim.cc p
+
+pub both_so : (x y : Bool) → (x && y) ≡ true → (x ≡ true) × (y ≡ true)
+both_so true y h = (refl, h)
+both_so false y h = absurd (Prim.cc h)
 
 pub nothing_behind : {X : Type 0} (all : List X) → all ≡ all ++ []
 nothing_behind [] = refl
@@ -152,7 +156,7 @@ in_dropped x (suc n) [] h = absurd h
 in_dropped x (suc n) (y ∷ ys) h = inr (in_dropped x n ys h)
 
 -- what is left where the first that passes is taken out was there
-pub in_others : {X : Type 0} (p : X → Bool) (x : X) (xs : List X) → IsIn x (before_first p xs ++ after_first p xs) → IsIn x xs
+pub in_others : {X : Type 0} (p : X → Bool) (x : X) (xs : List X) → IsIn x (without_first p xs) → IsIn x xs
 in_others p x xs h = elim (in_either x (before_first p xs) (after_first p xs) h) [
   | inl before ↦ in_taken x (position_or_len p xs) xs before
   | inr after ↦ in_dropped x (position_or_len p xs + 1) xs after

@@ -42,7 +42,7 @@ use Rattle.turn_client_proto_steps.proofs.Attempting.{answer_ready}
 use Rattle.turn_client_proto_steps.proofs.Binds.{asks_bind}
 use Rattle.turn_client_proto_steps.proofs.Ending.{still, still_can}
 use Rattle.turn_client_proto_steps.proofs.Lessening.{IsAlike, each_less, same_distinct, same_first_distinct}
-use Rattle.turn_client_proto_steps.proofs.Lists.{Passes, found_in, found_passes, passes_one}
+use Rattle.turn_client_proto_steps.proofs.Lists.{Passes, both_so, found_in, found_passes, passes_one}
 use Rattle.turn_client_proto_steps.proofs.Orderly.{allocations_orderly, queue_orderly, until_map}
 use Rattle.turn_client_proto_steps.proofs.Parting.{closed_alike, closed_less, let_go_alike, let_go_less}
 use Rattle.turn_client_proto_steps.proofs.Plain.{counts_none, nothing_drawn, quiet, run_step}
@@ -83,10 +83,6 @@ close_step c here server new sound is =
     ])
 
 -- ---- a socket was opened, or was not
-
-both_so : (x y : Bool) → (x && y) ≡ true → (x ≡ true) × (y ≡ true)
-both_so true y h = (refl, h)
-both_so false y h = absurd (Prim.cc h)
 
 -- an allocation in which a connection waits for its socket knows it
 waits_known : (connection : ℕ) (peer : SocketAddr) (a : Allocation) → awaits_socket connection peer a ≡ true → Knows a connection peer

@@ -32,12 +32,13 @@ use Rattle.turn_client_proto_data.specs.Core.Responding.{accepted, is_error_clas
 use Rattle.turn_client_proto_data.specs.Core.Standing.{IsJudgedStanding, IsRequestAnswered, IsTakenUp, after_refresh, deallocated, is_refreshed, refreshed}
 use Rattle.turn_client_proto_data.specs.Core.declared.protocol.Phase.TheVariants.{Authenticated, Ended}
 use Rattle.turn_client_proto_data.specs.Core.declared.protocol.Protocol.{Protocol}
+use Rattle.turn_client_proto_steps.specs.Adding.{IsSignedFor}
 use Rattle.turn_client_proto_steps.specs.Held.{Allocation}
 use Rattle.turn_client_proto_steps.specs.RunClient.{Client, Parts, parts_of}
 use Rattle.turn_client_proto_steps.specs.RunSteps.{IsRunStep}
 use Rattle.turn_client_proto_steps.specs.Sound.{CanAsk, IsOrderly}
 use Rattle.turn_client_proto_steps.proofs.Adding.{AreLess, adds_both, allocations_less, phase_moved}
-use Rattle.turn_client_proto_steps.proofs.Allocating.{IsOwn, validated_own}
+use Rattle.turn_client_proto_steps.proofs.Allocating.{validated_own}
 use Rattle.turn_client_proto_steps.proofs.Asking.{IsUnderWay, once_accepted, once_judged}
 use Rattle.turn_client_proto_steps.proofs.Attempting.{attempt_step}
 use Rattle.turn_client_proto_steps.proofs.Awaited.{found_by}
@@ -47,6 +48,7 @@ use Rattle.turn_client_proto_steps.proofs.GrantingChannels.{bound_step}
 use Rattle.turn_client_proto_steps.proofs.Hearing.{done}
 use Rattle.turn_client_proto_steps.proofs.Leaving.{left_step}
 use Rattle.turn_client_proto_steps.proofs.Lessening.{all_renewed, none_distinct, none_less, renewed_distinct, same_distinct}
+use Rattle.turn_client_proto_steps.proofs.Lists.{both_so}
 use Rattle.turn_client_proto_steps.proofs.Permissions.{renewed_alike, renewed_permitting, turned_down_alike, turned_down_permitting}
 use Rattle.turn_client_proto_steps.proofs.Permitting.{each_permitting, none_asks, none_gained}
 use Rattle.turn_client_proto_steps.proofs.Orderly.{allocations_orderly, phase_orderly, until_all}
@@ -169,18 +171,14 @@ success_class Error response ok = absurd (Prim.cc ok)
 success_class Request response ok = absurd (Prim.cc response)
 success_class Indication response ok = absurd (Prim.cc response)
 
-both_of : (x y : Bool) → (x && y) ≡ true → (x ≡ true) × (y ≡ true)
-both_of true y h = (refl, h)
-both_of false y h = absurd (Prim.cc h)
-
 module _ (c : Client) (bytes : List ℕ) (now : ℕ) (orderly : IsOrderly (parts_of c.core)) (can : CanAsk c) (stands : c.core.phase ≡ Authenticated) (are_bytes : AreBytes bytes) (message : refusal bytes ≡ None) where
   -- a response that was accepted, to a request that is outstanding
   module _ (algorithm : IntegrityAlgorithm) (signer : signers.Client) (is : IsJudged c.core.auth bytes (Ok (Validated algorithm)) signer) (taken : (is_response bytes && is_awaited c.core.agent bytes) ≡ true)
       (under_way : IsUnderWay c (accepted bytes (judged signer c.core))) where
     succeeds : is_error_class (class_of (kind_at bytes)) ≡ false → class_of (kind_at bytes) ≡ Success
-    succeeds ok = success_class (class_of (kind_at bytes)) (both_of (is_response bytes) (is_awaited c.core.agent bytes) taken).0 ok
+    succeeds ok = success_class (class_of (kind_at bytes)) (both_so (is_response bytes) (is_awaited c.core.agent bytes) taken).0 ok
 
-    own : IsOwn c.credentials bytes
+    own : IsSignedFor c.credentials bytes
     own = validated_own c.core.auth signer bytes algorithm c.credentials are_bytes can.account is
 
     grants_one : (found : Option Transaction) → finite.get c.core.agent.outstanding (number_at bytes) ≡ found → is_some found ≡ true → GrantsOne c (accepted bytes (judged signer c.core)) bytes now under_way
@@ -199,7 +197,7 @@ module _ (c : Client) (bytes : List ℕ) (now : ℕ) (orderly : IsOrderly (parts
     unfolding accepted
     knows_one None there some peer connection at told = absurd (Prim.cc some)
     knows_one (Some t) there some peer connection at told =
-        known_step c signer bytes message (both_of (is_response bytes) (is_awaited c.core.agent bytes) taken).0 own peer connection told
+        known_step c signer bytes message (both_so (is_response bytes) (is_awaited c.core.agent bytes) taken).0 own peer connection told
         (connect_found (number_at bytes) peer c.core.allocations (found_by (number_at bytes) c.core.allocations (NewConnection peer) at)) t there orderly under_way
 
   taken_up : (algorithm : IntegrityAlgorithm) (signer : signers.Client) (handled : Bool) (new : Protocol) → IsJudged c.core.auth bytes (Ok (Validated algorithm)) signer
@@ -210,7 +208,7 @@ module _ (c : Client) (bytes : List ℕ) (now : ℕ) (orderly : IsOrderly (parts
       (λ (taken : (is_response bytes && is_awaited c.core.agent bytes) ≡ true) one.
       let accepts = once_accepted c (judged signer c.core) bytes under_way in
       let found = finite.get c.core.agent.outstanding (number_at bytes) in
-      let some = (both_of (is_response bytes) (is_awaited c.core.agent bytes) taken).1 in
+      let some = (both_so (is_response bytes) (is_awaited c.core.agent bytes) taken).1 in
       request_answered c (accepted bytes (judged signer c.core)) bytes now accepts
       (grants_one algorithm signer is taken accepts found refl some) (binds_one algorithm signer is taken accepts found refl some) (knows_one algorithm signer is taken accepts found refl some) handled new one)
       (λ (_ : (is_response bytes && is_awaited c.core.agent bytes) ≡ false) other.

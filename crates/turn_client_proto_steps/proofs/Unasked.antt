@@ -55,7 +55,7 @@ use Rattle.turn_client_proto_steps.specs.Held.{Allocation, Binding, Channel, Con
 use Rattle.turn_client_proto_steps.specs.RunClient.{parts_of}
 use Rattle.turn_client_proto_steps.proofs.Adding.{AreLess, allocations_less}
 use Rattle.turn_client_proto_steps.proofs.Lessening.{each_less}
-use Rattle.turn_client_proto_steps.proofs.Lists.{in_changed}
+use Rattle.turn_client_proto_steps.proofs.Lists.{both_so, in_changed}
 use Rattle.turn_client_proto_steps.proofs.Once.Judging.{Verdict}
 use Rattle.turn_client_proto_steps.proofs.Parting.{closed_less}
 use Rattle.turn_client_proto_steps.proofs.Polling.{by_test}
@@ -215,10 +215,6 @@ module _ {p : Protocol} where
   quiet_tested : {P Q : Leads} (b : Bool) → IsQuiet p P → IsQuiet p Q → IsQuiet p (λ (handled : Bool) (new : Protocol). MatchBool b (P handled new) (Q handled new))
   quiet_tested true one other = record { quiet = one.quiet }
   quiet_tested false one other = record { quiet = other.quiet }
-
-both_so : (x y : Bool) → (x && y) ≡ true → (x ≡ true) × (y ≡ true)
-both_so true y h = (refl, h)
-both_so false y h = absurd (Prim.cc h)
 
 -- ---- where the client has not allocated
 
