@@ -6,6 +6,7 @@ pub use Rattle.turn_client_proto_receipt.proofs.Safe
 pub use Rattle.turn_client_proto_receipt.proofs.Definite
 pub use Rattle.turn_client_proto_receipt.proofs.Waiting
 pub use Rattle.turn_client_proto_receipt.proofs.FirstClient
+pub use Rattle.turn_client_proto_receipt.proofs.Closed
 pub use Rattle.turn_client_proto_receipt.proofs.Connecting
 pub use Rattle.turn_client_proto_receipt.proofs.Drawing
 pub use Rattle.turn_client_proto_receipt.proofs.Ending

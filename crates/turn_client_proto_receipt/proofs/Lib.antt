@@ -28,6 +28,7 @@ pub use Rattle.turn_client_proto_steps.proofs.Keeps
 pub use Rattle.turn_client_proto_steps.proofs.Request
 pub use Rattle.turn_client_proto_steps.proofs.Safe
 pub use Rattle.turn_client_proto_steps.proofs.Beginning as FirstClient
+pub use Rattle.turn_client_proto_steps.proofs.Closed
 pub use Rattle.turn_client_proto_steps.proofs.Connecting
 pub use Rattle.turn_client_proto_steps.proofs.Drawing
 pub use Rattle.turn_client_proto_steps.proofs.Ending

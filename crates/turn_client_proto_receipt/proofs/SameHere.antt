@@ -1,11 +1,7 @@
--- A message that came over the socket of a connection leaves the client's own address, and addresses are what they are.
+-- A message that came over the socket of a connection leaves the client's own address.
 use Rattle.std.proofs.Common.{◌≡◌, ℕ, true, false, List, Option, Some, None, Ok, Err, refl, ap, ◌∙◌}
-use Rattle.std.specs.Prelude.{nat_eq, if◌then◌else◌}
-use Rattle.std.specs.Cmp.Lexicographic.{bytes_decides, pointwise}
-use Rattle.std.specs.Net.Addr.{ipv4_octets, ipv6_segments}
+use Rattle.std.specs.Prelude.{if◌then◌else◌}
 use Rattle.std.specs.declared.net.socket_addr.SocketAddr.{SocketAddr}
-use Rattle.std.specs.declared.net.socket_addr.SocketAddr.TheVariants.{V4, V6}
-use Rattle.std.proofs.lemmas.Bool.{eq-eqb}
 use Rattle.stun_types.specs.Attributes.{kind_at}
 use Rattle.stun_types.specs.Types.{class_of}
 use Rattle.stun_types.specs.declared.transport.TransportType.{TransportType}
@@ -17,19 +13,11 @@ use Rattle.stun_proto.specs.State.{Agent}
 use Rattle.turn_client_proto_steps.specs.Core.Responding.{accepted, answered, judged}
 use Rattle.turn_client_proto_steps.specs.Core.declared.protocol.Protocol.{Protocol}
 use Rattle.turn_client_proto_steps.specs.Hearing.{IsAnswerHeard, IsAnswerJudged, IsAskedAnew, IsHeardAt, IsOfBinding, IsSettled, asked_anew, awaited_at, bound_at, broken_off, is_answer, is_of_binding, is_success_class}
-use Rattle.turn_client_proto_steps.specs.Permission.Same.{is_same_address, is_same_transport}
+use Rattle.turn_client_proto_steps.specs.Permission.Same.{is_same_transport}
 use Rattle.turn_client_proto_steps.proofs.Once.Judging.{Verdict}
 use Rattle.turn_client_proto_steps.proofs.Polling.{by_test}
 
--- ---- an address is the same as itself
-
-pub same_itself : (a : SocketAddr) → is_same_address a a ≡ true
-same_itself (V4 a) =
-    let octets : pointwise nat_eq (ipv4_octets a.ip) (ipv4_octets a.ip) ≡ true = (bytes_decides (ipv4_octets a.ip) (ipv4_octets a.ip)).1 refl in
-    rw (octets, eq-eqb a.port a.port refl) refl
-same_itself (V6 a) =
-    let segments : pointwise nat_eq (ipv6_segments a.ip) (ipv6_segments a.ip) ≡ true = (bytes_decides (ipv6_segments a.ip) (ipv6_segments a.ip)).1 refl in
-    rw (segments, eq-eqb a.port a.port refl, eq-eqb a.flowinfo a.flowinfo refl, eq-eqb a.scope_id a.scope_id refl) refl
+-- ---- a transport is the same as itself
 
 pub same_way : (t : TransportType) → is_same_transport t t ≡ true
 same_way Udp = refl

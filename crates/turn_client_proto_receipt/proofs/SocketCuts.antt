@@ -31,9 +31,10 @@ use Rattle.turn_client_proto_receipt.specs.SocketCuts.{AreDrainedOver, HasNoFram
 use Rattle.turn_client_proto_receipt.specs.SocketPieces.{Fed, GivesRaw, IsBytesTaken, IsEnded, IsFed, IsPieceFed, IsRawTaken, IsReceivedAt, IsTakenBy, IsTakenFor, LostFrames, LostRaw, Stops, Waits, is_joining, raw_given, raw_kept, raw_waiting, socket_of, with_kept}
 use Rattle.turn_client_proto_receipt.proofs.Exchanging.{from_exchanged}
 use Rattle.turn_client_proto_receipt.proofs.Order.{none_first, raw_first}
-use Rattle.turn_client_proto_receipt.proofs.SameHere.{same_itself, same_way}
+use Rattle.turn_client_proto_receipt.proofs.SameHere.{same_way}
 use Rattle.turn_client_proto_receipt.proofs.SocketFed.{IsCalm, bound_alive, fed_calm, fed_more, fed_same}
 use Rattle.turn_client_proto_receipt.proofs.WithKept.{kept_none, kept_same, kept_twice, only_raw}
+use Rattle.turn_client_proto_steps.proofs.SameSockets.{same_itself}
 
 -- ---- what waits
 

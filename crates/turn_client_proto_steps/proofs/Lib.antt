@@ -14,6 +14,7 @@ pub mod Binds
 pub mod Chaining
 pub mod Changing
 pub mod Channels
+pub mod Closed
 pub mod Connecting
 pub mod Drawing
 pub mod Ending

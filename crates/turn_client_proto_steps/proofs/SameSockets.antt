@@ -1,7 +1,7 @@
 -- Socket addresses that are the same, as std compares them, are equal.
-use Rattle.std.proofs.Common.{◌≡◌, ℕ, Bool, true, false, eqb, List, refl, ap, ◌∙◌}
+use Rattle.std.proofs.Common.{◌≡◌, ℕ, true, eqb, List, refl, ap, ◌∙◌}
 use Rattle.std.specs.Prelude.{◌&&◌, nat_eq}
-use Rattle.std.proofs.lemmas.Bool.{eqb-true}
+use Rattle.std.proofs.lemmas.Bool.{eq-eqb, eqb-true}
 use Rattle.std.specs.Cmp.Lexicographic.{bytes_decides, pointwise}
 use Rattle.std.specs.Net.Addr.{ipv4_octets, ipv6_segments}
 use Rattle.std.specs.declared.net.socket_addr.SocketAddr.{SocketAddr}
@@ -9,10 +9,7 @@ use Rattle.std.specs.declared.net.socket_addr.SocketAddr.TheVariants.{V4, V6}
 use Rattle.std.specs.declared.net.socket_addr.SocketAddrV4.{SocketAddrV4}
 use Rattle.std.specs.declared.net.socket_addr.SocketAddrV6.{SocketAddrV6}
 use Rattle.turn_client_proto_data.specs.Permission.Same.{is_same_address}
-
-both_so : (x y : Bool) → (x && y) ≡ true → (x ≡ true) × (y ≡ true)
-both_so true y h = (refl, h)
-both_so false y h = absurd (Prim.cc h)
+use Rattle.turn_client_proto_steps.proofs.Lists.{both_so}
 
 four : (a b : SocketAddrV4) → (pointwise nat_eq (ipv4_octets a.ip) (ipv4_octets b.ip) && eqb a.port b.port) ≡ true → a ≡ b
 four a b is =
@@ -35,3 +32,12 @@ same_address (V4 a) (V4 b) is = ap V4 (four a b is)
 same_address (V6 a) (V6 b) is = ap V6 (six a b is)
 same_address (V4 a) (V6 b) is = absurd (Prim.cc is)
 same_address (V6 a) (V4 b) is = absurd (Prim.cc is)
+
+-- and each is the same as itself
+pub same_itself : (a : SocketAddr) → is_same_address a a ≡ true
+same_itself (V4 a) =
+    let octets : pointwise nat_eq (ipv4_octets a.ip) (ipv4_octets a.ip) ≡ true = (bytes_decides (ipv4_octets a.ip) (ipv4_octets a.ip)).1 refl in
+    rw (octets, eq-eqb a.port a.port refl) refl
+same_itself (V6 a) =
+    let segments : pointwise nat_eq (ipv6_segments a.ip) (ipv6_segments a.ip) ≡ true = (bytes_decides (ipv6_segments a.ip) (ipv6_segments a.ip)).1 refl in
+    rw (segments, eq-eqb a.port a.port refl, eq-eqb a.flowinfo a.flowinfo refl, eq-eqb a.scope_id a.scope_id refl) refl

@@ -21,6 +21,7 @@ ghost use Rattle.std.specs.declared.net.ip_addr.IpAddr.{IpAddr};
 ghost use Rattle.std.specs.declared.net.socket_addr.SocketAddr.{SocketAddr};
 ghost use Rattle.stun_types.specs.Registry.{longest_username};
 ghost use Rattle.stun_types.specs.declared.transport.TransportType.{TransportType};
+ghost use Rattle.stun_types.specs.declared.transport.TransportType.TheVariants.{Tcp};
 ghost use Rattle.turn_client_proto_data.specs.Members.{IsIn};
 ghost use Rattle.turn_client_proto_data.specs.Messages.{Allocation, Channel, Connection, Permission};
 ghost use Rattle.turn_client_proto_data.specs.Runs.{IsNew as IsNewInRun};
@@ -35,7 +36,7 @@ ghost use Rattle.turn_client_proto_data.specs.Core.Beginning.{IsNew};
 ghost use Rattle.turn_client_proto_data.specs.Core.Binding.{IsBindAnswered};
 ghost use Rattle.turn_client_proto_data.specs.Core.declared.protocol.Protocol.{Protocol};
 ghost use Rattle.turn_client_proto_steps.specs.Beginning.{first_client};
-ghost use Rattle.turn_client_proto_steps.specs.ClientWords.{client_words, run_words, notice_of};
+ghost use Rattle.turn_client_proto_steps.specs.ClientWords.{IsKept, client_words, run_words, notice_of};
 ghost use Rattle.turn_client_proto_steps.specs.RunClient.{Client};
 ghost use Rattle.turn_client_proto_steps.specs.Sound.{IsSound, IsWhole, stream_from};
 ghost use Rattle.std.specs.List.{filter_map, list_any};
@@ -226,12 +227,19 @@ pub fn sockets_are_steps()
         → IsSilent c new }
 {}
 
-/// `tcp_closed` is a step in which nothing is asked for and nothing gained: a connection may go.
+/// `tcp_closed` is a step in which nothing is asked for and nothing gained: a connection may go. Where the
+/// socket was one of a client over TCP to its server, no bound connection of that own address is left
+/// (RFC 6062, section 4.6).
 pub fn closings_are_steps()
-    ensures { (c : Client) (here server : SocketAddr) (new : Protocol)
+    ensures step { (c : Client) (here server : SocketAddr) (new : Protocol)
         → IsSound c
         → new ≡ after_close here server c.core
         → IsSilent c new }
+    ensures gone { (old new : Protocol) (here peer : SocketAddr) (number : ℕ)
+        → old.agent.transport ≡ Tcp
+        → new ≡ after_close here old.server old
+        → IsKept new.allocations (Connection here peer number)
+        → ⊥ }
 {}
 
 /// `send_to` is a step in which nothing is asked for, drawn or gained: what carries bytes to a peer is

@@ -9,6 +9,7 @@ pub mod Bytes
 pub mod Chain
 pub mod Counting
 pub mod Determined
+pub mod Ends
 pub mod Handed
 pub mod Joined
 pub mod Once

@@ -13,6 +13,7 @@ use Rattle.turn_desk_steps.specs.DeskRun.{DeskCall, desk_words}
 use Rattle.turn_desk_world.specs.Model.{World}
 use Rattle.turn_desk_world.specs.Runs.{IsRun}
 use Rattle.turn_desk_world.specs.Safety.{IsAccount, IsSafeRun, words}
+use Rattle.turn_desk_world.proofs.Ends.{end_with_sockets}
 use Rattle.turn_desk_world.proofs.Telling.{all_told}
 
 pub run_is_safe : (pairs : List (Event × Answer)) (old new : World) → IsRun old pairs new → IsSafeRun old pairs new
@@ -35,8 +36,11 @@ run_is_safe pairs old new is transport here server config seed core begins fair 
         once = promise.once;
         shown = promise.shown;
       };
-      each = λ run last account.
-          (counted words first run last account.leads account.lawful, promised words lawful first run last unasked account.leads account.lawful);
+      each = λ run last account. (
+        counted words first run last account.leads account.lawful,
+        promised words lawful first run last unasked account.leads account.lawful,
+        end_with_sockets first old pairs new run last begins.client account,
+      );
     }
 
 pub account_counts : (first : Client) (old : World) (pairs : List (Event × Answer)) (new : World) (run : List (Step Client DeskCall)) (last : Client) → IsAccount first old pairs new run last → IsCounted words first run last

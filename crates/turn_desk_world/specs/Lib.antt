@@ -3,6 +3,7 @@ pub mod Calls
 pub mod Copies
 pub mod Desks
 pub mod Determined
+pub mod Ends
 pub mod Model
 pub mod Runs
 pub mod Safety

@@ -25,6 +25,7 @@ use Rattle.turn_client_proto.specs.Sound.{IsSound}
 use Rattle.turn_desk_event.specs.declared.answer.Answer.{Answer}
 use Rattle.turn_desk_event.specs.declared.event.Event.{Event}
 use Rattle.turn_desk_steps.specs.DeskRun.{DeskCall, desk_words}
+use Rattle.turn_desk_world.specs.Ends.{EndWithSockets}
 use Rattle.turn_desk_world.specs.Model.{World}
 use Rattle.turn_desk_world.specs.Told.{IsAt, IsFair, IsToldBy, data_of}
 
@@ -71,12 +72,12 @@ pub record IsAccount (first : Client) (old : World) (pairs : List (Event × Answ
   pub leads : Leads first run last
   pub lawful : AtEach (λ s _. IsLawful words s) run
 
--- whichever is given, as many numbers count as drawn as the generator gave, and it promises as much: nothing depends on
--- which is chosen
+-- whichever is given, as many numbers count as drawn as the generator gave, it promises as much, and connections end with
+-- their sockets: nothing depends on which is chosen
 abbrev pub IsEachPromised : (first : Client) (old : World) (pairs : List (Event × Answer)) (new : World) → Type 0
 IsEachPromised first old pairs new = (run : List (Step Client DeskCall)) (last : Client)
     → IsAccount first old pairs new run last
-    → IsCounted words first run last × IsPromised words first run last
+    → IsCounted words first run last × IsPromised words first run last × EndWithSockets old pairs run new
 
 -- both, of each client that begins new in that world
 pub record ArePromised (first : Client) (old : World) (pairs : List (Event × Answer)) (new : World) : Type 0 where

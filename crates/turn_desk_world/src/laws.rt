@@ -108,6 +108,10 @@ pub fn new_clients_begin_new()
 /// loses, repeats, reorders or invents. It takes for granted that the relayed addresses which the driver
 /// decides, and the peers to which it asks for channels and connections, have no flow information and no
 /// scope.
+///
+/// A connection ends with its socket (RFC 6062, section 4.6): behind the close of a socket between an own
+/// address and its server, a client over TCP keeps no bound connection of that address, shows none, and hands
+/// no bytes over of one, but such as was bound since. That takes nothing for granted of who signed what.
 pub fn runs_of_a_world_are_safe()
     ensures { (old new : World) (pairs : List (Event × Answer))
         → IsRun old pairs new
@@ -117,9 +121,9 @@ pub fn runs_of_a_world_are_safe()
 /// What the theorem says of what a client shows, in the words of the answers. Where the last event of a
 /// run asked the client for its relayed addresses, permissions, channels or connections, or whether it has
 /// a permission, the desk granted each that the answer names in that run, in answer to a request of the
-/// client's: an allocation over that transport with that address, a permission for that address over that
-/// transport, a channel with that number and to that peer, a connection with that number that is shown as
-/// bound, and to that peer. A run of more events has such a run in front ([`parts_make_a_run`]), so it is
+/// client's: an allocation over that transport with that address, a permission for that address, a channel
+/// with that number and to that peer, a connection with that number that is shown as bound, and to that
+/// peer. A run of more events has such a run in front ([`parts_make_a_run`]), so it is
 /// of each answer.
 pub fn answers_show_what_was_granted()
     ensures addresses { (first last : Client) (run : List (Step Client DeskCall)) (now : ℕ)

@@ -86,7 +86,8 @@ impl World {
         // that very request, and nothing is told as created twice for one. So it is of each address,
         // each permission, each channel and each bound connection that it shows: a channel or a
         // connection with that number and to that peer. Data that it gives names what it holds, or
-        // comes over the socket of a connection that it holds.
+        // comes over the socket of a connection that it holds. Behind the close of a socket no
+        // connection of its own address is held but one that was bound since.
         ensures safe { IfOk result (λ answers.
             IsSafeRun self.old (zip events.now answers.items) self.new) }
         ensures err { OnErr result (self.new.is_failed ≡ true) }
