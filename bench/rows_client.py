@@ -319,6 +319,9 @@ def bad_lines():
         "agent udp 39500000000",
         "agent UDP",
         "agent UDP 18446744073709551616",
+        "debug",
+        "debug user",
+        "debug user pass",
         "error",
         "error bind",
         "error bind expired",
@@ -357,8 +360,20 @@ def bad_lines():
     settings()
 
 
+def debugs():
+    part("what credentials are printed as for who looks for a fault: no password is")
+    for name, password, realm in (("user", "pass", "realm"), ("", "", ""), ("a\"b", "secret", "r")):
+        quoted = name.replace('"', '\\"')
+        row("debug", name or "-", password or "-", realm or "-")(
+            f'TurnCredentials {{ username: "{quoted}", password: .. }}',
+            f'LongTermCredentials {{ username: "{quoted}", password: .. }}',
+            f'LongTermKeyCredentials {{ username: "{quoted}", realm: "{realm}", password: .. }}',
+            "ShortTermCredentials { password: .. }",
+        )
+
+
 def main():
-    for made in (no_settings, lists, kinds, agents, errors, payloads, sends, bad_lines):
+    for made in (no_settings, lists, kinds, agents, errors, payloads, sends, debugs, bad_lines):
         made()
     write(CRATE)
 

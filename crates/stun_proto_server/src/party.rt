@@ -25,7 +25,7 @@ use stun_proto_sign::size::signature_bytes;
 
 /// A user under whose key messages are signed: its name, its password, and the algorithm of the
 /// integrity attribute. Contracts see the record `Signer`.
-#[derive(Debug, Drop)]
+#[derive(Drop)]
 pub(crate) struct SigningUser<'a> {
     name: &'a str,
     password: &'a str,
@@ -69,7 +69,7 @@ impl<'a> SigningUser<'a> {
 /// The party that a message goes to, as its server knows it: the realm, the nonce that is kept for
 /// it, the algorithms that are supported, and the user by whom its last message was validated,
 /// where it was. Contracts see the record `Party`.
-#[derive(Debug, Drop)]
+#[derive(Drop)]
 pub(crate) struct Party<'a> {
     realm: &'a str,
     nonce: &'a str,

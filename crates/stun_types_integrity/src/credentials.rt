@@ -6,13 +6,14 @@ ghost use Rattle.stun_types_integrity.specs.Credentials.{long_term_key, short_te
 
 use crate::key::IntegrityKey;
 use std::alloc::Global;
+use std::fmt;
 use std::marker::Model;
 use stun_types_write::algorithm::IntegrityAlgorithm;
 use stun_types_write::memory::NoMemory;
 
 /// A user's name and password, which count in many sessions, and in each realm by another key
 /// (RFC 8489, section 9.2). Contracts see the two texts.
-#[derive(Debug, Drop)]
+#[derive(Drop)]
 pub struct LongTermCredentials {
     username: String,
     password: String,
@@ -67,9 +68,20 @@ impl LongTermCredentials {
     }
 }
 
+impl fmt::Debug for LongTermCredentials {
+    /// Shows the name, and nothing of the password.
+    fn fmt<W: fmt::Write>(&self, f: &mut fmt::Formatter<W>) -> fmt::Result {
+        write!(
+            f,
+            "LongTermCredentials {{ username: {:?}, password: .. }}",
+            self.username
+        )
+    }
+}
+
 /// A user's name and password in one realm (RFC 8489, section 9.2.2). Contracts see the three
 /// texts.
-#[derive(Debug, Drop)]
+#[derive(Drop)]
 pub struct LongTermKeyCredentials {
     username: String,
     password: String,
@@ -137,8 +149,19 @@ impl LongTermKeyCredentials {
     }
 }
 
+impl fmt::Debug for LongTermKeyCredentials {
+    /// Shows name and realm, and nothing of the password.
+    fn fmt<W: fmt::Write>(&self, f: &mut fmt::Formatter<W>) -> fmt::Result {
+        write!(
+            f,
+            "LongTermKeyCredentials {{ username: {:?}, realm: {:?}, password: .. }}",
+            self.username, self.realm
+        )
+    }
+}
+
 /// A password that counts in one session (RFC 8489, section 9.1). Contracts see its text.
-#[derive(Debug, Drop)]
+#[derive(Drop)]
 pub struct ShortTermCredentials {
     password: String,
 }
@@ -172,6 +195,13 @@ impl ShortTermCredentials {
         ensures { result ≡ short_term_key self.now algorithm }
     {
         IntegrityKey::short_term(self.password(), algorithm)
+    }
+}
+
+impl fmt::Debug for ShortTermCredentials {
+    /// Shows nothing of the password.
+    fn fmt<W: fmt::Write>(&self, f: &mut fmt::Formatter<W>) -> fmt::Result {
+        f.write_str("ShortTermCredentials { password: .. }")
     }
 }
 

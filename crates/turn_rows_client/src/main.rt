@@ -68,6 +68,7 @@ fn take(rt: &HostRuntime, line: &[u8], kept: &mut Vec<TurnConfig>) -> io::Result
 fn ask(line: &mut Line<'_>, kind: &str, kept: &mut Vec<TurnConfig>) {
     match kind {
         "settings" => settings::settings(line, kept),
+        "debug" => settings::debug(line),
         "agent" => agents::agent(line, kept.as_slice()),
         "error" => errors::error(line),
         "payload" => payloads::payload(line),

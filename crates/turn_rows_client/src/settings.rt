@@ -1,8 +1,9 @@
-//! Settings: what is added to their lists and what is set, and which of them are equal.
+//! Settings: what is added to their lists and what is set, and which of them are equal; and what credentials
+//! are printed as.
 
 use crate::line::Line;
 use stun_proto::auth::Feature;
-use stun_types::message::IntegrityAlgorithm;
+use stun_types::message::{IntegrityAlgorithm, LongTermCredentials, ShortTermCredentials};
 use stun_types::{AddressFamily, TransportType};
 use turn_client_proto_api::config::TurnConfig;
 use turn_types::TurnCredentials;
@@ -101,5 +102,38 @@ fn compare(line: &mut Line<'_>, one: &TurnConfig, kept: &[TurnConfig]) {
         if *other == *one {
             line.say(&place);
         }
+    }
+}
+
+/// `debug NAME PASSWORD REALM`: what credentials of these are printed as for who looks for a fault: those of
+/// a user of a TURN server, of a user in each realm, in this one, and of one session.
+pub(crate) fn debug(line: &mut Line<'_>) {
+    let (username, password, realm) = (line.text(), line.text(), line.text());
+    match TurnCredentials::new(line.alloc, username, password) {
+        Ok(credentials) => {
+            let _ = write!(line.answer, " {credentials:?}");
+            debug_user(line, LongTermCredentials::from(credentials), realm);
+        }
+        Err(_) => line.is_bad = true,
+    }
+    match String::from_str(line.alloc, password) {
+        Ok(password) => {
+            let _ = write!(line.answer, " {:?}", ShortTermCredentials::new(password));
+        }
+        Err(_) => line.is_bad = true,
+    }
+}
+
+/// Tells what credentials are printed as, without a realm and in one.
+fn debug_user(line: &mut Line<'_>, credentials: LongTermCredentials, realm: &str) {
+    let _ = write!(line.answer, " {credentials:?}");
+    match String::from_str(line.alloc, realm) {
+        Ok(realm) => match credentials.to_key(line.alloc, realm) {
+            Ok(key) => {
+                let _ = write!(line.answer, " {key:?}");
+            }
+            Err(_) => line.is_bad = true,
+        },
+        Err(_) => line.is_bad = true,
     }
 }

@@ -3,12 +3,13 @@
 ghost use Rattle.std.specs.Prelude.{◌≡◌, IfOk};
 
 use std::alloc::Global;
+use std::fmt;
 use std::marker::Model;
 use turn_types_transmit::NoMemory;
 use turn_types_transmit::stun_message::LongTermCredentials;
 
 /// The name and the password of a user of a TURN server. Contracts see the two texts.
-#[derive(Debug, Drop)]
+#[derive(Drop)]
 pub struct TurnCredentials {
     username: String,
     password: String,
@@ -48,6 +49,17 @@ impl TurnCredentials {
         ensures { result.now ≡ self.now.password }
     {
         self.password.as_str()
+    }
+}
+
+impl fmt::Debug for TurnCredentials {
+    /// Shows the name, and nothing of the password.
+    fn fmt<W: fmt::Write>(&self, f: &mut fmt::Formatter<W>) -> fmt::Result {
+        write!(
+            f,
+            "TurnCredentials {{ username: {:?}, password: .. }}",
+            self.username
+        )
     }
 }
 
