@@ -11,7 +11,8 @@ pub enum BindChannelError {
     /// A channel to the peer stands.
     #[error("The channel identifier already exists and cannot be recreated.")]
     AlreadyExists,
-    /// A channel to the peer expired, and its number stays reserved through this moment.
+    /// A channel to the peer expired, and none is bound to that peer through this moment. The number of
+    /// the expired one is free for another peer at this moment.
     #[error("The channel for requested peer address has expired and cannot be recreated until {}.", .0.as_nanos())]
     ExpiredChannelExists(Instant),
     /// No allocation of that transport and family stands, or the client has ended.

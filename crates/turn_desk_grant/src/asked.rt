@@ -34,7 +34,7 @@ pub enum Asked {
     },
     /// A connection to a peer (RFC 6062, section 4.3).
     Connection(SocketAddr),
-    /// The binding of a connection with this number (RFC 6062, section 4.4).
+    /// The binding of a connection with this number (RFC 6062, section 4.3).
     Binding(u32),
 }
 

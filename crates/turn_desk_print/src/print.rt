@@ -338,7 +338,7 @@ fn name_of_send_error(error: SendError) -> &'static str
 }
 
 /// `refused NAME` where no channel is asked for, and behind the name of an expired channel the moment
-/// through which its number stays reserved.
+/// through which none is bound to that peer.
 fn print_bind_refusal(alloc: Global, error: BindChannelError) -> Result<String, AllocError>
     ensures { IfOk result (λ text. string_bytes text ≡ codes "refused " ++ bind_error_text error) }
 {

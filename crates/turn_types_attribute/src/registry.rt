@@ -31,7 +31,8 @@ pub const CONNECT: Method = Method(0x00A);
 /// CONNECTION_BIND: a client joins a data connection to a peer's connection.
 pub const CONNECTION_BIND: Method = Method(0x00B);
 
-/// CONNECTION_ATTEMPT, an indication: a server tells of a peer that connects.
+/// CONNECTION_ATTEMPT: a server tells of a peer that connects. RFC 6062, section 4.4 has an indication; the
+/// client here takes a request, and answers it.
 pub const CONNECTION_ATTEMPT: Method = Method(0x00C);
 
 // ---- types of attributes
