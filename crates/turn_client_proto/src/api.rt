@@ -43,18 +43,49 @@ pub const CLIENT_END: u64 = 1 << 62;
 /// `poll_transmit` answers, hands in what came by `recv`, waits as `poll` tells, and asks for what
 /// happened by `poll_event`.
 ///
+/// | kind | calls |
+/// |---|---|
+/// | what comes and goes | `recv`, `poll_recv`, `poll_transmit`, `send_to` |
+/// | time and events | `poll`, `poll_event` |
+/// | asks the server for something | `create_permission`, `bind_channel`, `tcp_connect`, `delete` |
+/// | tells what the caller did | `allocated_tcp_socket`, `tcp_closed`, `protocol_error` |
+/// | shows what the client holds, changes nothing | `relayed_addresses`, `permissions`, `have_permission`, `channels`, `connections`, `transport`, `local_addr`, `remote_addr` |
+///
+/// | after | call |
+/// |---|---|
+/// | the client was made | `poll_transmit`, which gives its first request |
+/// | `recv` | over TCP `poll_recv` until it answers `None`; then as after a wait |
+/// | a call that asks for something or tells something | `poll`, for the wait may have become shorter |
+/// | a wait of `poll` is over | `poll_transmit` until it answers `None`, `poll`, then `poll_event` until it answers `None` |
+/// | `poll_transmit`, `send_to` | send what is answered, by the transport and between the addresses that it tells |
+///
+/// | answer of `poll` | what it asks of the caller |
+/// |---|---|
+/// | `WaitUntil`, a moment that has come | as after a wait |
+/// | `WaitUntil`, a later moment | to wait until then, or until something comes or is called |
+/// | `AllocateTcpSocket` | to open a connection to the server, to tell of it by `allocated_tcp_socket`, and to call `poll` again; it is asked once |
+/// | `TcpClose` | to close that socket, and to call `poll` again; it is told once |
+/// | `Closed` | to take the events that wait, and nothing more: the client has ended, or has no allocation left |
+/// | `NoMemory` | the same: the client has failed, and holds nothing |
+///
+/// Moments are those of one clock that never goes back, at most `CLIENT_END`.
+///
 /// Bytes go to peers by `send_to`, which answers what carries them, and those of peers are told by
 /// `recv` as they come.
 ///
 /// Over TCP the bytes of the server come in a stream, in pieces that are cut anywhere. `recv` tells what the
-/// first frame gives that a piece makes whole, and `poll_recv` what the others do: it is to be called after
-/// each piece until it answers `None`.
+/// first frame gives that a piece makes whole, and `poll_recv` what the others do.
 ///
 /// A client over TCP asks for connections to peers (RFC 6062): `tcp_connect` asks for one, `poll` for its
 /// socket, `allocated_tcp_socket` takes that, and the client asks over it that the connection be bound. What
 /// comes over the socket is handed in by `recv`, as a piece that came to the socket's own address. The event
 /// `TcpConnected` tells that the connection is bound: from then on bytes are the peer's, as they are, and
 /// `send_to` carries bytes to it. Where nothing binds it within 39.5 seconds, `poll` gives it up.
+///
+/// What may surprise a driver. An allocation whose time is over goes without an event: look at
+/// `relayed_addresses`. A REFRESH that is granted less than 600 seconds leaves the end of the allocation as it
+/// was, and no other is sent: the allocation ends then. Requests go 50 ms apart when they are sent first, and
+/// without a pause when they are sent again. A client that `protocol_error` has ended still shows what it held.
 pub trait TurnClientApi: Debug + Send {
     ghost kept: { Self → Kept };
 
@@ -247,7 +278,10 @@ pub trait TurnClientApi: Debug + Send {
     /// Hands in what came at a moment: over UDP a datagram, over TCP a piece of the stream, or of what comes
     /// over the socket of a connection. What didn't come from the server, by the client's transport, to the
     /// client's own address or that of such a socket, is given back as `Ignored`, and so is a datagram that
-    /// is neither a message nor a channel frame, or not for the client.
+    /// is neither a message nor a channel frame, or not for the client. A message that is `Ignored` adds
+    /// nothing to what the client holds. But a challenge that nobody asked for may be kept, so that the next
+    /// request is signed for its realm and by its nonce, and names the user as it asks (RFC 8489, section
+    /// 9.2.5): in clear, where USERHASH was sent before.
     ///
     /// A channel frame gives its data as `PeerData`, in every state of the client, if and only if a
     /// channel of its number stands; what stands behind the data is not looked at (RFC 8656, section
@@ -268,10 +302,14 @@ pub trait TurnClientApi: Debug + Send {
     /// cookie is wrong, the stream gives nothing more, and pieces of it are `Handled`.
     ///
     /// Over the socket of a connection that is not bound the frames are taken up that are whole then, one
-    /// behind another, as long as it is to be bound (RFC 6062, section 4.3): `hear_at` of
-    /// `turn_client_proto_data` has what messages of CONNECTION_BIND make of it; other frames are passed
-    /// over. The piece is `Handled`, unless the first frame is of a channel: then it is `Ignored`. What
-    /// stands behind the response that binds it is no frame, but bytes of the peer, which `poll_recv` gives.
+    /// behind another, as long as it is to be bound (RFC 6062, section 4.3). By the success response to the
+    /// newest CONNECTION_BIND, which validates, it is bound, and `TcpConnected` tells so. A challenge that can
+    /// be answered is: it is asked once more that the connection be bound, within 39.5 seconds. By any other
+    /// message of CONNECTION_BIND the connection fails: it goes, `TcpConnectFailed` tells so, and `poll` to
+    /// close the socket. Other frames are passed over. The piece is `Handled`, unless the first frame is of a
+    /// channel: then it is `Ignored`. What stands behind the response that binds it is no frame, but bytes of
+    /// the peer, which `poll_recv` gives.
+    ///
     /// Once it is bound, a piece is `PeerData`, as it is, with what waited before it. A piece of no bytes is
     /// the end of the socket, as `tcp_closed`, and `Handled`; behind it all is `Ignored`. A socket that has
     /// the client's own address takes the place of the stream, and its messages are the stream's; its
@@ -286,8 +324,9 @@ pub trait TurnClientApi: Debug + Send {
     /// the pause between two messages.
     ///
     /// Where memory is refused, `NoMemory`, with what came: the client has failed. It is asked for
-    /// where there is something to keep or to tell of a message: `handle_message` of
-    /// `turn_client_proto_core` has it. So a datagram of another host, bytes that are no message, an
+    /// where there is something to keep or to tell of a message: of a challenge that can be answered,
+    /// whatever request it answers; of a response that is accepted, or that ends the client; and of a
+    /// CONNECTION_ATTEMPT. So a datagram of another host, bytes that are no message, an
     /// indication, and any message that comes to a client that has sent nothing or has ended are never
     /// answered so. Over TCP it is asked for besides where bytes are kept, for data in a vector of its own,
     /// and to tell that a socket is to be closed.
@@ -298,16 +337,38 @@ pub trait TurnClientApi: Debug + Send {
     ) -> TurnRecvRet<T>
         ensures { IsReceived T.items (kept self.old) transmit now result (kept self.new) };
 
-    /// What is to be done at a moment: `poll` of `turn_client_proto_poll` has it. Where memory is
-    /// refused, `NoMemory`, and the client has failed: it is asked for where no event waits and one is
-    /// to be told.
+    /// What is to be done at a moment. Where an event waits, the answer is to wait for that very moment:
+    /// `poll_event` gives it; and so it is where an answer to a request of the server's waits, which
+    /// `poll_transmit` gives. Nothing else is done then.
+    ///
+    /// Else a request that has ended without a response is given up. Where then a connection waits for a
+    /// socket that was not asked for, the answer is `AllocateTcpSocket`, and nothing else is done (RFC 6062,
+    /// section 4.3). Else allocations, permissions and channels whose time is over go, and connections that
+    /// were not bound in time; of the channels of one allocation, one at each call, and so of connections that
+    /// a peer began and whose request ended. What goes is told by an event, but for an allocation.
+    ///
+    /// The answer is `TcpClose` where then a socket is to be closed that the caller was not told of: the
+    /// first, and each once. Else it is `Closed` where the client has ended or has no allocation left, and
+    /// else `WaitUntil` with the moment until which nothing is to be done: at most 9999 seconds from now, and
+    /// now where a request has ended. A client that has ended answers `Closed` alone, whatever sockets are to
+    /// be closed.
+    ///
+    /// Where memory is refused, `NoMemory`, and the client has failed: it is asked for where no event waits,
+    /// no socket is asked for, and something is to be told.
     fn poll(&mut self, now: Instant) -> TurnPollRet
         ensures { Leaves (λ old new. IsPolled old now result new) (kept self.old)
             (kept self.new) };
 
-    /// What is to be sent at a moment: `poll_transmit` of `turn_client_proto_poll` has it. Where memory
-    /// is refused, `NoMemory`, and the client has failed: it is asked for where a request is sent again,
-    /// or is made.
+    /// What is to be sent at a moment, where there is something. A request that is due again comes first;
+    /// then, 50 ms after the last message at the earliest, what waits longest, and before that moment the
+    /// answer to a request of the server's that waits longest; then the first ALLOCATE, or what renews
+    /// something whose time has come: a REFRESH for an allocation, a CHANNEL_BIND for a channel, or a
+    /// CREATE_PERMISSION for a permission, for the first allocation for which there is one, in this order.
+    /// Call it again until it answers `None`.
+    ///
+    /// Where memory is refused, `NoMemory`, and the client has failed: it is asked for where a request is due
+    /// again, and where one is made. A message that waits takes none, and neither does a call that answers
+    /// `None`.
     fn poll_transmit(&mut self, now: Instant) -> Result<Option<Transmit<Data<'static>>>, NoMemory>
         ensures ok { Leaves (λ old new. IfOk result (λ answer.
             IsDrawn old now (option_map sent_of answer) new)) (kept self.old) (kept self.new) }

@@ -4,6 +4,8 @@
 
 mod answers;
 mod client;
+mod driven;
+mod line;
 mod message;
 mod payloads;
 mod samples;
@@ -14,6 +16,7 @@ mod validating;
 
 use crate::answers::{redirect, reject};
 use crate::client::{begin, hear};
+use crate::driven::drive_both;
 use crate::message::{Looked, lifetime, look, sign};
 use crate::payloads::{reach, send, take};
 use crate::samples::{PASSWORD, SAMPLE, UNSIGNED};
@@ -54,7 +57,8 @@ fn main(rt: HostRuntime) -> anyhow::Result<()> {
     challenge_client(&rt, rt.alloc())?;
     begin_client(&rt, rt.alloc())?;
     talk_to_peer(&rt, rt.alloc())?;
-    allocate_by_stream(&rt, rt.alloc())
+    allocate_by_stream(&rt, rt.alloc())?;
+    drive_both(&rt, rt.alloc())
 }
 
 /// Looks into the sample, and into bytes that are no message.
@@ -231,13 +235,13 @@ fn challenge_client(rt: &impl Print, alloc: Global) -> anyhow::Result<()> {
     Ok(())
 }
 
-/// Makes a client, and hands it a datagram that isn't the server's.
+/// Makes a client, hands it a datagram that isn't the server's, and looks at the text of its `Debug`.
 fn begin_client(rt: &impl Print, alloc: Global) -> anyhow::Result<()> {
     let local = SocketAddr::new(IpAddr::V4(Ipv4Addr::new(192, 168, 0, 1)), 1000);
     let server = SocketAddr::new(IpAddr::V4(Ipv4Addr::new(10, 0, 0, 2)), 2000);
-    match begin(alloc, local, server, "user", "pass", [0; 32]) {
+    match begin(alloc, local, server, "somebody", "secret", [0; 32]) {
         Ok((mut client, first)) => {
-            let done = tell_client(rt, &mut client, first.as_ref(), local);
+            let done = tell_client(rt, alloc, &mut client, first.as_ref(), local);
             drop(first);
             drop(client);
             done
@@ -246,9 +250,11 @@ fn begin_client(rt: &impl Print, alloc: Global) -> anyhow::Result<()> {
     }
 }
 
-/// Prints what a client sends first, and hands it a datagram that came from an address.
+/// Prints what a client sends first, hands it a datagram that came from an address, and prints which texts
+/// of its account its `Debug` shows.
 fn tell_client(
     rt: &impl Print,
+    alloc: Global,
     client: &mut TurnClientUdp,
     first: Option<&Transmit<Data<'static>>>,
     from: SocketAddr,
@@ -259,6 +265,10 @@ fn tell_client(
     }
     let is_heard = hear(client, UNSIGNED, from, Instant::ZERO)?;
     println!(rt; "hear: {is_heard}")?;
+    let text = format!(in alloc; "{client:?}")?;
+    let (name, password) = (text.contains("somebody"), text.contains("secret"));
+    drop(text);
+    println!(rt; "debug: the name is shown: {name}, the password: {password}")?;
     Ok(())
 }
 
