@@ -269,7 +269,8 @@ pub trait TurnClientApi: Debug + Send {
     /// nor a channel frame is passed over, and so is a report in ICMP. A client over UDP has no stream.
     ///
     /// Where memory is refused, `NoMemory`, and the client has failed: it is asked for where a message
-    /// makes the client grow, and for the data that is answered.
+    /// makes the client grow, and for the data of a frame that is answered; never where bytes of a connection
+    /// wait.
     fn poll_recv(&mut self, now: Instant) -> Result<Option<TurnPeerData<Vec<u8>>>, NoMemory>
         ensures ok { IfOk result (λ given.
             IsWaitingGiven (kept self.old) now given (kept self.new)) }

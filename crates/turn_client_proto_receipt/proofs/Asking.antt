@@ -114,4 +114,4 @@ module _ (now : ℕ) (control : Option Stream) (old : Protocol) where
     loss_answered (Err e) lost =
         let nothing = nothing_waits old mid (subst (λ (t : Option PeerPayload). IsWaitingTaken old t mid) told is) in
         subst (λ (c : Option Stream). IsLostBy now (control_of c) old (over_tcp new (Some left))) (sym stands)
-        (record { left = left; stands = refl; lost = subst (λ (p : Protocol). IsLostOn now stream p new) nothing.1 lost })
+        (record { no_raw = nothing.0; left = left; stands = refl; lost = subst (λ (p : Protocol). IsLostOn now stream p new) nothing.1 lost })

@@ -84,8 +84,9 @@ IsGivenBy now Closed old given new = IsFirstGiven now (raw_waiting old) Closed o
 abbrev pub IsWaitingGiven : Kept → ℕ → Option PeerPayload → Kept → Type 0
 IsWaitingGiven old now given new = IsGivenBy now old.control old.core given new
 
--- memory was refused on the way, and the stream stands
+-- memory was refused on the way, and the stream stands: no bytes of a connection's peer waited, for these take none
 pub record IsLostIn (now : ℕ) (stream : Stream) (old : Protocol) (new : Kept) : Type 0 where
+  pub no_raw : raw_waiting old ≡ None
   pub left : Stream
   pub stands : new.control ≡ Open left
   pub lost : IsLostOn now stream old new.core
