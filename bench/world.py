@@ -7,8 +7,8 @@ wrote is stored: nine examples, and the traces of a client and a desk in the sto
 behind those of a desk alone. Those with a stranger at the desk are in `strangers.py`, those of permissions
 in `permissions.py`, those of channels in `channels.py` and `channels_later.py`, those of sends and payloads
 in `payloads.py`, those of a client over TCP in `streams.py`, those of connections in `connections.py`, those
-of their sockets in `sockets.py`, those of what comes over these in `bound.py`, and those of connections that
-peers begin in `attempts_later.py`.
+of their sockets in `sockets.py`, those of what comes over these in `bound.py`, those of connections that
+peers begin in `attempts_later.py`, and those of a client that is never answered in `unanswered.py`.
 """
 
 import hashlib
@@ -567,6 +567,7 @@ def good_traces():
     from sockets import socket_traces
     from strangers import stranger_traces
     from streams import stream_traces
+    from unanswered import unanswered_traces
 
     yield from (
         handshake(), forged_grant(), repeated_grant(), reflected_request(),
@@ -580,7 +581,7 @@ def good_traces():
         *refreshes_answered(), stale_refresh(), stale_refresh_lost(), stale_deletion(),
         mismatched_deletion(), *each_setting(), *stranger_traces(), *permission_traces(), *channel_traces(),
         *payload_traces(), *stream_traces(), *connection_traces(), *socket_traces(),
-        *bound_traces(), *attempt_traces(),
+        *bound_traces(), *attempt_traces(), *unanswered_traces(),
     )
 
 
