@@ -45,15 +45,15 @@ use Rattle.turn_desk_world.proofs.AtSocket.{socket_there}
 use Rattle.turn_desk_world.specs.Told.{AreCallsBy, AreCallsOfAsking, AreCallsOfBytes, AreCallsOfPiece, AreCallsOverTcp, AreStepsBy, AreStepsOfClient, AreTakenUp, HandsNothing, IsCallOf, IsOneCall, IsToldBy, OfStream, OverNone, OverSocket, arriving, connections_bound, data_of, given_of, raw_asked, shown_in}
 
 -- the newest steps of a run are its last event's
-record IsNewest (pair : Event × Answer) (run : List (Step Client DeskCall)) (new : World) : Type 0 where
-  before : World
-  steps : List (Step Client DeskCall)
-  earlier : List (Step Client DeskCall)
-  run_is : run ≡ steps ++ earlier
-  step : IsStep pair.0 before pair.1 new
-  told : AreStepsBy pair.0 pair.1 before steps new
+pub record IsNewest (pair : Event × Answer) (run : List (Step Client DeskCall)) (new : World) : Type 0 where
+  pub before : World
+  pub steps : List (Step Client DeskCall)
+  pub earlier : List (Step Client DeskCall)
+  pub run_is : run ≡ steps ++ earlier
+  pub step : IsStep pair.0 before pair.1 new
+  pub told : AreStepsBy pair.0 pair.1 before steps new
 
-newest : (pairs : List (Event × Answer)) (pair : Event × Answer) (old new : World) (run : List (Step Client DeskCall)) → IsToldBy old (pairs ++ pair ∷ []) run new → IsNewest pair run new
+pub newest : (pairs : List (Event × Answer)) (pair : Event × Answer) (old new : World) (run : List (Step Client DeskCall)) → IsToldBy old (pairs ++ pair ∷ []) run new → IsNewest pair run new
 unfolding IsToldBy
 newest [] pair old new run is = record {
   before = old;

@@ -30,6 +30,7 @@ use Rattle.turn_desk_world.specs.Runs.{IsAtClient, IsInRange, IsStep, is_in_rang
 use Rattle.turn_desk_world.specs.Safety.{IsAccount, words}
 use Rattle.turn_desk_world.specs.SocketCalls.{AreCallsBound, AreCallsOfJoining, AreCallsOver, IsOne}
 use Rattle.turn_desk_world.specs.Told.{AreCallsBy, AreCallsOfAsking, AreCallsOfBytes, AreCallsOfPiece, AreCallsOverTcp, AreStepsBy, AreStepsOfClient, AreTakenUp, IsAt, IsKeptAs, IsToldBy, OfStream, OverNone, OverSocket, raw_asked}
+use Rattle.turn_desk_world.proofs.Answered.{newest}
 use Rattle.turn_desk_world.proofs.Chain.{each_later, leads_parted}
 
 -- ---- calls end in the client that they leave
@@ -165,11 +166,6 @@ told_parted (pair ∷ before) after old new run (next, steps, later, run_is, is,
       told_after = parts.told_after;
     }
 
-last_told : (before : List (Event × Answer)) (pair : Event × Answer) (old new : World) (run : List (Step Client DeskCall)) → IsToldBy old (before ++ pair ∷ []) run new → (w : World) × IsStep pair.0 w pair.1 new
-unfolding IsToldBy
-last_told [] pair old new run (next, steps, later, run_is, is, by, rest) = (old, subst (λ (w : World). IsStep pair.0 old pair.1 w) (sym rest.1) is)
-last_told (one ∷ before) pair old new run (next, steps, later, run_is, is, by, rest) = last_told before pair next new later rest
-
 -- ---- what is kept was bound since
 
 module _ (mid : Client) (here : SocketAddr) (none : (peer : SocketAddr) (number : ℕ) → client_words.IsKept mid (Connection here peer number) → ⊥) where
@@ -246,6 +242,6 @@ end_with_sockets first old pairs new run last at is = record {
       let here_at = told_at before old p.between p.earlier first two.0 p.told_before two.1 at in
       each_since two.0 here (none_at here p.between two.0 here_at none) p.later last two.2 lawful;
   closed = λ before after here there now p served.
-      let one = last_told before (closing here there now) old p.between p.earlier p.told_before in
-      closed_none here there now one.0 p.between one.1 served;
+      let one = newest before (closing here there now) old p.between p.earlier p.told_before in
+      closed_none here there now one.before p.between one.step served;
 }
