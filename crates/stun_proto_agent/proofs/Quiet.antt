@@ -28,7 +28,7 @@ both true b is = is
 both false b is = absurd (Prim.cc is)
 
 -- a transmission that is left comes before the end
-slot_before_end : (tcp : Bool) (t : Transaction) → has_left tcp t ≡ true → next_slot t ≤ end_at t.sent t.waits
+pub slot_before_end : (tcp : Bool) (t : Transaction) → has_left tcp t ≡ true → next_slot t ≤ end_at t.sent t.waits
 slot_before_end tcp t left =
     let used = leb-true (suc t.used) (transmissions tcp t.waits) (both (goes_on t.cancelled) (nat_lt t.used (transmissions tcp t.waits)) left) in
     let most = tcp_once tcp t.waits in

@@ -10,19 +10,24 @@ use crate::memory::NoMemory;
 use std::alloc::Global;
 use std::marker::Model;
 
-/// A growing list. Contracts see the list of its elements, so that two lists with the same
-/// elements are one value, whatever room each has.
+/// The most elements that a list holds.
+const MOST: usize = (1 << 32) - 1;
+
+/// A growing list of fewer than 2^32 elements. Contracts see the list of its elements, so that two lists
+/// with the same elements are one value, whatever room each has.
 #[derive(Debug, Drop)]
 pub struct ListOf<T> {
     items: Vec<T>,
 }
 
 impl<T> Model for ListOf<T> {
-    ghost use Rattle.std.specs.Prelude.{List};
+    ghost use Rattle.std.specs.Prelude.{List, ◌<◌, ◌^◌, length};
 
     ghost Value = { List T };
 
     ghost view = { λ list. list.items.items };
+
+    ghost invariant = { λ list. length list.items.items < 2 ^ 32 };
 }
 
 impl<T> ListOf<T> {
@@ -40,6 +45,13 @@ impl<T> ListOf<T> {
         ensures { result ≡ length self.now }
     {
         self.items.len()
+    }
+
+    /// How many elements there are, which 32 bits hold.
+    pub fn count(&self) -> u32
+        ensures { result ≡ length self.now }
+    {
+        self.items.len() as u32
     }
 
     /// Whether there is no element.
@@ -92,11 +104,15 @@ impl<T> ListOf<T> {
 }
 
 impl<T: Drop> ListOf<T> {
-    /// Adds an element at the end. Where memory is refused, the list stays as it was.
+    /// Adds an element at the end. Where memory is refused, or 2^32 - 1 elements are there, the list stays as
+    /// it was.
     pub fn push(&mut self, value: T) -> Result<(), NoMemory>
         ensures ok { OnOk result (self.new ≡ self.old ++ value ∷ []) }
         ensures err { OnErr result (self.new ≡ self.old) }
     {
+        if self.items.len() >= MOST {
+            return Err(NoMemory);
+        }
         self.items.push(value)?;
         Ok(())
     }

@@ -1,6 +1,6 @@
 //! The settings of a client, the trait of its calls, and what they answer.
 
-ghost use Rattle.std.specs.Prelude.{◌≡◌, ◌≢◌, ◌++◌, [], true, IfNone, IfOk, OnErr, OnOk, option_to_list};
+ghost use Rattle.std.specs.Prelude.{◌≡◌, ◌≢◌, ◌<◌, ◌^◌, ◌++◌, [], length, true, IfNone, IfOk, OnErr, OnOk, option_to_list};
 ghost use Rattle.std.specs.Option.{option_map};
 ghost use Rattle.turn_client_proto_receipt.specs.Closing.{after_close, is_joined};
 ghost use Rattle.turn_client_proto_receipt.specs.Connecting.{IsConnectAnswered};
@@ -105,7 +105,8 @@ pub trait TurnClientApi: Debug + Send {
     /// the peers, in the order in which they were granted. Allocations that are marked as expired are
     /// passed over. It takes no memory.
     fn relayed_addresses(&self) -> RelayedAddressesIter<'_>
-        ensures { result ≡ relayed_of (kept self.now).core };
+        ensures value { result ≡ relayed_of (kept self.now).core }
+        ensures few { length result < 2 ^ 64 };
 
     /// Asks for the end of the allocations (RFC 8656, section 8.1). Each is marked as expired at once,
     /// and has no permission and no channel any more. Refused with `NoAllocation` where the server has
@@ -144,7 +145,8 @@ pub trait TurnClientApi: Debug + Send {
         transport: TransportType,
         relayed: SocketAddr,
     ) -> PermissionAddressesIter<'_>
-        ensures { result ≡ permissions_of transport relayed (kept self.now).core };
+        ensures value { result ≡ permissions_of transport relayed (kept self.now).core }
+        ensures few { length result < 2 ^ 64 };
 
     /// Asks for a channel to a peer (RFC 8656, section 12.1), in the first allocation of a transport
     /// whose relayed address is of the peer's family, under the least number from 0x4000 to 0x7FFF that
@@ -175,7 +177,8 @@ pub trait TurnClientApi: Debug + Send {
     /// one allocation after another. Allocations that are marked as expired are passed over. It takes no
     /// memory.
     fn channels(&self) -> ChannelsIter<'_>
-        ensures { result ≡ channels_of (kept self.now).core };
+        ensures value { result ≡ channels_of (kept self.now).core }
+        ensures few { length result < 2 ^ 64 };
 
     /// Asks for a connection to a peer (RFC 6062, section 4.3), in the first allocation over TCP whose
     /// relayed address is of the peer's family. Where the server connects, `poll` asks for a socket by
@@ -237,7 +240,8 @@ pub trait TurnClientApi: Debug + Send {
     /// the server knows it, and whether it is bound, in the order in which their sockets were told, one
     /// allocation after another. Allocations that are marked as expired are passed over. It takes no memory.
     fn connections(&self) -> ConnectionsIter<'_>
-        ensures { result ≡ connections_of (kept self.now).core };
+        ensures value { result ≡ connections_of (kept self.now).core }
+        ensures few { length result < 2 ^ 64 };
 
     /// What carries bytes to a peer, by the allocations of this transport: the answer is `Some`, and
     /// its bytes are written when it is sent, by `build` or `write_into`. Over UDP it is a frame of the

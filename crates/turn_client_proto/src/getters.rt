@@ -1,6 +1,6 @@
-//! What a client's getters give, one after another.
+//! What a client's getters give, one after another. Each knows how many are left.
 
-ghost use Rattle.std.specs.Prelude.{◌≡◌};
+ghost use Rattle.std.specs.Prelude.{◌≡◌, ◌<◌, ◌^◌, length};
 ghost use Rattle.turn_client_proto_receipt.specs.Allocation.Listed.{relayed_shown};
 ghost use Rattle.turn_client_proto_receipt.specs.Channel.Shown.{channels_shown};
 ghost use Rattle.turn_client_proto_receipt.specs.Connection.Shown.{connections_shown};
@@ -12,9 +12,10 @@ use stun_types::TransportType;
 use turn_client_proto_receipt::calls::allocation::allocation::Allocation;
 use turn_client_proto_receipt::calls::allocation::channel::Channel;
 use turn_client_proto_receipt::calls::allocation::connection::Connection;
+use turn_client_proto_receipt::calls::allocation::listed::Allocations;
 use turn_client_proto_receipt::calls::allocation::permission::Permission;
-use turn_client_proto_receipt::calls::channel::shown::channels_of;
-use turn_client_proto_receipt::calls::connection::shown::connections_of;
+use turn_client_proto_receipt::calls::channel::shown::{channels_count, channels_of};
+use turn_client_proto_receipt::calls::connection::shown::{connections_count, connections_of};
 
 /// The relayed addresses of a client with their transports, in the order in which they were granted.
 /// Those of allocations that are marked as expired are passed over. Contracts see the list of what is
@@ -38,7 +39,8 @@ impl<'a> Model for RelayedAddressesIter<'a> {
 impl<'a> RelayedAddressesIter<'a> {
     /// The relayed addresses of these allocations.
     pub fn new(allocations: &'a [Allocation]) -> RelayedAddressesIter<'a>
-        ensures { result ≡ relayed_shown allocations.now }
+        ensures value { result ≡ relayed_shown allocations.now }
+        ensures few { length result < 2 ^ 64 }
     {
         RelayedAddressesIter { left: allocations }
     }
@@ -65,6 +67,23 @@ impl<'a> Iterator for RelayedAddressesIter<'a> {
         self.left = left;
         None
     }
+
+    fn size_hint(&self) -> (usize, Option<usize>) {
+        let count = self.len();
+        (count, Some(count))
+    }
+}
+
+impl<'a> ExactSizeIterator for RelayedAddressesIter<'a> {
+    fn len(&self) -> usize {
+        let mut count = 0;
+        for allocation in self.left {
+            if !allocation.is_expired {
+                count += 1;
+            }
+        }
+        count
+    }
 }
 
 /// The addresses of permissions, in the order in which they were granted. Contracts see the list of what
@@ -87,7 +106,8 @@ impl<'a> Model for PermissionAddressesIter<'a> {
 impl<'a> PermissionAddressesIter<'a> {
     /// The addresses of these permissions.
     pub fn new(permissions: &'a [Permission]) -> PermissionAddressesIter<'a>
-        ensures { result ≡ addresses_of permissions.now }
+        ensures value { result ≡ addresses_of permissions.now }
+        ensures few { length result < 2 ^ 64 }
     {
         PermissionAddressesIter { left: permissions }
     }
@@ -107,6 +127,16 @@ impl<'a> Iterator for PermissionAddressesIter<'a> {
         self.left = others;
         Some(first.ip)
     }
+
+    fn size_hint(&self) -> (usize, Option<usize>) {
+        (self.left.len(), Some(self.left.len()))
+    }
+}
+
+impl<'a> ExactSizeIterator for PermissionAddressesIter<'a> {
+    fn len(&self) -> usize {
+        self.left.len()
+    }
 }
 
 /// The channels of a client, each by its number and its peer, in the order in which they were granted,
@@ -116,26 +146,31 @@ impl<'a> Iterator for PermissionAddressesIter<'a> {
 pub struct ChannelsIter<'a> {
     here: &'a [Channel],
     left: &'a [Allocation],
+    count: usize,
 }
 
 impl<'a> Model for ChannelsIter<'a> {
-    ghost use Rattle.std.specs.Prelude.{ℕ, List, ◌++◌};
+    ghost use Rattle.std.specs.Prelude.{ℕ, List, ◌++◌, ◌≡◌, length};
     ghost use Rattle.std.specs.declared.net.socket_addr.SocketAddr.{SocketAddr};
     ghost use Rattle.turn_client_proto_receipt.specs.Channel.Shown.{channels_shown, pairs_of};
 
     ghost Value = { List (ℕ × SocketAddr) };
 
     ghost view = { λ it. pairs_of it.here.now ++ channels_shown it.left.now };
+
+    ghost invariant = { λ it. it.count ≡ length (pairs_of it.here.now ++ channels_shown it.left.now) };
 }
 
 impl<'a> ChannelsIter<'a> {
     /// The channels of these allocations.
-    pub fn new(allocations: &'a [Allocation]) -> ChannelsIter<'a>
-        ensures { result ≡ channels_shown allocations.now }
+    pub fn new(allocations: &'a Allocations) -> ChannelsIter<'a>
+        ensures value { result ≡ channels_shown allocations.now }
+        ensures few { length result < 2 ^ 64 }
     {
         ChannelsIter {
             here: &[],
-            left: allocations,
+            left: allocations.as_slice(),
+            count: channels_count(allocations),
         }
     }
 }
@@ -160,7 +195,18 @@ impl<'a> Iterator for ChannelsIter<'a> {
         let (first, others) = here.split_first()?;
         self.here = others;
         self.left = left;
+        self.count -= 1;
         Some((first.number.number(), first.peer))
+    }
+
+    fn size_hint(&self) -> (usize, Option<usize>) {
+        (self.count, Some(self.count))
+    }
+}
+
+impl<'a> ExactSizeIterator for ChannelsIter<'a> {
+    fn len(&self) -> usize {
+        self.count
     }
 }
 
@@ -172,26 +218,31 @@ impl<'a> Iterator for ChannelsIter<'a> {
 pub struct ConnectionsIter<'a> {
     here: &'a [Connection],
     left: &'a [Allocation],
+    count: usize,
 }
 
 impl<'a> Model for ConnectionsIter<'a> {
-    ghost use Rattle.std.specs.Prelude.{ℕ, Bool, List, ◌++◌};
+    ghost use Rattle.std.specs.Prelude.{ℕ, Bool, List, ◌++◌, ◌≡◌, length};
     ghost use Rattle.std.specs.declared.net.socket_addr.SocketAddr.{SocketAddr};
     ghost use Rattle.turn_client_proto_receipt.specs.Connection.Shown.{connections_shown, rows_of};
 
     ghost Value = { List (SocketAddr × SocketAddr × ℕ × Bool) };
 
     ghost view = { λ it. rows_of it.here.now ++ connections_shown it.left.now };
+
+    ghost invariant = { λ it. it.count ≡ length (rows_of it.here.now ++ connections_shown it.left.now) };
 }
 
 impl<'a> ConnectionsIter<'a> {
     /// The connections of these allocations.
-    pub fn new(allocations: &'a [Allocation]) -> ConnectionsIter<'a>
-        ensures { result ≡ connections_shown allocations.now }
+    pub fn new(allocations: &'a Allocations) -> ConnectionsIter<'a>
+        ensures value { result ≡ connections_shown allocations.now }
+        ensures few { length result < 2 ^ 64 }
     {
         ConnectionsIter {
             here: &[],
-            left: allocations,
+            left: allocations.as_slice(),
+            count: connections_count(allocations),
         }
     }
 }
@@ -216,11 +267,22 @@ impl<'a> Iterator for ConnectionsIter<'a> {
         let (first, others) = here.split_first()?;
         self.here = others;
         self.left = left;
+        self.count -= 1;
         Some((
             first.here,
             first.peer,
             first.connection,
             first.awaited.is_none(),
         ))
+    }
+
+    fn size_hint(&self) -> (usize, Option<usize>) {
+        (self.count, Some(self.count))
+    }
+}
+
+impl<'a> ExactSizeIterator for ConnectionsIter<'a> {
+    fn len(&self) -> usize {
+        self.count
     }
 }

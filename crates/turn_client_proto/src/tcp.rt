@@ -158,7 +158,7 @@ impl TurnClientApi for TurnClientTcp {
     }
 
     fn channels(&self) -> ChannelsIter<'_> {
-        ChannelsIter::new(self.protocol.allocations.as_slice())
+        ChannelsIter::new(&self.protocol.allocations)
     }
 
     fn tcp_connect(&mut self, peer_addr: SocketAddr, now: Instant) -> Result<(), TcpConnectError> {
@@ -190,7 +190,7 @@ impl TurnClientApi for TurnClientTcp {
     }
 
     fn connections(&self) -> ConnectionsIter<'_> {
-        ConnectionsIter::new(self.protocol.allocations.as_slice())
+        ConnectionsIter::new(&self.protocol.allocations)
     }
 
     fn send_to<T: AsSlice<u8> + Debug + Drop>(

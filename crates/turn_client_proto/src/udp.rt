@@ -125,7 +125,7 @@ impl TurnClientApi for TurnClientUdp {
     }
 
     fn channels(&self) -> ChannelsIter<'_> {
-        ChannelsIter::new(self.protocol.allocations.as_slice())
+        ChannelsIter::new(&self.protocol.allocations)
     }
 
     fn tcp_connect(&mut self, peer_addr: SocketAddr, now: Instant) -> Result<(), TcpConnectError> {
@@ -154,7 +154,7 @@ impl TurnClientApi for TurnClientUdp {
     }
 
     fn connections(&self) -> ConnectionsIter<'_> {
-        ConnectionsIter::new(self.protocol.allocations.as_slice())
+        ConnectionsIter::new(&self.protocol.allocations)
     }
 
     fn send_to<T: AsSlice<u8> + Debug + Drop>(

@@ -1,6 +1,6 @@
 //! The allocations of a client.
 
-ghost use Rattle.std.specs.Prelude.{◌≡◌, ◌++◌, ◌∷◌, [], List, OnOk, OnErr, map};
+ghost use Rattle.std.specs.Prelude.{◌≡◌, ◌++◌, ◌∷◌, [], List, OnOk, OnErr, length, map};
 ghost use Rattle.std.specs.Borrow.{sem};
 ghost use Rattle.std.specs.List.{list_any};
 ghost use Rattle.stun_proto_agent.specs.Least.{IsLeastOf};
@@ -19,20 +19,25 @@ use stun_proto_agent::instant::Instant;
 use stun_types::NoMemory;
 use stun_types::message::TransactionId;
 
-/// The allocations of a client, in the order in which they were granted. Contracts see the list of
-/// them.
+/// The most allocations that are kept.
+const MOST: usize = (1 << 32) - 1;
+
+/// The allocations of a client, in the order in which they were granted, fewer than 2^32. Contracts see the
+/// list of them.
 #[derive(Debug, Drop)]
 pub struct Allocations {
     items: Vec<Allocation>,
 }
 
 impl Model for Allocations {
-    ghost use Rattle.std.specs.Prelude.{List};
+    ghost use Rattle.std.specs.Prelude.{List, ◌<◌, ◌^◌, length};
     ghost use Rattle.turn_client_proto_allocation.specs.declared.allocation.Allocation.{Allocation};
 
     ghost Value = { List Allocation };
 
     ghost view = { λ allocations. allocations.items.items };
+
+    ghost invariant = { λ allocations. length allocations.items.items < 2 ^ 32 };
 }
 
 impl Allocations {
@@ -52,6 +57,13 @@ impl Allocations {
         self.items.as_slice()
     }
 
+    /// How many there are, which 32 bits hold.
+    pub fn count(&self) -> u32
+        ensures { result ≡ length self.now }
+    {
+        self.items.len() as u32
+    }
+
     /// The allocations, to be changed.
     pub fn as_mut_slice(&mut self) -> &mut [Allocation]
         ensures* writes_back { sem 𝓛 (LendsAllocations self.entry result) }
@@ -60,11 +72,14 @@ impl Allocations {
         self.items.as_mut_slice()
     }
 
-    /// Adds an allocation at the end. Where memory is refused, nothing changes.
+    /// Adds an allocation at the end. Where memory is refused, or 2^32 - 1 are there, nothing changes.
     pub fn push(&mut self, allocation: Allocation) -> Result<(), NoMemory>
         ensures ok { OnOk result (self.new ≡ self.old ++ allocation ∷ []) }
         ensures err { OnErr result (self.new ≡ self.old) }
     {
+        if self.items.len() >= MOST {
+            return Err(NoMemory);
+        }
         self.items.push(allocation)?;
         Ok(())
     }

@@ -16,8 +16,9 @@ use turn_client_proto::types::TurnCredentials;
 use turn_client_proto::udp::TurnClientUdp;
 
 /// Lets a client do what is due at a moment: it sends, is polled, and each event is followed, up to the
-/// bytes that go to a peer. To be called again at once, unless the answer is `Closed`, or to wait until a
-/// later moment. Where the answer isn't to wait until this very moment, no event waits any more.
+/// bytes that go to a peer; what was asked for goes out in another turn. To be called again at once, unless
+/// the answer is `Closed`, or to wait until a later moment. Where the answer isn't to wait until this very
+/// moment, no event waits any more.
 pub(crate) fn drive<C: TurnClientApi>(
     rt: &impl Print,
     alloc: Global,
@@ -53,7 +54,6 @@ pub(crate) fn drive<C: TurnClientApi>(
             _ => client.delete(now)?,
         }
         if let TurnPollRet::WaitUntil(_) = answer {
-            // What was asked for goes out in another turn.
             answer = TurnPollRet::WaitUntil(now);
         }
     }
@@ -134,9 +134,19 @@ fn hear_all<C: TurnClientApi>(
                 let done = hear(rt, client, bytes.as_slice(), now);
                 drop(bytes);
                 done?;
+                show(rt, client)?;
             }
             None => break,
         }
+    }
+    Ok(())
+}
+
+/// Prints the channels that a client holds, each with its place among them.
+fn show<C: TurnClientApi>(rt: &impl Print, client: &C) -> anyhow::Result<()> {
+    let all = client.channels().len();
+    for (place, (number, peer)) in client.channels().enumerate() {
+        println!(rt; "drive: channel {number} to {peer}, place {place} of {all}")?;
     }
     Ok(())
 }
