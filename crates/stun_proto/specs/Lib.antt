@@ -39,6 +39,8 @@ pub use Rattle.stun_proto_client.specs.ClientSteps
 pub use Rattle.stun_proto_client.specs.ClientValidation
 pub use Rattle.stun_proto_client.specs.Digests
 pub use Rattle.stun_proto_client.specs.ShortTerm
+pub use Rattle.stun_proto_server.specs.AuthCalls
+pub use Rattle.stun_proto_server.specs.AuthRuns
 pub use Rattle.stun_proto_server.specs.Isolation
 pub use Rattle.stun_proto_server.specs.Server
 pub use Rattle.stun_proto_server.specs.ServerSigning

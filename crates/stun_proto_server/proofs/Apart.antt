@@ -11,13 +11,13 @@ use Rattle.stun_proto_server.specs.Server.{Client, Server, set_outcome, with_new
 use Rattle.stun_proto_sign.specs.SocketAddrs.{socket_addr_cmp, socket_addr_cmp_total, socket_addr_cmp-IsAntisymmetric}
 
 -- a comparison that ties answers equal
-tie : (answer : Ordering) → is_eq answer ≡ true → answer ≡ Equal
+pub tie : (answer : Ordering) → is_eq answer ≡ true → answer ≡ Equal
 tie Less is = absurd (Prim.cc is)
 tie Equal is = refl
 tie Greater is = absurd (Prim.cc is)
 
 -- different addresses don't tie
-apart : (other client : SocketAddr) → other ≢ client → eq_by_cmp socket_addr_cmp other client ≡ false
+pub apart : (other client : SocketAddr) → other ≢ client → eq_by_cmp socket_addr_cmp other client ≡ false
 apart other client different =
     elim (eq_by_cmp socket_addr_cmp other client) as (λ b. eq_by_cmp socket_addr_cmp other client ≡ b → b ≡ false) [
       | true ↦ λ is. absurd (different (socket_addr_cmp-IsAntisymmetric other client (tie (socket_addr_cmp other client) is)))

@@ -24,7 +24,8 @@ use Rattle.stun_proto_server.specs.ServerValidation.{Accepts, AcceptsSome, Refus
 use Rattle.stun_proto_server.specs.Users.{IsClaimedName, IsFound, IsUser}
 use Rattle.stun_proto_server.proofs.Apart.{drawn_others, outcome_others, removed_others, same_for-refl}
 
-turned : (client : SocketAddr) (a b : Server) → SameFor client a b → SameFor client b a
+-- an address that can't tell one server from another can't tell that from the one
+pub turned : (client : SocketAddr) (a b : Server) → SameFor client a b → SameFor client b a
 turned client a b same = record {
   realm = sym same.realm;
   users = sym same.users;
@@ -33,6 +34,10 @@ turned client a b same = record {
   anonymous_username = sym same.anonymous_username;
   kept = sym same.kept;
 }
+
+-- an address ties with itself
+pub same_itself : (client : SocketAddr) → is_eq (socket_addr_cmp client client) ≡ true
+same_itself client = (eq_by_cmp_equiv socket_addr_cmp_total).refl client
 
 -- ---- what is kept for the address
 

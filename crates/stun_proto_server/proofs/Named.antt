@@ -13,13 +13,13 @@ use Rattle.stun_proto_server.specs.Server.{Server}
 use Rattle.stun_proto_server.specs.ServerValidation.{Accepts, AcceptsSome, Refuses, known_of}
 use Rattle.stun_proto_server.specs.Users.{HashesDiffer, IsClaimedName, IsFound, IsUser, Names, NamesOne}
 
-inside : {A : Type 0} {x y : A} → Some x ≡ Some y → x ≡ y
+pub inside : {A : Type 0} {x y : A} → Some x ≡ Some y → x ≡ y
 inside p = Prim.cc p
 
 -- ---- one user
 
 -- the user of a name and a password
-abbrev user_by : List ℕ → List ℕ → Named
+abbrev pub user_by : List ℕ → List ℕ → Named
 user_by name password = record { name = name; password = password }
 
 -- a user who is there is someone
@@ -34,7 +34,7 @@ same_names server None hash a b one is other =
     one refl a.name b.name (there (map.get server.users a.name) a.password is.present) (there (map.get server.users b.name) b.password other.present) (inside (sym is.named ∙ other.named))
 
 -- and the same password
-same_users : (server : Server) (claim : Claimed) (a b : Named) → NamesOne server claim → Names server claim a → Names server claim b → a ≡ b
+pub same_users : (server : Server) (claim : Claimed) (a b : Named) → NamesOne server claim → Names server claim a → Names server claim b → a ≡ b
 same_users server claim a b one is other =
     let names : a.name ≡ b.name = same_names server claim.username claim.user_hash a b one is other in
     let passwords : a.password ≡ b.password = inside (sym is.present ∙ ap (map.get server.users) names ∙ other.present) in

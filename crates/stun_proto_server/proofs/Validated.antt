@@ -59,7 +59,7 @@ accepted_is_answered server from bytes (Err StaleNonce) new one valid refused al
 accepted_is_answered server from bytes (Err (IntegrityFailed x)) new one valid refused algorithm name a = absurd (never_both server from bytes algorithm name (IntegrityFailed x) one a (refused (λ p. Prim.cc p)))
 
 -- a nonce that is drawn changes no user
-names_one_still : (old : Server) (from : SocketAddr) (now : ℕ) (stream : Stream) (claim : Claimed) → NamesOne old claim → NamesOne (refreshed old from now stream) claim
+pub names_one_still : (old : Server) (from : SocketAddr) (now : ℕ) (stream : Stream) (claim : Claimed) → NamesOne old claim → NamesOne (refreshed old from now stream) claim
 names_one_still old from now stream claim one =
     elim (has_standing_nonce old from now) as (λ b. NamesOne (if b then old else with_new_nonce old from now stream) claim) [
       | true ↦ one

@@ -1,3 +1,5 @@
+pub mod AuthCalls
+pub mod AuthRuns
 pub mod Isolation
 pub mod Server
 pub mod ServerSigning
