@@ -1,11 +1,14 @@
 pub mod Algorithms
 pub mod Answering
 pub mod Beside
+pub mod Claims
 pub mod Families
 pub mod Growing
 pub mod Peers
+pub mod Readable
 pub mod Reading
 pub mod Short
+pub mod Signed
 pub mod Signing
 pub mod Small
 pub mod Told

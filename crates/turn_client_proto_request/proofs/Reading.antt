@@ -49,7 +49,7 @@ asked_small (IPV4 ∷ []) = tt
 asked_small (IPV6 ∷ []) = (requested_small IPV6, tt)
 asked_small (a ∷ b ∷ rest) = families_small (a ∷ b ∷ rest)
 
-attributes_small : (request : TurnRequest) (number : ℕ) → AllByRecursion IsSmall (request_attributes request number)
+pub attributes_small : (request : TurnRequest) (number : ℕ) → AllByRecursion IsSmall (request_attributes request number)
 attributes_small (FirstAllocate transport families) number = (lifetime_small 1800, (transport_small _, (dont_fragment_small, asked_small families)))
 attributes_small (Allocate transport families) number = (transport_small _, (lifetime_small 1800, asked_small families))
 attributes_small (Refresh lifetime) number = (lifetime_small lifetime, tt)
@@ -69,7 +69,7 @@ asked_few (IPV4 ∷ []) = omega arith
 asked_few (IPV6 ∷ []) = omega arith
 asked_few (a ∷ b ∷ rest) = families_few (a ∷ b ∷ rest)
 
-attributes_few : (request : TurnRequest) (number : ℕ) → IsLawfulRequest request → length (request_attributes request number) ≤ 5
+pub attributes_few : (request : TurnRequest) (number : ℕ) → IsLawfulRequest request → length (request_attributes request number) ≤ 5
 attributes_few (FirstAllocate transport families) number lawful = let few = asked_few families in omega (arith, few, lawful)
 attributes_few (Allocate transport families) number lawful = let few = asked_few families in omega (arith, few, lawful)
 attributes_few (Refresh lifetime) number lawful = omega arith
@@ -99,7 +99,7 @@ attributes_left (a ∷ rest) draft small o fits =
     record { calls = (room, left.calls); still = left.still; size = omega (arith, size, few, grown) }
 
 -- a header alone
-abbrev header_alone : ℕ → ℕ → Draft
+abbrev pub header_alone : ℕ → ℕ → Draft
 header_alone kind number = record { bytes = message_text kind number []; behind = []; ended = none_ended; limit = None }
 
 header_length : (kind number : ℕ) → length (message_text kind number []) ≡ 20
@@ -120,7 +120,7 @@ header_open : (kind number : ℕ) → kind < 2 ^ 14 → IsOpen (header_alone kin
 header_open kind number k = record { begun = text_begun kind number k; ended = refl; limit = refl }
 
 -- a message that was begun, and took small attributes and a short addition
-all_written : (kind number : ℕ) (attributes : List Attr) (made : Addition) → kind < 2 ^ 14 → AllByRecursion IsSmall attributes → length attributes ≤ 5 → IsShortAddition made
+pub all_written : (kind number : ℕ) (attributes : List Attr) (made : Addition) → kind < 2 ^ 14 → AllByRecursion IsSmall attributes → length attributes ≤ 5 → IsShortAddition made
     → IsWritten kind number (map Ordinary attributes ++ calls_of made) (after_calls (map Ordinary attributes ++ calls_of made) (header_alone kind number))
 all_written kind number attributes made k small few short =
     let header = header_alone kind number in
@@ -142,15 +142,15 @@ all_written kind number attributes made k small few short =
 
 -- ---- and lawful
 
-lawful_both : (xs ys : List Add) → AllByRecursion IsLawful xs → AllByRecursion IsLawful ys → AllByRecursion IsLawful (xs ++ ys)
+pub lawful_both : (xs ys : List Add) → AllByRecursion IsLawful xs → AllByRecursion IsLawful ys → AllByRecursion IsLawful (xs ++ ys)
 lawful_both [] ys h k = k
 lawful_both (x ∷ xs) ys h k = (h.0, lawful_both xs ys h.1 k)
 
-small_lawful : (attributes : List Attr) → AllByRecursion IsSmall attributes → AllByRecursion IsLawful (map Ordinary attributes)
+pub small_lawful : (attributes : List Attr) → AllByRecursion IsSmall attributes → AllByRecursion IsLawful (map Ordinary attributes)
 small_lawful [] small = tt
 small_lawful (a ∷ rest) small = (small.0.ordinary, small_lawful rest small.1)
 
-short_lawful : (parts : List PartOf) → AllByRecursion IsShortPart parts → AllByRecursion IsLawful (calls_of_parts parts)
+pub short_lawful : (parts : List PartOf) → AllByRecursion IsShortPart parts → AllByRecursion IsLawful (calls_of_parts parts)
 short_lawful [] short = tt
 short_lawful (p ∷ rest) short = (short.0.ordinary, short_lawful rest short.1)
 
@@ -160,7 +160,7 @@ signer_lawful (Some key) = (tt, tt)
 
 -- ---- what they add
 
-ordinary_then : (mtype number : ℕ) (all : List Attr) (more : List Add) (before : List Attr) → attributes_after mtype number (map Ordinary all ++ more) before ≡ attributes_after mtype number more (before ++ all)
+pub ordinary_then : (mtype number : ℕ) (all : List Attr) (more : List Add) (before : List Attr) → attributes_after mtype number (map Ordinary all ++ more) before ≡ attributes_after mtype number more (before ++ all)
 unfolding attributes_after
 ordinary_then mtype number [] more before = ap (λ (l : List Attr). attributes_after mtype number more l) (sym (append-nil before))
 ordinary_then mtype number (a ∷ all) more before =
@@ -196,7 +196,7 @@ calls_behind mtype number attributes made other =
 
 -- ---- the addition of a request
 
-addition_short : (client : Client) (request : TurnRequest) → HasShortTexts client → IsShortAddition (addition_of client request)
+pub addition_short : (client : Client) (request : TurnRequest) → HasShortTexts client → IsShortAddition (addition_of client request)
 addition_short client request short = by (is_signed request)
   where
     by : (signed : Bool) → IsShortAddition (if signed then addition_for client Request else no_addition)
@@ -210,7 +210,7 @@ addition_other client request = by (is_signed request)
     by true = client_other client
     by false = tt
 
-type_small : (request : TurnRequest) → request_type request < 2 ^ 14
+pub type_small : (request : TurnRequest) → request_type request < 2 ^ 14
 type_small (FirstAllocate transport families) = omega arith
 type_small (Allocate transport families) = omega arith
 type_small (Refresh lifetime) = omega arith

@@ -28,7 +28,7 @@ or_first : (a b : Option StunParseError) → option_or a b ≡ None → a ≡ No
 or_first None b h = refl
 or_first (Some e) b h = absurd (Prim.cc h)
 
-or_second : (a b : Option StunParseError) → option_or a b ≡ None → b ≡ None
+pub or_second : (a b : Option StunParseError) → option_or a b ≡ None → b ≡ None
 or_second None b h = h
 or_second (Some e) b h = absurd (Prim.cc h)
 
@@ -84,7 +84,7 @@ list_short : (nonce : List ℕ) (list : Option (List ℕ)) (counts : Bool) → I
 list_short nonce list true short = short
 list_short nonce list false short = tt
 
-same_told : {a b : Told} → Some a ≡ Some b → a ≡ b
+pub same_told : {a b : Told} → Some a ≡ Some b → a ≡ b
 same_told p = Prim.cc p
 
 told_short : (realm nonce list : Option (List ℕ)) (told : Told) → IfSome realm (λ l. length l ≤ 763) → IfSome nonce (λ l. length l ≤ 763) → IfSome list (λ l. length l ≤ 32) → told_by realm nonce list ≡ Some told → IsShortTold told

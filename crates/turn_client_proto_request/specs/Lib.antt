@@ -1,6 +1,8 @@
 pub mod Answers
 pub mod Composing
 pub mod Judging
+pub mod OwnClaims
+pub mod ReadTexts
 pub mod Requests
 pub mod ShortTexts
 pub mod ToldRequests

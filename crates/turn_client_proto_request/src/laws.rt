@@ -1,24 +1,33 @@
 //! What the definitions of the contracts mean for a layer above. The functions do nothing; each
 //! contract is a law.
 
-ghost use Rattle.std.specs.Prelude.{◌≡◌, ◌≤◌, ◌<◌, ◌^◌, ℕ, List, true, None, length, IfSome, Result, MatchResult};
+ghost use Rattle.std.specs.Prelude.{◌≡◌, ◌≤◌, ◌<◌, ◌^◌, ℕ, List, true, Some, None, length, IfSome, Result, MatchResult};
 ghost use Rattle.std.specs.Net.Socket.{IsSocketAddr, socket_flowinfo, socket_scope_id};
 ghost use Rattle.std.specs.declared.net.socket_addr.SocketAddr.{SocketAddr};
+ghost use Rattle.stun_types.specs.Calls.{attributes_of};
 ghost use Rattle.stun_types.specs.Grammar.{number_at, refusal};
+ghost use Rattle.stun_types.specs.MessageReading.{IsReadAs};
 ghost use Rattle.stun_types.specs.Registry.{longest_username};
+ghost use Rattle.stun_types.specs.ValueReading.{utf8_refusal};
+ghost use Rattle.stun_proto.specs.Digests.{IsRight};
+ghost use Rattle.turn_client_proto_api.specs.Claims.{claimed};
 ghost use Rattle.turn_client_proto_api.specs.Sending.{is_request};
-ghost use Rattle.turn_client_proto_api.specs.Client.{Client};
+ghost use Rattle.turn_client_proto_api.specs.Client.{Client, Standing, standing_key, standing_of};
 ghost use Rattle.turn_client_proto_api.specs.ClientValidation.{IsTaken, IsTurnedDown};
 ghost use Rattle.turn_client_proto_api.specs.ClientAuthErrors.{LongTermClientAuthError};
 ghost use Rattle.turn_client_proto_api.specs.ClientValidations.{LongTermClientValidation};
 ghost use Rattle.turn_runs_stun.specs.StunWire.{told_by};
-ghost use Rattle.turn_client_proto_request.specs.Requests.{request_text};
+ghost use Rattle.turn_client_proto_request.specs.OwnClaims.{own_claim};
+ghost use Rattle.turn_client_proto_request.specs.ReadTexts.{HasReadTexts};
+ghost use Rattle.turn_client_proto_request.specs.Requests.{is_signed, request_calls, request_text, request_type};
 ghost use Rattle.turn_client_proto_request.specs.ShortTexts.{HasShortTexts};
 ghost use Rattle.turn_client_proto_request.specs.ToldRequests.{CanBeRead, IsLawfulRequest, IsReadBack, told_request};
 ghost use Rattle.turn_client_proto_request.specs.declared.request.TurnRequest.{TurnRequest as Request};
 
 use crate::request::TurnRequest;
 use std::net::IpAddr;
+use stun_types_write::reading::text_is_read;
+use turn_client_proto_api::config::TurnConfig;
 
 /// What the types of a request keep, in the words of the other laws: there are two families at most,
 /// a number has so many bits, and an IP has its octets or segments. It does nothing.
@@ -64,7 +73,9 @@ pub fn addresses_are_read_back()
 
 /// The text of a request is a message of class request with its number. It tells what the request
 /// asks for, where the address of a peer that it names is read back (RFC 8656, section 18; RFC
-/// 6062, section 6.2).
+/// 6062, section 6.2). It shows its attributes and those of the client's authenticator, and nothing
+/// else; one that is signed is right under the key of the challenge that the client keeps (RFC 8489,
+/// sections 9.2.3, 14.5 and 14.6).
 pub fn requests_are_read()
     ensures message { (auth : Client) (request : Request) (number : ℕ)
         → HasShortTexts auth
@@ -84,7 +95,45 @@ pub fn requests_are_read()
         → number < 2 ^ 96
         → CanBeRead request number
         → told_by (request_text auth request number) ≡ told_request request number }
+    ensures read { (auth : Client) (request : Request) (number : ℕ)
+        → HasShortTexts auth
+        → IsLawfulRequest request
+        → number < 2 ^ 96
+        → IsReadAs (request_type request) number
+        (attributes_of (request_type request) number (request_calls auth request number))
+        (request_text auth request number) }
+    ensures valid { (auth : Client) (request : Request) (number : ℕ) (standing : Standing)
+        → HasShortTexts auth
+        → IsLawfulRequest request
+        → number < 2 ^ 96
+        → is_signed request ≡ true
+        → standing_of auth ≡ Some standing
+        → IsRight (request_text auth request number) (standing_key standing) }
 {}
+
+/// What a signed request claims, where the client's texts can be read: the algorithm that was chosen,
+/// the name or its hash, realm and nonce of the challenge, and its list with the choice (RFC 8489,
+/// sections 9.2.3 and 9.2.5).
+pub fn signed_requests_claim()
+    ensures { (auth : Client) (request : Request) (number : ℕ) (standing : Standing)
+        → HasShortTexts auth
+        → HasReadTexts auth
+        → IsLawfulRequest request
+        → number < 2 ^ 96
+        → is_signed request ≡ true
+        → standing_of auth ≡ Some standing
+        → claimed (request_text auth request number)
+        ≡ own_claim auth.anonymous_username standing }
+{}
+
+/// The name of the user of a client's settings is a text in UTF-8 (RFC 8489, section 14.3). It does
+/// nothing.
+pub fn names_are_texts(config: &TurnConfig)
+    ensures { utf8_refusal config.now.credentials.username ≡ None }
+{
+    let name = config.credentials().username();
+    text_is_read(name, name.len());
+}
 
 /// The texts of a client's authenticator stay short, whatever a validation answers: of a challenge,
 /// a longer realm, nonce or list is as if it were not there (RFC 8489, sections 14.9 to 14.11). Those
@@ -100,4 +149,21 @@ pub fn texts_stay_short()
         → client.challenge ≡ None
         → IfSome client.account (λ account. length account.username ≤ longest_username)
         → HasShortTexts client }
+{}
+
+/// The texts of a client's authenticator can be read, whatever a validation answers: of a challenge,
+/// a realm or a nonce that is no text, and a list that names an unknown algorithm, is as if it were
+/// not there (RFC 8489, sections 14.9 to 14.11). Those of one that keeps no challenge can be read
+/// where the name of its user is a text.
+pub fn texts_stay_read()
+    ensures stay { (old new : Client) (bytes : List ℕ)
+        (result : Result LongTermClientValidation LongTermClientAuthError)
+        → MatchResult result (λ answer. IsTaken old bytes answer new)
+        (λ error. IsTurnedDown old bytes error new)
+        → HasReadTexts old
+        → HasReadTexts new }
+    ensures fresh { (client : Client)
+        → client.challenge ≡ None
+        → IfSome client.account (λ account. utf8_refusal account.username ≡ None)
+        → HasReadTexts client }
 {}
