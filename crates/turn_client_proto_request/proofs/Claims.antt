@@ -37,7 +37,7 @@ use Rattle.turn_client_proto_request.specs.ToldRequests.{IsLawfulRequest}
 use Rattle.turn_client_proto_request.specs.declared.request.TurnRequest.{TurnRequest}
 use Rattle.turn_client_proto_request.specs.declared.request.TurnRequest.TheVariants.{FirstAllocate, Allocate, Refresh, CreatePermission, ChannelBind, Connect, ConnectionBind}
 use Rattle.turn_client_proto_request.proofs.Reading.{ordinary_then, request_read}
-use Rattle.turn_client_proto_request.proofs.Signed.{adds_of, standing_adds}
+use Rattle.turn_client_proto_request.proofs.Signed.{adds_of}
 
 -- ---- the last of a kind
 

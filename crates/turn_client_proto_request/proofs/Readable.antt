@@ -2,7 +2,6 @@
 use Rattle.std.specs.Prelude.{IfSome, MatchResult, Result, Ok, Err}
 use Rattle.std.proofs.Common.{◌≡◌, ℕ, Bool, true, false, eqb, if◌then◌else◌, List, Option, Some, None, refl, subst, inl, inr}
 use Rattle.std.proofs.lemmas.Bool.{cases_Bool}
-use Rattle.std.specs.Option.{option_or}
 use Rattle.stun_types.specs.Adding.{attr_of}
 use Rattle.stun_types.specs.Attributes.{Attr}
 use Rattle.stun_types.specs.Entries.{algorithms_read_refusal}

@@ -2,7 +2,7 @@
 use Rattle.std.proofs.Common.{◌≡◌, ℕ, ◌<◌, ◌≤◌, ◌^◌, Bool, true, if◌then◌else◌, List, [], ◌∷◌, ◌++◌, length, map, Option, Some, sym, ap, ◌∙◌, subst, append_assoc}
 use Rattle.std.specs.List.{AllByRecursion}
 use Rattle.stun_types.specs.Attributes.{Attr}
-use Rattle.stun_types.specs.Calls.{Add, Integrity, Ordinary, IsLawful, IsWritten, after_calls, attributes_of}
+use Rattle.stun_types.specs.Calls.{Add, Integrity, Ordinary, IsWritten, after_calls, attributes_of}
 use Rattle.stun_types.specs.Credentials.{Key}
 use Rattle.stun_types.specs.Integrity.{Validates}
 use Rattle.stun_types.specs.MessageClasses.{Request}
