@@ -21,7 +21,7 @@ use Rattle.turn_desk_grant.specs.declared.verdict.Verdict.{Verdict}
 use Rattle.turn_desk_grant.specs.Verdicts.{grants_of, reply_attributes, reply_type, verdict_on}
 use Rattle.turn_desk_core.specs.DeskIsolation.{IsAnsweredAlike}
 use Rattle.turn_desk_core.specs.State.{State}
-use Rattle.turn_desk_core.specs.Steps.{IsAnswer, IsChallenge, IsVerdict, refusal_attributes, unvalidated_party}
+use Rattle.turn_desk_core.specs.Steps.{FitsChallenge, IsAnswer, IsChallenge, IsVerdict, refusal_attributes, unvalidated_party}
 
 -- ---- the authenticators
 
@@ -59,6 +59,7 @@ challenged_alike a b from bytes now stream decision reply new same is =
         };
         nonce = is.nonce;
         kept = (answers_alike from new.auth after alike).nonce ∙ is.kept;
+        fits = subst FitsChallenge party is.fits;
         text = is.text ∙ ap (λ (p : Party). message_text (error_type bytes) (number_at bytes) (refusal_attributes is.error p)) party;
         read = subst (λ (p : Party). IsReadAs (error_type bytes) (number_at bytes) (refusal_attributes is.error p) reply) party is.read;
         granted = refl;

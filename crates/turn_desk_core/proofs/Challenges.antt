@@ -1,5 +1,5 @@
 -- What is shown to a party that was not validated: ERROR-CODE, and what the server adds to it.
-use Rattle.std.specs.Prelude.{◌≡◌, ℕ, ◌+◌, ◌*◌, ◌≤◌, ◌<◌, slice_index, Bool, true, false, List, [], ◌∷◌, length, Option, Some, None, IfSome, IsSome, IsSomeAnd, map as map_list}
+use Rattle.std.specs.Prelude.{◌≡◌, ◌≢◌, ℕ, ◌+◌, ◌*◌, ◌≤◌, ◌<◌, slice_index, Bool, true, false, List, [], ◌∷◌, length, Option, Some, None, IfSome, IsSome, IsSomeAnd, map as map_list}
 use Rattle.std.proofs.Common.{Bor, refl, ap, ◌∙◌, subst, arith}
 use Rattle.std.proofs.lemmas.List.{append-nil}
 use Rattle.std.specs.List.{AllByRecursion, IsDistinct}
@@ -20,6 +20,7 @@ use Rattle.stun_types.specs.Entries.{entries}
 use Rattle.stun_types.specs.Grammar.{number_at}
 use Rattle.stun_types.specs.Calls.{Add, IsOrdinary, IsWritten, Ordinary}
 use Rattle.stun_types.specs.MessageReading.{IsReadAs}
+use Rattle.stun_types.specs.ValueReading.{utf8_refusal}
 use Rattle.stun_types.specs.Objections.{error_attribute, error_type}
 use Rattle.stun_types_integrity_laws.proofs.Composed.{composed_read, written_text}
 use Rattle.stun_proto.specs.Addition.{Addition, PartOf, algorithms_of, attrs, calls_of_parts, nonce_of, parts_refusal, realm_of, size_of_part}
@@ -117,15 +118,28 @@ nonce_short (Some n) nonce is short = subst (λ (l : List ℕ). length l ≤ 763
     inside : {a b : List ℕ} → Some a ≡ Some b → a ≡ b
     inside p = Prim.cc p
 
+-- and a text
+nonce_reads : (found : Option (Bor (List ℕ))) (nonce : List ℕ) → option_copied found ≡ Some nonce → IfSome found (λ n. utf8_refusal n.now ≡ None) → utf8_refusal nonce ≡ None
+nonce_reads None nonce is reads = absurd (Prim.cc is)
+nonce_reads (Some n) nonce is reads = subst (λ (l : List ℕ). utf8_refusal l ≡ None) (inside is) reads
+  where
+    inside : {a b : List ℕ} → Some a ≡ Some b → a ≡ b
+    inside p = Prim.cc p
+
 -- what a server says of itself has room
 pub server_fits : (server : Server) (from : SocketAddr) (realm nonce : List ℕ) (found : Option (Bor (List ℕ))) (algorithms : List IntegrityAlgorithm) → realm ≡ server.realm → length realm ≤ 763 → option_copied found ≡ nonce_at server from
-    → IfSome found (λ n. length n.now ≤ 763) → algorithms ≡ server.algorithms → IsDistinct is_same_algorithm algorithms → nonce_at server from ≡ Some nonce → FitsChallenge (unvalidated_party server nonce)
-server_fits server from realm nonce found algorithms realm-is realm-short is short algorithms-are distinct has =
+    → IfSome found (λ n. length n.now ≤ 763) → algorithms ≡ server.algorithms → IsDistinct is_same_algorithm algorithms
+    → algorithms ≢ [] → utf8_refusal realm ≡ None → IfSome found (λ n. utf8_refusal n.now ≡ None) → nonce_at server from ≡ Some nonce → FitsChallenge (unvalidated_party server nonce)
+server_fits server from realm nonce found algorithms realm-is realm-short is short algorithms-are distinct some realm-reads reads has =
     let few = two_at_most algorithms distinct in
     record {
       realm = subst (λ (r : List ℕ). length r ≤ 763) realm-is realm-short;
       nonce = nonce_short found nonce (is ∙ has) short;
       algorithms = subst (λ (a : List IntegrityAlgorithm). length a ≤ 8) algorithms-are (omega (arith, few));
+      realm_is_text = subst (λ (r : List ℕ). utf8_refusal r ≡ None) realm-is realm-reads;
+      nonce_is_text = nonce_reads found nonce (is ∙ has) reads;
+      never_empty = subst (λ (a : List IntegrityAlgorithm). a ≢ []) algorithms-are some;
+      distinct = subst (λ (a : List IntegrityAlgorithm). IsDistinct is_same_algorithm a) algorithms-are distinct;
     }
 
 -- how long the list of algorithms is
@@ -229,17 +243,19 @@ challenge_reply server from bytes nonce code old new text served has none fits i
     rw told (record {
       nonce = nonce;
       kept = has;
+      fits = fits;
       text = written_text kind number (map_list Ordinary (challenge_attributes code party)) new written
           ∙ ap (λ (all : List Attr). message_text kind number all) (ordinary_after kind number (challenge_attributes code party) []);
       read = λ k n. composed_read kind number (challenge_attributes code party) new k n (challenge_ordinary party code fits is.lawful) written;
     })
 
 -- an error response that is left as it is
-pub plain_reply : (server : Server) (from : SocketAddr) (bytes nonce : List ℕ) (code : ℕ) (draft : Draft) (text : List ℕ) → nonce_at server from ≡ Some nonce → IsReply (error_type bytes) (number_at bytes) (failure_attributes code) draft
-    → text ≡ draft.bytes → IsTurnedReply server from bytes (λ party. failure_attributes code) text
-plain_reply server from bytes nonce code draft text has is told = rw told (record {
+pub plain_reply : (server : Server) (from : SocketAddr) (bytes nonce : List ℕ) (code : ℕ) (draft : Draft) (text : List ℕ) → nonce_at server from ≡ Some nonce → FitsChallenge (unvalidated_party server nonce)
+    → IsReply (error_type bytes) (number_at bytes) (failure_attributes code) draft → text ≡ draft.bytes → IsTurnedReply server from bytes (λ party. failure_attributes code) text
+plain_reply server from bytes nonce code draft text has fits is told = rw told (record {
   nonce = nonce;
   kept = has;
+  fits = fits;
   text = is.composed.text;
   read = λ k n. composed_read (error_type bytes) (number_at bytes) (failure_attributes code) draft k n is.lawful is.composed.written;
 })
@@ -272,6 +288,7 @@ challenged old new from bytes now stream error reply are served away grants told
       judged = away;
       nonce = told.nonce;
       kept = told.kept;
+      fits = subst FitsChallenge same told.fits;
       text = told.text ∙ ap (λ (p : Party). message_text (error_type bytes) (number_at bytes) (refusal_attributes error p)) same;
       read = subst (λ (p : Party). IsReadAs (error_type bytes) (number_at bytes) (refusal_attributes error p) reply) same (told.read (error_type_fits bytes served) (number_fits bytes are served));
       granted = grants;

@@ -1,7 +1,8 @@
 -- What a desk answers a request, and what that leaves (RFC 8489, section 9.2.4; RFC 8656, sections
 -- 7.2 to 12.2).
-use Rattle.std.specs.Prelude.{◌≡◌, ◌≢◌, ◌⊎◌, ◌<◌, ◌≤◌, ◌^◌, ℕ, List, ◌++◌, length, Option, Some, None}
+use Rattle.std.specs.Prelude.{◌≡◌, ◌≢◌, ◌⊎◌, ◌<◌, ◌≤◌, ◌^◌, ℕ, List, [], ◌++◌, length, Option, Some, None}
 use Rattle.std.specs.FinMap as map
+use Rattle.std.specs.List.{IsDistinct}
 use Rattle.std.specs.Option.{option_and_then, option_map}
 use Rattle.std.specs.declared.net.socket_addr.SocketAddr.{SocketAddr}
 use Rattle.rand_core.specs.Stream.{Stream}
@@ -13,12 +14,14 @@ use Rattle.stun_types.specs.MessageReading.{IsReadAs}
 use Rattle.stun_types.specs.Credentials.{Key}
 use Rattle.stun_types.specs.Integrity.{Validates}
 use Rattle.stun_types.specs.Signing.{text_to_sign}
+use Rattle.stun_types.specs.ValueReading.{utf8_refusal}
 use Rattle.stun_proto.specs.ServerAuthErrors.{LongTermServerAuthError, BadRequest, StaleNonce, NoMemory}
 use Rattle.stun_proto.specs.Judgement.{user_key}
 use Rattle.stun_proto.specs.Server.{Server, nonce_at, refreshed, with_outcome}
 use Rattle.stun_proto.specs.Addition.{attrs}
 use Rattle.stun_proto.specs.ServerSigning.{Party, challenge_parts, key_in, party_at}
 use Rattle.stun_proto.specs.ServerValidation.{Accepts, IsAfterNoMemory, Refuses}
+use Rattle.stun_proto.specs.SupportedAlgorithms.{is_same_algorithm}
 use Rattle.turn_desk_grant.specs.declared.decision.Decision.{Decision}
 use Rattle.turn_desk_grant.specs.declared.grant.Grant as granted
 use Rattle.turn_desk_grant.specs.declared.verdict.Verdict.{Verdict}
@@ -71,21 +74,27 @@ refusal_attributes BadRequest party = failure_attributes bad_request_code
 refusal_attributes StaleNonce party = challenge_attributes stale_nonce_code party
 refusal_attributes _ party = challenge_attributes unauthorized_code party
 
+-- what a server adds for a party has room in its attributes, and can be read there: the realm and the
+-- nonce are UTF-8, and there are algorithms, none of them twice (RFC 8489, sections 14.9 to 14.11)
+pub record FitsChallenge (party : Party) : Type 0 where
+  pub realm : length party.realm ≤ longest_text
+  pub nonce : length party.nonce ≤ longest_text
+  pub algorithms : length party.algorithms ≤ most_algorithms
+  pub realm_is_text : utf8_refusal party.realm ≡ None
+  pub nonce_is_text : utf8_refusal party.nonce ≡ None
+  pub never_empty : party.algorithms ≢ []
+  pub distinct : IsDistinct is_same_algorithm party.algorithms
+
 -- a reply to a request that was turned away, which shows this of the party at the address, by the
 -- nonce that is kept for it
 pub record IsTurnedReply (server : Server) (from : SocketAddr) (bytes : List ℕ) (shows : Party → List Attr)
     (reply : List ℕ) : Type 0 where
   pub nonce : List ℕ
   pub kept : nonce_at server from ≡ Some nonce
+  pub fits : FitsChallenge (unvalidated_party server nonce)
   pub text : reply ≡ message_text (error_type bytes) (number_at bytes) (shows (unvalidated_party server nonce))
   pub read : error_type bytes < 2 ^ 14 → number_at bytes < 2 ^ 96
       → IsReadAs (error_type bytes) (number_at bytes) (shows (unvalidated_party server nonce)) reply
-
--- what a server adds for a party has room in its attributes
-pub record FitsChallenge (party : Party) : Type 0 where
-  pub realm : length party.realm ≤ longest_text
-  pub nonce : length party.nonce ≤ longest_text
-  pub algorithms : length party.algorithms ≤ most_algorithms
 
 -- ---- validation
 
@@ -108,13 +117,15 @@ pub record IsTaken (old : Server) (from : SocketAddr) (bytes : List ℕ) (now : 
 
 -- a request that is refused is answered with an error response: to one that is malformed with 400
 -- alone, else with 401 or 438, the realm, the nonce which now stands for its address, and the list
--- of the algorithms that are supported, where that nonce says that there is one; nothing is granted
+-- of the algorithms that are supported, where that nonce says that there is one; nothing is granted.
+-- What the server says of itself can be read
 pub record IsChallenge (old : State) (from : SocketAddr) (bytes : List ℕ) (now : ℕ) (stream : Stream) (reply : List ℕ)
     (new : State) : Type 0 where
   pub error : LongTermServerAuthError
   pub judged : IsTurnedAway old.auth from bytes now stream error new.auth
   pub nonce : List ℕ
   pub kept : nonce_at new.auth from ≡ Some nonce
+  pub fits : FitsChallenge (unvalidated_party old.auth nonce)
   pub text : reply ≡ message_text (error_type bytes) (number_at bytes)
       (refusal_attributes error (unvalidated_party old.auth nonce))
   pub read : IsReadAs (error_type bytes) (number_at bytes)

@@ -1,6 +1,6 @@
 //! The desk: requests in, replies out.
 
-ghost use Rattle.std.specs.Prelude.{◌≡◌, ◌≢◌, ◌↔◌, ◌≤◌, ◌++◌, ◌∷◌, IfOk, OnErr, IsSome, None, Some, MatchOption, MatchResult, [], ℕ, List, true};
+ghost use Rattle.std.specs.Prelude.{◌≡◌, ◌≢◌, ◌↔◌, ◌≤◌, ◌++◌, ◌∷◌, IfOk, IfSome, OnErr, IsSome, None, Some, MatchOption, MatchResult, [], ℕ, List, true};
 ghost use Rattle.std.specs.Borrow.{sem};
 ghost use Rattle.std.specs.declared.net.socket_addr.SocketAddr.{SocketAddr};
 ghost use Rattle.stun_types.specs.GeneratorWords.{stream_after};
@@ -10,6 +10,7 @@ ghost use Rattle.stun_types.specs.IntegrityAlgorithms.{IntegrityAlgorithm};
 ghost use Rattle.stun_types.specs.Adding.{IsBegun};
 ghost use Rattle.stun_types.specs.Lent.{own_draft};
 ghost use Rattle.stun_types.specs.Signing.{signing_refusal};
+ghost use Rattle.stun_types.specs.ValueReading.{utf8_refusal};
 ghost use Rattle.stun_types.specs.Registry.{greatest_code, least_code};
 ghost use Rattle.stun_proto.specs.Judgement.{is_response};
 ghost use Rattle.stun_proto.specs.Server.{SameFor, nonce_at, outcome_at, words_drawn};
@@ -29,12 +30,23 @@ use stun_proto::auth::{LongTermServerAuth, LongTermServerAuthError};
 use stun_types::attribute::ErrorCode;
 use stun_types::message::{Message, MessageWrite, MessageWriteVec};
 use stun_types::{ListOf, NoMemory};
+use stun_types_write::reading::text_is_read;
 use turn_desk_grant::decision::Decision;
 use turn_desk_grant::failure::failure;
 use turn_desk_grant::grant::Grant;
 use turn_desk_grant::reply::{granted_to, reply_to};
 use turn_desk_grant::request::is_served;
 use turn_desk_grant::verdict::verdict_on;
+
+/// A text that is there is UTF-8. Nothing is done.
+fn found_is_read(found: Option<&str>)
+    ensures { IfSome found.entry (λ text. utf8_refusal text.now ≡ None) }
+{
+    match found {
+        Some(text) => text_is_read(text, text.len()),
+        None => {}
+    }
+}
 
 /// A small server core. Contracts see its authenticator and what it granted.
 #[derive(Debug, Drop)]
@@ -186,6 +198,7 @@ impl Desk {
     {
         match error {
             LongTermServerAuthError::BadRequest => {
+                self.has_room(from);
                 let reply = failure(self.alloc, request, ErrorCode::BAD_REQUEST)?;
                 Ok(reply.finish())
             }
@@ -214,14 +227,16 @@ impl Desk {
         Ok(challenge.finish())
     }
 
-    /// What a challenge shows of the server fits into its attributes: the realm and the nonce are short,
-    /// and there are few algorithms. Nothing is done.
+    /// What a challenge shows of the server fits into its attributes, and can be read there: the realm
+    /// and the nonce are short texts, and there are few algorithms, but some. Nothing is done.
     fn has_room(&self, from: SocketAddr)
         ensures { (nonce : List ℕ) → nonce_at self.now.auth from ≡ Some nonce
             → FitsChallenge (unvalidated_party self.now.auth nonce) }
     {
-        let _ = self.auth.realm();
-        let _ = self.auth.nonce_for_client(from);
+        let realm = self.auth.realm();
+        text_is_read(realm, realm.len());
+        let nonce = self.auth.nonce_for_client(from);
+        found_is_read(nonce);
         let _ = self.auth.supported_integrity();
     }
 
