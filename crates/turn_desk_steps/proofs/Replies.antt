@@ -20,7 +20,7 @@ use Rattle.turn_desk_core.specs.Granted.{connected_attributes, refreshed_attribu
 use Rattle.turn_desk_core.specs.Replies.{allocated_attributes, relayed_attributes}
 use Rattle.turn_desk_steps.specs.DeskRun.{AreTold}
 
-abbrev is_of : ℕ → Attr → Bool
+abbrev pub is_of : ℕ → Attr → Bool
 is_of kind a = eqb a.kind kind
 
 four_accepted : (a b c d : ℕ) (kind : ℕ) → value_refusal kind 4 4 (record { kind = kind; value = a ∷ b ∷ c ∷ d ∷ [] }) ≡ None
@@ -56,17 +56,17 @@ told_behind number (addr ∷ relayed) behind told none =
     rw told.0 (ap (λ (l : List SocketAddr). addr ∷ l) rest)
 
 -- what is behind the relayed addresses: LIFETIME, XOR-MAPPED-ADDRESS and the integrity attribute
-no_relayed : (lifetime : ℕ) (mapped : List ℕ) (algorithm : IntegrityAlgorithm) (key text : List ℕ)
+pub no_relayed : (lifetime : ℕ) (mapped : List ℕ) (algorithm : IntegrityAlgorithm) (key text : List ℕ)
     → filter (is_of xor_relayed_address_kind) (record { kind = lifetime_kind; value = big_bytes 4 lifetime } ∷ record { kind = xor_mapped_address_kind; value = mapped } ∷ signature algorithm key text ∷ []) ≡ []
 unfolding signature
 no_relayed lifetime mapped Sha1 key text = refl
 no_relayed lifetime mapped Sha256 key text = refl
 
-joined : (one two three : List Attr) → (one ++ two) ++ three ≡ one ++ (two ++ three)
+pub joined : (one two three : List Attr) → (one ++ two) ++ three ≡ one ++ (two ++ three)
 joined [] two three = refl
 joined (a ∷ one) two three = ap (λ (l : List Attr). a ∷ l) (joined one two three)
 
-abbrev behind_addresses : ℕ → List ℕ → List Attr
+abbrev pub behind_addresses : ℕ → List ℕ → List Attr
 behind_addresses lifetime mapped = record { kind = lifetime_kind; value = big_bytes 4 lifetime } ∷ record { kind = xor_mapped_address_kind; value = mapped } ∷ []
 
 pub allocated_addresses : (reply : List ℕ) (number lifetime : ℕ) (relayed : List SocketAddr) (from : SocketAddr) (algorithm : IntegrityAlgorithm) (key text : List ℕ) → number_at reply ≡ number → AreTold number relayed

@@ -1,4 +1,6 @@
+pub mod Challenged
 pub mod DeskRun
+pub mod Users
 -- What stands above this crate has these through it.
 pub use Rattle.turn_desk_core.specs.AskedFor
 pub use Rattle.turn_desk_core.specs.AuthLending

@@ -1,7 +1,9 @@
 //! What a desk does, in the words of a run of a client and a desk (RFC 8656).
 #![tactic(auto)]
 
+pub mod challenged;
 pub mod definite;
+pub mod users;
 
 ghost use Rattle.turn_runs_stun.specs.Steps.{DeskStep};
 ghost use Rattle.turn_runs_stun.specs.StunWire.{stun_wire};

@@ -1,0 +1,40 @@
+-- What a client reads of a desk's challenge (RFC 8489, sections 9.2.4, 9.2.5 and 14.11).
+use Rattle.std.specs.Prelude.{◌≡◌, ℕ, if◌then◌else◌, List, Option, Some, None}
+use Rattle.std.specs.FinMap as map
+use Rattle.std.specs.declared.net.socket_addr.SocketAddr.{SocketAddr}
+use Rattle.stun_types.specs.Grammar.{number_at}
+use Rattle.stun_types.specs.IntegrityAlgorithms.{IntegrityAlgorithm}
+use Rattle.stun_proto.specs.Challenges.{Told, challenge_shown}
+use Rattle.stun_proto.specs.Choice.{supports, takes}
+use Rattle.stun_proto.specs.Nonce.{features_offered, features_told}
+use Rattle.stun_proto.specs.ServerSigning.{Party}
+use Rattle.stun_proto.specs.SupportedAlgorithms.{list_of}
+use Rattle.turn_desk_core.specs.State.{State}
+
+-- the list of a server's algorithms, where the nonce says that there is one
+abbrev pub list_offered : Party → Option (List ℕ)
+list_offered party =
+    if (features_told party.nonce).password_algorithms then Some (list_of party.algorithms) else None
+
+-- a server's realm, the nonce that it keeps, and that list
+abbrev pub challenge_of : Party → Told
+challenge_of party = record { realm = party.realm; nonce = party.nonce; offered = list_offered party }
+
+-- a desk challenges an address for which it kept nothing: the reply to the request is read as a challenge, with the
+-- desk's realm, and a new nonce, which tells what the desk offers and is kept for the address from this moment on;
+-- what the challenge takes are the algorithms that the desk supports; nothing is granted
+pub record IsFirstChallenge (old : State) (from : SocketAddr) (bytes : List ℕ) (now : ℕ) (reply : List ℕ) (new : State)
+    : Type 0 where
+  pub told : Told
+  pub shown : challenge_shown reply ≡ Some told
+  pub number : number_at reply ≡ number_at bytes
+  pub realm : told.realm ≡ old.auth.realm
+  pub features : features_told told.nonce ≡ features_offered old.auth.algorithms old.auth.anonymous_username
+  pub takes_own : (algorithm : IntegrityAlgorithm)
+      → takes told.offered algorithm ≡ supports old.auth.algorithms algorithm
+  pub list : told.offered ≡ (if (features_told told.nonce).password_algorithms
+      then Some (list_of old.auth.algorithms)
+      else None)
+  pub kept : map.get new.auth.clients from
+      ≡ Some (record { nonce = told.nonce; drawn = now; outcome = None })
+  pub granted : new.grants ≡ old.grants
