@@ -1,6 +1,7 @@
 -- A request that is not signed, from an address for which a desk keeps nothing, is challenged.
-use Rattle.std.specs.Prelude.{◌≢◌, MatchOption, cond}
+use Rattle.std.specs.Prelude.{◌≢◌, MatchOption, cond, nat_lt}
 use Rattle.std.proofs.Common.{◌≡◌, ℕ, Bool, true, false, if◌then◌else◌, List, Option, Some, None, refl, sym, ap, ◌∙◌, subst, inl, inr}
+use Rattle.std.proofs.lemmas.Bool.{lt-ltb}
 use Rattle.std.specs.Cmp.{eq_by_cmp_equiv}
 use Rattle.std.specs.FinMap as map
 use Rattle.std.specs.Option.{option_map, option_or}
@@ -14,8 +15,9 @@ use Rattle.stun_proto_auth.proofs.NonceLemmas.{features_told-nonce_text}
 use Rattle.stun_proto.specs.Claims.{claimed}
 use Rattle.stun_proto.specs.Judgement.{HasWrongDigest, IsRefused, algorithms_refusal, claim_refusal, integrity_refusal, is_response, judgement, nonce_refusal, parts_refusal, user_refusal}
 use Rattle.stun_proto.specs.Knowledge.{Knowledge}
+use Rattle.stun_proto.specs.Moments.{moment_after}
 use Rattle.stun_proto.specs.Nonce.{features_offered, features_told}
-use Rattle.stun_proto.specs.Server.{Client, Server, is_standing, new_client, nonce_at, refreshed, set_outcome, with_new_nonce, with_outcome}
+use Rattle.stun_proto.specs.Server.{Client, Server, has_standing_nonce, is_standing, new_client, nonce_at, refreshed, set_outcome, with_new_nonce, with_outcome}
 use Rattle.stun_proto.specs.ServerAuthErrors.{LongTermServerAuthError, Unauthorized, BadRequest}
 use Rattle.stun_proto.specs.ServerSigning.{Party}
 use Rattle.stun_proto.specs.ServerValidation.{known_of}
@@ -24,7 +26,7 @@ use Rattle.turn_desk_core.specs.Requests.{IsServed}
 use Rattle.turn_desk_core.specs.State.{State}
 use Rattle.turn_desk_core.specs.Steps.{IsAnswer, IsChallenge, IsVerdict, unvalidated_party}
 use Rattle.turn_desk_core.specs.Verdicts.{verdict_on}
-use Rattle.turn_desk_steps.specs.Challenged.{IsFirstChallenge, challenge_of}
+use Rattle.turn_desk_steps.specs.Challenged.{HasSameSettings, IsFirstChallenge, challenge_of}
 use Rattle.turn_desk_steps.proofs.Judging.{some_some}
 use Rattle.turn_desk_steps.proofs.Told.{challenge_read, takes_own}
 
@@ -73,6 +75,17 @@ module _ (old : Server) (from : SocketAddr) (now : ℕ) (stream : Stream) (none 
       ∙ (ap (λ (found : Option Client). map.get (set_outcome clients from None found) from) (put_there old.clients from drawn)
       ∙ put_there clients from drawn)
 
+-- ---- settings
+
+-- a drawing and an outcome change no user and no setting
+settings_stay : (old new : Server) (from : SocketAddr) (now : ℕ) (stream : Stream) → new ≡ with_outcome (refreshed old from now stream) from None → HasSameSettings old new
+settings_stay old new from now stream is =
+    subst (λ (s : Server). HasSameSettings old s) (sym is)
+    (elim (has_standing_nonce old from now) as (λ b. HasSameSettings old (with_outcome (if b then old else with_new_nonce old from now stream) from None)) [
+      | true ↦ record { realm = refl; users = refl; nonce_expiry = refl; algorithms = refl; anonymous_username = refl }
+      | false ↦ record { realm = refl; users = refl; nonce_expiry = refl; algorithms = refl; anonymous_username = refl }
+    ])
+
 -- ---- the challenge
 
 module _ (old new : State) (from : SocketAddr) (bytes reply : List ℕ) (now : ℕ) (stream : Stream) (served : IsServed bytes) (none : map.get old.auth.clients from ≡ None) (unsigned : (claimed bytes).integrity ≡ None) where
@@ -86,6 +99,7 @@ module _ (old new : State) (from : SocketAddr) (bytes reply : List ℕ) (now : �
       let same : made.nonce ≡ is.nonce = some_some made.nonce is.nonce (nonce_at new.auth from) (ap (option_map (λ (c : Client). c.nonce)) kept) is.kept in
       let features : features_told is.nonce ≡ features_offered old.auth.algorithms old.auth.anonymous_username =
       ap features_told (sym same) ∙ features_told-nonce_text (features_offered old.auth.algorithms old.auth.anonymous_username) _ in
+      let settings = settings_stay old.auth new.auth from now stream is.judged.after in
       record {
         told = challenge_of party;
         shown = challenge_read old new from bytes reply now stream served is (not_bad is.error error);
@@ -95,6 +109,11 @@ module _ (old new : State) (from : SocketAddr) (bytes reply : List ℕ) (now : �
         takes_own = λ algorithm. takes_own party algorithm (ap (λ f. f.password_algorithms) features);
         list = refl;
         kept = kept ∙ ap (λ (n : List ℕ). Some (client_of now n)) same;
+        stands = λ later before.
+            ap (λ (o : Option Client). is_standing new.auth.nonce_expiry later o) kept
+            ∙ ap (λ (e : ℕ). nat_lt later (moment_after now e)) settings.nonce_expiry
+            ∙ lt-ltb later (moment_after now old.auth.nonce_expiry) before;
+        settings = settings;
         granted = is.granted;
       }
 

@@ -1,12 +1,14 @@
 -- What a client reads of a desk's challenge (RFC 8489, sections 9.2.4, 9.2.5 and 14.11).
-use Rattle.std.specs.Prelude.{◌≡◌, ℕ, if◌then◌else◌, List, Option, Some, None}
+use Rattle.std.specs.Prelude.{◌≡◌, ◌<◌, ℕ, true, if◌then◌else◌, List, Option, Some, None}
 use Rattle.std.specs.FinMap as map
 use Rattle.std.specs.declared.net.socket_addr.SocketAddr.{SocketAddr}
 use Rattle.stun_types.specs.Grammar.{number_at}
 use Rattle.stun_types.specs.IntegrityAlgorithms.{IntegrityAlgorithm}
 use Rattle.stun_proto.specs.Challenges.{Told, challenge_shown}
 use Rattle.stun_proto.specs.Choice.{supports, takes}
+use Rattle.stun_proto.specs.Moments.{moment_after}
 use Rattle.stun_proto.specs.Nonce.{features_offered, features_told}
+use Rattle.stun_proto.specs.Server.{Server, has_standing_nonce}
 use Rattle.stun_proto.specs.ServerSigning.{Party}
 use Rattle.stun_proto.specs.SupportedAlgorithms.{list_of}
 use Rattle.turn_desk_core.specs.State.{State}
@@ -20,9 +22,18 @@ list_offered party =
 abbrev pub challenge_of : Party → Told
 challenge_of party = record { realm = party.realm; nonce = party.nonce; offered = list_offered party }
 
+-- the same realm, users and settings
+pub record HasSameSettings (old new : Server) : Type 0 where
+  pub realm : new.realm ≡ old.realm
+  pub users : new.users ≡ old.users
+  pub nonce_expiry : new.nonce_expiry ≡ old.nonce_expiry
+  pub algorithms : new.algorithms ≡ old.algorithms
+  pub anonymous_username : new.anonymous_username ≡ old.anonymous_username
+
 -- a desk challenges an address for which it kept nothing: the reply to the request is read as a challenge, with the
--- desk's realm, and a new nonce, which tells what the desk offers and is kept for the address from this moment on;
--- what the challenge takes are the algorithms that the desk supports; nothing is granted
+-- desk's realm, and a new nonce, which tells what the desk offers and is kept for the address from this moment on,
+-- so that it stands until its time is over; what the challenge takes are the algorithms that the desk supports;
+-- nothing is granted, and no user or setting changes
 pub record IsFirstChallenge (old : State) (from : SocketAddr) (bytes : List ℕ) (now : ℕ) (reply : List ℕ) (new : State)
     : Type 0 where
   pub told : Told
@@ -37,4 +48,7 @@ pub record IsFirstChallenge (old : State) (from : SocketAddr) (bytes : List ℕ)
       else None)
   pub kept : map.get new.auth.clients from
       ≡ Some (record { nonce = told.nonce; drawn = now; outcome = None })
+  pub stands : (later : ℕ) → later < moment_after now old.auth.nonce_expiry
+      → has_standing_nonce new.auth from later ≡ true
+  pub settings : HasSameSettings old.auth new.auth
   pub granted : new.grants ≡ old.grants
