@@ -1,5 +1,8 @@
 pub mod Alike
 pub mod Challenges
+pub mod Definite
+pub mod DeskAlone
+pub mod DeskFixed
 pub mod Grants
 pub mod Keys
 pub mod Nonces

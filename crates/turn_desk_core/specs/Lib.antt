@@ -1,5 +1,6 @@
 pub mod AuthLending
 pub mod Decisions
+pub mod DeskCalls
 pub mod DeskIsolation
 pub mod DeskSteps
 pub mod State

@@ -1,12 +1,13 @@
 //! What the contracts of a desk mean for a layer above. The functions do nothing; each contract is a law.
 
-ghost use Rattle.std.specs.Prelude.{List, ℕ};
+ghost use Rattle.std.specs.Prelude.{◌≡◌, List, ℕ};
 ghost use Rattle.std.specs.declared.net.socket_addr.SocketAddr.{SocketAddr};
 ghost use Rattle.rand_core.specs.Stream.{Stream};
 ghost use Rattle.turn_desk_grant.specs.declared.decision.Decision.{Decision};
 ghost use Rattle.turn_desk_grant.specs.Requests.{IsServed};
 ghost use Rattle.turn_desk_core.specs.State.{State};
 ghost use Rattle.turn_desk_core.specs.Steps.{IsAnswer};
+ghost use Rattle.turn_desk_core.specs.DeskCalls.{AreAlike, AreAnsweredAlike, IsServerRun, NameOneUser, ServerAnswer, ServerCall, StandsAlone, calls_concerning};
 ghost use Rattle.turn_desk_core.specs.DeskIsolation.{IsAnsweredAlike};
 ghost use Rattle.turn_desk_core.specs.DeskSteps.{DeskStep};
 ghost use Rattle.stun_proto.specs.Server.{SameFor};
@@ -34,4 +35,29 @@ pub fn desks_answer_alike()
         → SameFor from a.auth b.auth
         → IsAnswer a from bytes now stream decision reply new
         → IsAnsweredAlike a b from bytes now stream decision reply new }
+{}
+
+/// So it is of whole runs of calls, whatever other addresses do between an address's own. Of any run of
+/// requests, and of calls of the authenticator, none of which is refused memory, those that concern an
+/// address alone, its own and those on users and settings, are answered the same by any desk that the
+/// address can't tell from the one of the run. They leave a desk that it can't tell from the one that all
+/// calls left: what is kept for the address is the same, and so is all that was granted to it, in order.
+///
+/// And what it is answered and granted is fixed by these calls: of two runs in which they are the same,
+/// of desks that the address can't tell apart, it gets the same answers and the same grants. That takes
+/// for granted that no request names two users, by a hash that both have (RFC 8489, section 14.4).
+pub fn addresses_stand_alone()
+    ensures alone { (address : SocketAddr) (old other new : State)
+        (pairs : List (ServerCall × ServerAnswer))
+        → AreAlike address old other
+        → IsServerRun old pairs new
+        → StandsAlone address other pairs new }
+    ensures fixed { (address : SocketAddr) (old other new left : State)
+        (pairs others : List (ServerCall × ServerAnswer))
+        → AreAlike address old other
+        → IsServerRun old pairs new
+        → IsServerRun other others left
+        → calls_concerning address pairs ≡ calls_concerning address others
+        → NameOneUser old.auth (calls_concerning address pairs)
+        → AreAnsweredAlike address pairs others new left }
 {}

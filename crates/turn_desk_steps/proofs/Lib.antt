@@ -1,7 +1,6 @@
 pub mod Answering
 pub mod Asking
 pub mod Granting
-pub mod Judging
 pub mod Replies
 pub mod Served
 pub mod Signing

@@ -5,6 +5,7 @@ pub mod Users
 pub use Rattle.turn_desk_core.specs.AskedFor
 pub use Rattle.turn_desk_core.specs.AuthLending
 pub use Rattle.turn_desk_core.specs.Decisions
+pub use Rattle.turn_desk_core.specs.DeskCalls
 pub use Rattle.turn_desk_core.specs.DeskIsolation
 pub use Rattle.turn_desk_core.specs.DeskSteps
 pub use Rattle.turn_desk_core.specs.Features
