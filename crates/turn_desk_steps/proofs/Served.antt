@@ -38,7 +38,8 @@ use Rattle.turn_desk_steps.specs.DeskRun.{AreTold}
 use Rattle.turn_desk_steps.specs.StunWire.{told_by}
 use Rattle.turn_desk_steps.specs.Users.{IsAllocationGranted, IsOfUser, IsUserAnswered, Signatory, key_of, knowing}
 use Rattle.turn_desk_steps.proofs.Asking.{transport_same}
-use Rattle.turn_desk_steps.proofs.Judging.{never_both, same_algorithm, same_name, some_some}
+use Rattle.stun_proto_server.proofs.Definite.{accepted_same}
+use Rattle.stun_proto_server.proofs.Named.{inside, never_both}
 use Rattle.turn_desk_steps.proofs.Replies.{allocated_addresses, allocated_lifetime, behind_addresses, is_of, joined, no_relayed}
 
 -- ---- it is accepted
@@ -86,9 +87,10 @@ module _ (old new : State) (from : SocketAddr) (bytes reply nonce : List ℕ) (n
   decided : (what : Verdict) → IsVerdict old from bytes now stream what reply new → IsUserAnswered old from bytes what user reply new
   decided what v =
       let theirs : Accepts old.auth from bytes v.algorithm v.name = subst (λ (s : Server). Accepts s from bytes v.algorithm v.name) same_server v.judged.accepts in
-      let names : v.name ≡ user.name = same_name old.auth from bytes v.algorithm user.algorithm v.name user.name one theirs accepts in
-      let algorithms : v.algorithm ≡ user.algorithm = same_algorithm old.auth from bytes v.algorithm user.algorithm v.name user.name one theirs accepts in
-      let passwords : v.password ≡ user.password = some_some v.password user.password (map.get old.auth.users user.name) (ap (map.get old.auth.users) (sym names) ∙ v.present) is.present in
+      let same = accepted_same old.auth from bytes v.algorithm user.algorithm v.name user.name one theirs accepts in
+      let names : v.name ≡ user.name = same.0 in
+      let algorithms : v.algorithm ≡ user.algorithm = same.1 in
+      let passwords : v.password ≡ user.password = inside (sym (ap (map.get old.auth.users) (sym names) ∙ v.present) ∙ is.present) in
       let they : Signatory = record { name = v.name; password = v.password; algorithm = v.algorithm } in
       let same : they ≡ user = λ i. record { name = names i; password = passwords i; algorithm = algorithms i } in
       subst (λ (u : Signatory). IsUserAnswered old from bytes what u reply new) same (record {

@@ -27,7 +27,7 @@ use Rattle.turn_desk_core.specs.State.{State}
 use Rattle.turn_desk_core.specs.Steps.{IsAnswer, IsChallenge, IsVerdict, unvalidated_party}
 use Rattle.turn_desk_core.specs.Verdicts.{verdict_on}
 use Rattle.turn_desk_steps.specs.Challenged.{HasSameSettings, IsFirstChallenge, challenge_of}
-use Rattle.turn_desk_steps.proofs.Judging.{some_some}
+use Rattle.stun_proto_server.proofs.Named.{inside}
 use Rattle.turn_desk_steps.proofs.Told.{challenge_read, takes_own}
 
 -- ---- why it is refused
@@ -96,7 +96,7 @@ module _ (old new : State) (from : SocketAddr) (bytes reply : List ℕ) (now : �
       let party : Party = unvalidated_party old.auth is.nonce in
       let made = drawn old.auth from now stream none in
       let kept : map.get new.auth.clients from ≡ Some made = ap (λ (s : Server). map.get s.clients from) is.judged.after ∙ keeps_drawn old.auth from now stream none in
-      let same : made.nonce ≡ is.nonce = some_some made.nonce is.nonce (nonce_at new.auth from) (ap (option_map (λ (c : Client). c.nonce)) kept) is.kept in
+      let same : made.nonce ≡ is.nonce = inside (sym (ap (option_map (λ (c : Client). c.nonce)) kept) ∙ is.kept) in
       let features : features_told is.nonce ≡ features_offered old.auth.algorithms old.auth.anonymous_username =
       ap features_told (sym same) ∙ features_told-nonce_text (features_offered old.auth.algorithms old.auth.anonymous_username) _ in
       let settings = settings_stay old.auth new.auth from now stream is.judged.after in
