@@ -1,5 +1,6 @@
 pub mod Adding
 pub mod Agents
+pub mod Alike
 pub mod Allocating
 pub mod Answered
 pub mod AnsweredSockets

@@ -6,14 +6,15 @@
 //! run, and leaves a sound client sound. A getter is no step, for nothing changes; nor are bytes that
 //! did not come from the server, or that are no message and give nothing of a peer. [`framed`] has the
 //! steps of what comes over TCP, [`sockets`] those of what comes over the sockets of connections to
-//! peers, [`added`] what a message may add to what is held, and [`definite`] that what a client does is
-//! determined.
+//! peers, [`added`] what a message may add to what is held, [`told`] that a client reads of a message
+//! what a run tells of it, and [`definite`] that what a client does is determined.
 #![tactic(auto)]
 
 pub mod added;
 pub mod definite;
 pub mod framed;
 pub mod sockets;
+pub mod told;
 
 // What stands above this crate has the calls through it.
 ghost use Rattle.std.specs.Prelude.{◌≤◌, ℕ, List, length, ◌≡◌, ◌++◌, Bool, true, [], ◌∷◌, Option, None, Some, Result, option_to_list};
