@@ -52,3 +52,7 @@ pub use Rattle.turn_client_proto_receipt.specs.Payload
 pub use Rattle.turn_client_proto_receipt.specs.RunClient
 pub use Rattle.turn_client_proto_receipt.specs.RunSteps
 pub use Rattle.turn_client_proto_receipt.specs.Sound
+pub use Rattle.turn_client_proto_unanswered.specs.Driving
+pub use Rattle.turn_client_proto_unanswered.specs.Promises
+pub use Rattle.turn_client_proto_unanswered.specs.Sent
+pub use Rattle.turn_client_proto_unanswered.specs.declared.driving.Stage

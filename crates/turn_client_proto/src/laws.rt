@@ -30,6 +30,8 @@
 //! where such a number is taken, because a response to it is awaited yet, a request has another one
 //! (RFC 8489, section 5).
 //!
+//! What becomes of a client to which nothing comes is one law ([`unanswered_clients_end`]).
+//!
 //! What comes in pieces. It does not matter where a stream is cut ([`cuts_do_not_matter`],
 //! [`cuts_of_sockets_do_not_matter`]); frames are taken in order ([`whole_frames_are_taken_in_order`]);
 //! and a client that has failed gives nothing ([`failed_clients_give_nothing`]).
@@ -65,6 +67,7 @@ pub use turn_client_proto_receipt::step_laws::{
     polls_are_steps, sends_are_steps, shown_addresses_are_held, shown_channels_are_held,
     shown_connections_are_held, shown_permissions_are_held, sockets_are_steps,
 };
+pub use turn_client_proto_unanswered::unanswered_clients_end;
 
 /// No two channels that a client shows have one number (RFC 8656, section 12). It is so where no two have
 /// that it keeps, of those that stand and of those that were asked for: so it is of a new client, and

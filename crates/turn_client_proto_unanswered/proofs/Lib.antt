@@ -1,0 +1,7 @@
+mod First
+mod Numbers
+mod Request
+mod Runs
+mod Slots
+mod Steps
+mod Waiting

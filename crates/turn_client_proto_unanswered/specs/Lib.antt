@@ -1,0 +1,3 @@
+pub mod Driving
+pub mod Promises
+pub mod Sent
