@@ -11,6 +11,10 @@ pub use Rattle.turn_desk_core.specs.Requests
 pub use Rattle.turn_desk_core.specs.State
 pub use Rattle.turn_desk_core.specs.Steps
 pub use Rattle.turn_desk_core.specs.Verdicts
+-- Those of how it comes to grant an allocation.
+pub use Rattle.turn_desk_handshake.specs.Challenged
+pub use Rattle.turn_desk_handshake.specs.Handshakes
+pub use Rattle.turn_desk_handshake.specs.Users
 -- Those of the runs of a world, and of the runs of any client and server.
 pub use Rattle.turn_desk_replay.specs.Copies
 pub use Rattle.turn_desk_replay.specs.Determined
