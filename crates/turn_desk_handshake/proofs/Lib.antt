@@ -1,1 +1,2 @@
 pub mod Requesting
+pub mod Succeeding

@@ -7,7 +7,9 @@ ghost use Rattle.std.specs.declared.net.socket_addr.SocketAddr.{SocketAddr};
 ghost use Rattle.rand_core.specs.Stream.{Stream};
 ghost use Rattle.stun_types.specs.declared.family.AddressFamily.{AddressFamily};
 ghost use Rattle.stun_types.specs.declared.transport.TransportType.{TransportType};
-ghost use Rattle.stun_proto.specs.Client.{Client, Standing, standing_of};
+ghost use Rattle.stun_proto.specs.Challenges.{challenge_shown};
+ghost use Rattle.stun_proto.specs.Client.{Client, Standing, standing_key, standing_of};
+ghost use Rattle.stun_proto.specs.Digests.{IsRight};
 ghost use Rattle.stun_proto.specs.Server.{Server, has_standing_nonce};
 ghost use Rattle.stun_proto.specs.Users.{HashesDiffer};
 ghost use Rattle.turn_client_proto_request.specs.ReadTexts.{HasReadTexts};
@@ -96,3 +98,13 @@ pub fn signed_allocates_are_granted()
     users_are_answered();
     allocations_are_granted();
 }
+
+/// The success by which an allocation is granted so is no challenge, and it is right under the key of that
+/// client: so the client accepts it (`client_laws` of `stun_proto`; RFC 8489, section 9.2.5).
+pub fn successes_are_right()
+    ensures { (old new : State) (from : SocketAddr) (bytes reply : List ℕ)
+        (transport : TransportType) (relayed : List SocketAddr) (lifetime : ℕ) (s : Standing)
+        → IsOfServer old.auth from s
+        → IsAllocationGranted old from bytes transport relayed lifetime (user_of s) reply new
+        → IsRight reply (standing_key s) × (challenge_shown reply ≡ None) }
+{}
