@@ -2,6 +2,7 @@
 pub use Rattle.turn_desk_core.specs.AskedFor
 pub use Rattle.turn_desk_core.specs.AuthLending
 pub use Rattle.turn_desk_core.specs.Decisions
+pub use Rattle.turn_desk_core.specs.DeskCalls
 pub use Rattle.turn_desk_core.specs.DeskIsolation
 pub use Rattle.turn_desk_core.specs.DeskSteps
 pub use Rattle.turn_desk_core.specs.Granted
@@ -16,6 +17,7 @@ pub use Rattle.turn_desk_handshake.specs.Challenged
 pub use Rattle.turn_desk_handshake.specs.Handshakes
 pub use Rattle.turn_desk_handshake.specs.Users
 -- Those of the runs of a world, and of the runs of any client and server.
+pub use Rattle.turn_desk_replay.specs.AddressRuns
 pub use Rattle.turn_desk_replay.specs.Copies
 pub use Rattle.turn_desk_replay.specs.Determined
 pub use Rattle.turn_desk_replay.specs.Headline

@@ -7,6 +7,7 @@ pub mod Replay
 pub mod Settings
 pub mod Wanted
 -- What stands above this crate has these through it.
+pub use Rattle.turn_desk_world.specs.AddressRuns
 pub use Rattle.turn_desk_world.specs.Copies
 pub use Rattle.turn_desk_world.specs.Determined
 pub use Rattle.turn_desk_world.specs.Headline

@@ -1,3 +1,4 @@
+pub mod AddressAlone
 pub mod Addresses
 pub mod Answered
 pub mod AtClient

@@ -1,4 +1,5 @@
 -- The definitions that the contracts of a world cite, each file under its own name; and those of the client below it.
+pub mod AddressRuns
 pub mod Calls
 pub mod Copies
 pub mod Desks
@@ -23,6 +24,7 @@ pub use Rattle.turn_client_proto.specs.Words
 pub use Rattle.turn_desk_steps.specs.AskedFor
 pub use Rattle.turn_desk_steps.specs.AuthLending
 pub use Rattle.turn_desk_steps.specs.Decisions
+pub use Rattle.turn_desk_steps.specs.DeskCalls
 pub use Rattle.turn_desk_steps.specs.DeskIsolation
 pub use Rattle.turn_desk_steps.specs.DeskSteps
 pub use Rattle.turn_desk_steps.specs.Features

@@ -18,12 +18,14 @@ ghost use Rattle.turn_client_proto.specs.Config.{Config};
 ghost use Rattle.turn_client_proto.specs.Control.{Datagrams, Open};
 ghost use Rattle.turn_client_proto.specs.Messages.{Allocation, Channel, Connection, Permission, Reported};
 ghost use Rattle.turn_client_proto.specs.Runs.{Step};
+ghost use Rattle.turn_desk_steps.specs.DeskCalls.{AreAlike as AreAlikeDesks};
 ghost use Rattle.turn_desk_steps.specs.DeskRun.{AreTold, DeskCall};
 ghost use Rattle.turn_desk_event.specs.declared.answer.Answer.{Answer};
 ghost use Rattle.turn_desk_event.specs.declared.answer.Answer.TheVariants as answer;
 ghost use Rattle.turn_desk_event.specs.declared.event.ClientCall.TheVariants as call;
 ghost use Rattle.turn_desk_event.specs.declared.event.Event.{Event};
 ghost use Rattle.turn_desk_event.specs.declared.event.Event.TheVariants.{Call, ToClient};
+ghost use Rattle.turn_desk_world.specs.AddressRuns.{AreAnsweredAlike, StandsAlone, come_from};
 ghost use Rattle.turn_desk_world.specs.Model.{World};
 ghost use Rattle.turn_desk_world.specs.Runs.{IsRun};
 ghost use Rattle.stun_types.specs.Headers.{AreBytes};
@@ -42,6 +44,7 @@ ghost use Rattle.turn_desk_world.specs.Safety.{BeginsNew, IsAccount, IsCarried, 
 ghost use Rattle.turn_desk_world.specs.Told.{IsReadBack, given_by};
 
 use std::convert::AsSlice;
+use turn_desk_steps::laws as desk_laws;
 
 /// A run in two parts is the run whole. Where some events were answered so, and then some others, all of
 /// them are answered so by one run; and where all are, some of them are first, and the others then.
@@ -242,3 +245,27 @@ pub fn receipts_are_steps<T: AsSlice<u8>>()
         → IsReceived T.items (over_udp c.core) came now answer new
         → IsGiving c (T.items came.bytes) (given_by (T.items came.bytes) answer) new.core }
 {}
+
+/// Addresses are apart in a world: what the desk answers and grants to an address is fixed by what reaches
+/// it from that address. Of any run, these events alone are answered the same in any world whose desk
+/// the address can't tell from the one of the run, whatever its client is, or where there is none; and
+/// the address can't tell the desk that is left from the one that the run left: the same was granted to
+/// it, in the same order. And two runs in which the same reaches such desks from an address give it the
+/// same answers, where no two users have the same USERHASH (RFC 8489, section 14.4).
+pub fn addresses_stand_alone()
+    ensures alone { (address : SocketAddr) (old other new : World)
+        (pairs : List (Event × Answer))
+        → AreAlikeDesks address old.desk other.desk
+        → IsRun old pairs new
+        → StandsAlone address other pairs new }
+    ensures fixed { (address : SocketAddr) (old other new left : World)
+        (pairs others : List (Event × Answer))
+        → AreAlikeDesks address old.desk other.desk
+        → HashesDiffer old.desk.auth
+        → HaveSameEvents (come_from address pairs) (come_from address others)
+        → IsRun old pairs new
+        → IsRun other others left
+        → AreAnsweredAlike address pairs others new left }
+{
+    desk_laws::addresses_stand_alone();
+}
