@@ -9,8 +9,8 @@ the end is the same (section 6.2.2).
 from streams_base import over
 from traces import MS, SECOND, Trace, first, setup
 
-# how long `poll` waits at most
-PAUSE = 9999 * SECOND
+# how long an agent with a request that isn't answered waits at most: an hour
+PAUSE = 3600 * SECOND
 
 # the first wait, the greatest, how many transmissions, and the last wait, in milliseconds
 SETTINGS = (
