@@ -1,0 +1,8 @@
+use Rattle.turn_client_proto_stages.proofs.Asking.{asking_again, asking_still}
+use Rattle.turn_client_proto_stages.proofs.asking_clients_wait.Goals as goal
+
+pub returns-clause-again : goal.returns-clause-again
+returns-clause-again c = λ b many last old new now sent is due drawn. asking_again b many last old is now sent new due drawn
+
+pub returns-clause-still : goal.returns-clause-still
+returns-clause-still c = λ b many last old new now sent is quiet drawn. asking_still b many last old is now sent new quiet drawn

@@ -1,0 +1,3 @@
+pub mod Asked
+pub mod Choosing
+pub mod Stages
