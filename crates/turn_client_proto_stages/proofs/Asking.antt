@@ -1,16 +1,28 @@
 -- A client that awaits the response to its first request.
 use Rattle.std.proofs.Common.{◌≡◌, ℕ, ◌+◌, ◌<◌, ◌≤◌, ◌^◌, ◌++◌, map as map_list, Bool, true, false, List, [], ◌∷◌, Option, Some, None, refl, sym, ap, ◌∙◌, subst, ◌⊎◌, inl, inr}
-use Rattle.std.specs.Prelude.{find}
+use Rattle.std.specs.Prelude.{◌==◌, ◌||◌, find}
 use Rattle.std.specs.Bool.{MatchBool}
+use Rattle.std.specs.FinMap as map
+use Rattle.std.specs.List.{list_any}
+use Rattle.std.proofs.lemmas.Bool.{eq-eqb}
+use Rattle.stun_types.specs.declared.family.AddressFamily.{AddressFamily}
+use Rattle.turn_client_proto_poll.specs.Api.declared.answer.TurnPollRet.{TurnPollRet}
+use Rattle.turn_client_proto_poll.specs.Api.declared.answer.TurnPollRet.TheVariants as answer
+use Rattle.turn_client_proto_poll.specs.Api.declared.event.TurnEvent.{TurnEvent}
+use Rattle.turn_client_proto_poll.specs.Api.declared.event.TurnEvent.TheVariants.{AllocationCreateFailed}
+use Rattle.turn_client_proto_poll.specs.Core.Ending.{HasFailed, ended}
+use Rattle.turn_client_proto_poll.specs.Polling.{IsPolled}
+use Rattle.turn_client_proto_poll.specs.Core.declared.protocol.Phase.TheVariants.{Ended}
 use Rattle.turn_client_proto_poll.specs.Core.Waiting.{Queued, is_answer}
 use Rattle.turn_client_proto_poll.specs.Core.declared.protocol.Phase.{Phase}
 use Rattle.turn_client_proto_poll.specs.Core.declared.protocol.Phase.TheVariants.{InitialSent}
 use Rattle.turn_client_proto_poll.specs.Core.declared.protocol.Protocol.{Protocol}
 use Rattle.turn_client_proto_poll.specs.Drawing.{IsAnswerSent, IsBegun, IsDrawn, IsFreshSent, IsNextSent, IsStill, Sent, after_sending, is_resting}
 use Rattle.stun_proto_agent.specs.Sending.{kept_under}
-use Rattle.turn_client_proto_stages.specs.Asked.{IsDue, IsOnlyAsked, IsQuiet, sent_of, transaction_of}
-use Rattle.turn_client_proto_stages.specs.Stages.{IsAsking, first_asked}
-use Rattle.turn_client_proto_stages.proofs.Only.{IsSentAgain, either, sent_again, sent_fresh}
+use Rattle.turn_client_proto_stages.specs.Asked.{IsDue, IsOnlyAsked, IsPatient, IsQuiet, end_of, sent_of, transaction_of}
+use Rattle.turn_client_proto_stages.specs.Stages.{HasEnded, IsAsking, failures, first_asked}
+use Rattle.turn_client_proto_stages.proofs.Only.{IsSentAgain, either, none_left, sent_again, sent_fresh}
+use Rattle.turn_client_proto_stages.proofs.Polls.{IsAwaiting, IsClosed, awaits, closes}
 use Rattle.turn_client_proto_unanswered.specs.Sent.{Beginning, first_number}
 
 module _ (b : Beginning) (many last : ℕ) (p : Protocol) (w : IsAsking b many last p) where
@@ -52,3 +64,41 @@ module _ (b : Beginning) (many last : ℕ) (p : Protocol) (w : IsAsking b many l
 
   pub asking_still : (now : ℕ) (sent : Option Sent) (q : Protocol) → IsQuiet b (first_asked b) many now → IsDrawn p now sent q → (sent ≡ None) × (q ≡ p)
   asking_still now sent q quiet is = nothing_fresh now sent q (sent_fresh b (first_asked b) many p w.settings w.asked now sent q quiet is)
+
+  -- ---- it is polled
+
+  unanswered : list_any is_answer p.queue ≡ false
+  unanswered = ap (list_any is_answer) w.queue
+
+  pub asking_waits : (now : ℕ) (ret : TurnPollRet) (q : Protocol) → now < end_of b (first_asked b) → IsPolled p now ret q → IsPatient b (first_asked b) many now p ret q
+  asking_waits now ret q before is =
+      (awaits p now ret q b (first_asked b) many w.settings w.asked (first_number b ∷ []) (inl w.phase) w.events unanswered before is).patient
+
+  -- a client that has ended, for want of a response
+  ended_so : HasEnded b (failures b) (ended (record p { agent = record p.agent { outstanding = map.remove p.agent.outstanding (first_number b) } }))
+  unfolding ended
+  ended_so = record {
+    settings = record {
+      server = w.settings.server;
+      transport = w.settings.transport;
+      here = w.settings.here;
+      waits = w.settings.waits;
+      allocates = w.settings.allocates;
+      families = w.settings.families;
+    };
+    none_asked = none_left b (first_asked b) many p w.settings w.asked;
+    phase = refl;
+    allocations = w.allocations;
+    queue = w.queue;
+    events_are = ap (λ (l : List TurnEvent). l ++ map_list AllocationCreateFailed p.families) w.events
+        ∙ ap (λ (l : List AddressFamily). map_list AllocationCreateFailed l) w.settings.families;
+  }
+
+  pub asking_ends : (now : ℕ) (ret : TurnPollRet) (q : Protocol) → end_of b (first_asked b) ≤ now → IsPolled p now ret q
+      → ((ret ≡ answer.Closed) × HasEnded b (failures b) q) ⊎ ((ret ≡ answer.NoMemory) × HasFailed p q)
+  asking_ends now ret q reached is =
+      let among : ((first_number b == first_number b) || false) ≡ true = ap (λ (x : Bool). x || false) (eq-eqb (first_number b) (first_number b) refl) in
+      elim (closes p now ret q b (first_asked b) many w.settings w.asked (first_number b ∷ []) (inl w.phase) w.events unanswered among reached is) [
+        | inl c ↦ inl (c.closed, subst (λ (x : Protocol). HasEnded b (failures b) x) (sym c.after) ended_so)
+        | inr failed ↦ inr failed
+      ]

@@ -1,2 +1,5 @@
 mod Asking
+mod First
 mod Only
+mod Polls
+mod Request

@@ -1,12 +1,32 @@
 //! The stages of a client in a handshake.
 #![tactic(auto)]
 
-ghost use Rattle.std.specs.Prelude.{◌≡◌, ◌≤◌, ◌+◌, ℕ, List, Option, Some, None};
+ghost use Rattle.std.specs.Prelude.{◌≡◌, ◌⊎◌, ◌≤◌, ◌<◌, ◌+◌, ℕ, List, Option, Some, None};
+ghost use Rattle.turn_client_proto_poll.specs.Api.declared.answer.TurnPollRet.{TurnPollRet};
+ghost use Rattle.turn_client_proto_poll.specs.Api.declared.answer.TurnPollRet.TheVariants.{Closed, NoMemory};
+ghost use Rattle.turn_client_proto_poll.specs.Core.Ending.{HasFailed};
 ghost use Rattle.turn_client_proto_poll.specs.Core.declared.protocol.Protocol.{Protocol};
 ghost use Rattle.turn_client_proto_poll.specs.Drawing.{IsDrawn, Sent};
-ghost use Rattle.turn_client_proto_stages.specs.Asked.{IsDue, IsQuiet, sent_of};
-ghost use Rattle.turn_client_proto_stages.specs.Stages.{IsAsking, first_asked};
-ghost use Rattle.turn_client_proto_unanswered.specs.Sent.{Beginning};
+ghost use Rattle.turn_client_proto_poll.specs.Polling.{IsPolled};
+ghost use Rattle.turn_client_proto_stages.specs.Asked.{IsDue, IsPatient, IsQuiet, end_of, sent_of};
+ghost use Rattle.turn_client_proto_stages.specs.Choosing.{Choice, HasTextName, IsChoice, IsSignedAllocate};
+ghost use Rattle.turn_client_proto_stages.specs.Stages.{HasEnded, IsAsking, failures, first_asked};
+ghost use Rattle.turn_client_proto_unanswered.specs.Sent.{Beginning, Begins, HasRoom};
+
+use turn_client_proto_poll::request::laws::{requests_are_read, signed_requests_claim, texts_stay_read, texts_stay_short};
+
+/// A client that nothing was asked of yet, drawn at a moment, sends its first request, an ALLOCATE
+/// without credentials (RFC 8489, section 9.2.3; RFC 8656, section 7.1), and then awaits the response.
+pub fn new_clients_ask()
+    ensures { (b : Beginning) (old new : Protocol) (sent : Option Sent)
+        → HasRoom b.config
+        → Begins b old
+        → IsDrawn old b.made sent new
+        → (sent ≡ Some (sent_of b (first_asked b))) × IsAsking b 1 b.made new }
+{
+    requests_are_read();
+    texts_stay_short();
+}
 
 pub fn asking_clients_wait()
     ensures again { (b : Beginning) (many last : ℕ) (old new : Protocol) (now : ℕ) (sent : Option Sent)
@@ -19,4 +39,30 @@ pub fn asking_clients_wait()
         → IsQuiet b (first_asked b) many now
         → IsDrawn old now sent new
         → (sent ≡ None) × (new ≡ old) }
+    ensures polled { (b : Beginning) (many last : ℕ) (old new : Protocol) (now : ℕ) (ret : TurnPollRet)
+        → IsAsking b many last old
+        → now < end_of b (first_asked b)
+        → IsPolled old now ret new
+        → IsPatient b (first_asked b) many now old ret new }
+    ensures ends { (b : Beginning) (many last : ℕ) (old new : Protocol) (now : ℕ) (ret : TurnPollRet)
+        → IsAsking b many last old
+        → end_of b (first_asked b) ≤ now
+        → IsPolled old now ret new
+        → ((ret ≡ Closed) × HasEnded b (failures b) new) ⊎ ((ret ≡ NoMemory) × HasFailed old new) }
 {}
+
+/// What the signed ALLOCATE is that answers a challenge: a message, a request of its number that asks for
+/// an allocation, right under the key of the credentials in the realm of the challenge, and it claims what
+/// the challenge asks for (RFC 8489, sections 9.2.3 and 9.2.5).
+pub fn signed_allocates_answer()
+    ensures { (b : Beginning) (c : Choice)
+        → HasRoom b.config
+        → HasTextName b.config
+        → IsChoice b c
+        → IsSignedAllocate b c }
+{
+    requests_are_read();
+    signed_requests_claim();
+    texts_stay_read();
+    texts_stay_short();
+}
