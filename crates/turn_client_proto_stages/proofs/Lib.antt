@@ -1,4 +1,5 @@
 mod Asking
+mod Challenged
 mod First
 mod Only
 mod Polls
