@@ -183,10 +183,20 @@ module _ (b : Beginning) (many last : ℕ) (p : Protocol) (w : IsAsking b many l
     abbrev pub choice : Choice
     choice = record { told = told; algorithm = h.algorithm; number = h.number; made = now }
 
+    -- it is a new number
+    new_number : h.number ≡ first_number b → ⊥
+    unfolding is_taken
+    new_number same =
+        let free = h.is_next.free in
+        let there : is_some (map.get p.agent.outstanding h.number) ≡ true = ap (λ (n : ℕ). is_some (map.get p.agent.outstanding n)) same ∙ ap is_some w.asked.there in
+        let taken : (is_some (map.get p.agent.outstanding h.number) || (awaits h.number p.phase || is_any_awaited h.number p.allocations)) ≡ true =
+        ap (λ (x : Bool). x || (awaits h.number p.phase || is_any_awaited h.number p.allocations)) there in
+        absurd (Prim.cc (sym taken ∙ free))
+
     chosen : IsChoice b choice
     chosen =
         let e = h.is_next.is in
-        record { message = bytes; shown = is.shown; answered = h.answered_by; fits = omega (arith, e) }
+        record { message = bytes; shown = is.shown; answered = h.answered_by; fits = omega (arith, e); new = new_number }
 
     abbrev client : auth.Client
     client = keeping p.auth told h.algorithm
@@ -202,16 +212,6 @@ module _ (b : Beginning) (many last : ℕ) (p : Protocol) (w : IsAsking b many l
 
     key_is : number_at text ≡ h.number
     key_is = ap number_at text_is ∙ numbered chosen
-
-    -- it is a new number
-    new_number : h.number ≡ first_number b → ⊥
-    unfolding is_taken
-    new_number same =
-        let free = h.is_next.free in
-        let there : is_some (map.get p.agent.outstanding h.number) ≡ true = ap (λ (n : ℕ). is_some (map.get p.agent.outstanding n)) same ∙ ap is_some w.asked.there in
-        let taken : (is_some (map.get p.agent.outstanding h.number) || (awaits h.number p.phase || is_any_awaited h.number p.allocations)) ≡ true =
-        ap (λ (x : Bool). x || (awaits h.number p.phase || is_any_awaited h.number p.allocations)) there in
-        absurd (Prim.cc (sym taken ∙ free))
 
     abbrev made : Transaction
     made = begun p.agent text p.server now

@@ -1,6 +1,9 @@
 mod Asking
 mod Challenged
+mod Ended
 mod First
+mod Granted
 mod Only
 mod Polls
 mod Request
+mod Signing

@@ -1,5 +1,5 @@
 -- How a client answers a challenge: by a signed ALLOCATE (RFC 8489, sections 9.2.3 and 9.2.5; RFC 8656, section 7.1).
-use Rattle.std.specs.Prelude.{◌≡◌, ◌<◌, ◌^◌, ℕ, List, true, None, Some}
+use Rattle.std.specs.Prelude.{◌≡◌, ◌≢◌, ◌<◌, ◌^◌, ℕ, List, true, None, Some}
 use Rattle.stun_types.specs.Grammar.{number_at, refusal}
 use Rattle.stun_types.specs.IntegrityAlgorithms.{IntegrityAlgorithm}
 use Rattle.stun_types.specs.ValueReading.{utf8_refusal}
@@ -71,12 +71,13 @@ signed_asked b c = record { number = c.number; bytes = signed_request b c; made 
 abbrev pub signed_sent : Beginning → Choice → Sent
 signed_sent b c = sent_of b (signed_asked b c)
 
--- a choice that answers a challenge which a message was
+-- a choice that answers a challenge which a message was, by a request of a number of its own
 pub record IsChoice (b : Beginning) (c : Choice) : Type 0 where
   pub message : List ℕ
   pub shown : challenge_shown message ≡ Some c.told
   pub answered : IsAnsweredBy b.config c.told c.algorithm
   pub fits : c.number < 2 ^ 96
+  pub new : c.number ≢ first_number b
 
 -- the name of the user is a text
 abbrev pub HasTextName : Config → Type 0

@@ -1,20 +1,27 @@
 //! The stages of a client in a handshake.
 #![tactic(auto)]
 
-ghost use Rattle.std.specs.Prelude.{◌≡◌, ◌⊎◌, ◌≤◌, ◌<◌, ◌+◌, ℕ, Bool, true, List, Option, Some, None};
+ghost use Rattle.std.specs.Prelude.{◌≡◌, ◌⊎◌, ◌≤◌, ◌<◌, ◌+◌, ◌++◌, ℕ, Bool, true, false, List};
+ghost use Rattle.std.specs.Prelude.{Option, Some, None, option_to_list};
+ghost use Rattle.std.specs.declared.net.socket_addr.SocketAddr.{SocketAddr};
 ghost use Rattle.stun_proto.specs.Challenges.{Told};
+ghost use Rattle.stun_proto_agent.specs.Moments.{moment_after};
 ghost use Rattle.stun_types.specs.IntegrityAlgorithms.{IntegrityAlgorithm};
 ghost use Rattle.turn_client_proto_poll.specs.Api.declared.answer.TurnPollRet.{TurnPollRet};
 ghost use Rattle.turn_client_proto_poll.specs.Api.declared.answer.TurnPollRet.TheVariants.{Closed, NoMemory};
+ghost use Rattle.turn_client_proto_poll.specs.Api.declared.event.TurnEvent.{TurnEvent};
 ghost use Rattle.turn_client_proto_poll.specs.Core.Ending.{HasFailed};
 ghost use Rattle.turn_client_proto_poll.specs.Core.Receiving.{IsHeard};
+ghost use Rattle.turn_client_proto_poll.specs.Core.Waiting.{Queued};
 ghost use Rattle.turn_client_proto_poll.specs.Core.declared.protocol.Protocol.{Protocol};
 ghost use Rattle.turn_client_proto_poll.specs.Drawing.{IsDrawn, Sent};
-ghost use Rattle.turn_client_proto_poll.specs.Polling.{IsPolled};
+ghost use Rattle.turn_client_proto_poll.specs.Polling.{IsPolled, cadence};
 ghost use Rattle.turn_client_proto_stages.specs.Asked.{IsDue, IsPatient, IsQuiet, end_of, sent_of};
 ghost use Rattle.turn_client_proto_stages.specs.Choosing.{Choice, HasTextName, IsAnsweredBy, IsBarring, IsChallenge};
-ghost use Rattle.turn_client_proto_stages.specs.Choosing.{IsChoice, IsSignedAllocate};
-ghost use Rattle.turn_client_proto_stages.specs.Stages.{HasChosen, HasEnded, IsAsking, failures, first_asked};
+ghost use Rattle.turn_client_proto_stages.specs.Choosing.{IsChoice, IsSignedAllocate, signed_asked, signed_sent};
+ghost use Rattle.turn_client_proto_stages.specs.Stages.{AsksForOne, HasChosen, HasEnded, HasSigned, Holds};
+ghost use Rattle.turn_client_proto_stages.specs.Stages.{IsGrant, IsSigning, answer_at_end, IsAsking, failures, first_asked};
+ghost use Rattle.turn_client_proto_unanswered.specs.Driving.{IsEventTaken};
 ghost use Rattle.turn_client_proto_unanswered.specs.Sent.{Beginning, Begins, HasRoom};
 
 use turn_client_proto_poll::request::laws::{requests_are_read, signed_requests_claim, texts_stay_read, texts_stay_short};
@@ -92,6 +99,101 @@ pub fn challenges_are_answered()
     requests_are_read();
     texts_stay_short();
 }
+
+/// A client that answered a challenge, before the signed request is drawn from what waits.
+pub fn chosen_clients_sign()
+    ensures again { (b : Beginning) (c : Choice) (many last : ℕ) (old new : Protocol) (now : ℕ)
+        (sent : Option Sent)
+        → HasChosen b c many last old
+        → IsDue b (signed_asked b c) many now
+        → IsDrawn old now sent new
+        → (sent ≡ Some (signed_sent b c)) × HasChosen b c (many + 1) now new }
+    ensures rests { (b : Beginning) (c : Choice) (many last : ℕ) (old new : Protocol) (now : ℕ)
+        (sent : Option Sent)
+        → HasChosen b c many last old
+        → IsQuiet b (signed_asked b c) many now
+        → now < moment_after last cadence
+        → IsDrawn old now sent new
+        → (sent ≡ None) × (new ≡ old) }
+    ensures signs { (b : Beginning) (c : Choice) (many last : ℕ) (old new : Protocol) (now : ℕ)
+        (sent : Option Sent)
+        → HasChosen b c many last old
+        → IsQuiet b (signed_asked b c) many now
+        → moment_after last cadence ≤ now
+        → IsDrawn old now sent new
+        → (sent ≡ Some (signed_sent b c)) × HasSigned b c many now new }
+    ensures polled { (b : Beginning) (c : Choice) (many last : ℕ) (old new : Protocol) (now : ℕ)
+        (ret : TurnPollRet)
+        → HasChosen b c many last old
+        → now < end_of b (signed_asked b c)
+        → IsPolled old now ret new
+        → (patient : IsPatient b (signed_asked b c) many now old ret new)
+        × (patient.moment ≤ moment_after last cadence) }
+{}
+
+/// A client whose signed request was drawn awaits the response as [`asking_clients_wait`] says it of the
+/// first one.
+pub fn signed_clients_wait()
+    ensures again { (b : Beginning) (c : Choice) (many last : ℕ) (old new : Protocol) (now : ℕ)
+        (sent : Option Sent)
+        → HasSigned b c many last old
+        → IsDue b (signed_asked b c) many now
+        → IsDrawn old now sent new
+        → (sent ≡ Some (signed_sent b c)) × HasSigned b c (many + 1) now new }
+    ensures still { (b : Beginning) (c : Choice) (many last : ℕ) (old new : Protocol) (now : ℕ)
+        (sent : Option Sent)
+        → HasSigned b c many last old
+        → IsQuiet b (signed_asked b c) many now
+        → IsDrawn old now sent new
+        → (sent ≡ None) × (new ≡ old) }
+    ensures polled { (b : Beginning) (c : Choice) (many last : ℕ) (old new : Protocol) (now : ℕ)
+        (ret : TurnPollRet)
+        → HasSigned b c many last old
+        → now < end_of b (signed_asked b c)
+        → IsPolled old now ret new
+        → IsPatient b (signed_asked b c) many now old ret new }
+    ensures ends { (b : Beginning) (c : Choice) (many last : ℕ) (old new : Protocol) (now : ℕ)
+        (ret : TurnPollRet)
+        → HasSigned b c many last old
+        → end_of b (signed_asked b c) ≤ now
+        → IsPolled old now ret new
+        → ((ret ≡ Closed) × HasEnded b (failures b) new) ⊎ ((ret ≡ NoMemory) × HasFailed old new) }
+{}
+
+/// The success of its signed request comes to a client that has signed.
+pub fn granted_clients_hold()
+    ensures { (b : Beginning) (c : Choice) (many last : ℕ) (queue : List Queued) (old new : Protocol)
+        (address : SocketAddr) (lifetime : ℕ) (bytes : List ℕ) (now : ℕ) (handled : Bool)
+        → IsSigning b c many last queue old
+        → AsksForOne b address
+        → IsGrant b c address lifetime bytes
+        → IsHeard old bytes now handled new
+        → (handled ≡ true) × Holds b c address lifetime now last queue new }
+{}
+
+/// A client that has ended.
+pub fn ended_clients_rest()
+    ensures drawn { (b : Beginning) (events : List TurnEvent) (old new : Protocol) (now : ℕ)
+        (sent : Option Sent)
+        → HasEnded b events old
+        → IsDrawn old now sent new
+        → (sent ≡ None) × (new ≡ old) }
+    ensures polled { (b : Beginning) (events : List TurnEvent) (old new : Protocol) (now : ℕ)
+        (ret : TurnPollRet)
+        → HasEnded b events old
+        → IsPolled old now ret new
+        → (ret ≡ answer_at_end events now) × (new ≡ old) }
+    ensures heard { (b : Beginning) (events : List TurnEvent) (old new : Protocol) (bytes : List ℕ)
+        (now : ℕ) (handled : Bool)
+        → HasEnded b events old
+        → IsHeard old bytes now handled new
+        → (handled ≡ false) × (new ≡ old) }
+    ensures told { (b : Beginning) (events : List TurnEvent) (old new : Protocol)
+        (event : Option TurnEvent)
+        → HasEnded b events old
+        → IsEventTaken old event new
+        → (left : List TurnEvent) × (events ≡ option_to_list event ++ left) × HasEnded b left new }
+{}
 
 /// What the signed ALLOCATE is that answers a challenge: a message, a request of its number that asks for
 /// an allocation, right under the key of the credentials in the realm of the challenge, and it claims what
