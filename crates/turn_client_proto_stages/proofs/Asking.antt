@@ -32,6 +32,7 @@ module _ (b : Beginning) (many last : ℕ) (p : Protocol) (w : IsAsking b many l
   again_after now only = record {
     settings = record {
       server = w.settings.server;
+      remote = w.settings.remote;
       transport = w.settings.transport;
       here = w.settings.here;
       waits = w.settings.waits;
@@ -80,6 +81,7 @@ module _ (b : Beginning) (many last : ℕ) (p : Protocol) (w : IsAsking b many l
   ended_so = record {
     settings = record {
       server = w.settings.server;
+      remote = w.settings.remote;
       transport = w.settings.transport;
       here = w.settings.here;
       waits = w.settings.waits;

@@ -158,6 +158,7 @@ module _ (b : Beginning) (many last : ℕ) (p : Protocol) (w : IsAsking b many l
   over_after = record {
     settings = record {
       server = w.settings.server;
+      remote = w.settings.remote;
       transport = w.settings.transport;
       here = w.settings.here;
       waits = w.settings.waits;
@@ -259,6 +260,7 @@ module _ (b : Beginning) (many last : ℕ) (p : Protocol) (w : IsAsking b many l
     chooses_after = record {
       settings = record {
         server = w.settings.server;
+        remote = ap (λ (y : agents.Agent). y.remote) both_after ∙ w.settings.remote;
         transport = ap (λ (y : agents.Agent). y.transport) both_after ∙ w.settings.transport;
         here = ap (λ (y : agents.Agent). y.here) both_after ∙ w.settings.here;
         waits = ap (λ (y : agents.Agent). y.waits) both_after ∙ w.settings.waits;

@@ -43,6 +43,7 @@ module _ (b : Beginning) (events : List TurnEvent) (p : Protocol) (w : HasEnded 
         subst (λ (x : Protocol). HasEnded b q.events x) (sym is.others) (record {
           settings = record {
             server = w.settings.server;
+            remote = w.settings.remote;
             transport = w.settings.transport;
             here = w.settings.here;
             waits = w.settings.waits;

@@ -28,6 +28,11 @@ use Rattle.turn_client_proto_poll.specs.Request.declared.request.TurnRequest.The
 use Rattle.turn_client_proto_stages.specs.Asked.{IsOnlyAsked, sent_of, transaction_of}
 use Rattle.turn_client_proto_stages.specs.Stages.{IsAsking, first_asked}
 use Rattle.turn_client_proto_stages.proofs.Only.{clash, put_or, put_there}
+use Rattle.turn_client_proto_stages.proofs.Polls.{idles, is_ticked, pause, refused_or}
+use Rattle.turn_client_proto_poll.specs.Api.declared.answer.TurnPollRet.{TurnPollRet}
+use Rattle.turn_client_proto_poll.specs.Api.declared.answer.TurnPollRet.TheVariants as answer
+use Rattle.turn_client_proto_poll.specs.Polling.{HasToTellIn, IsPolled, IsPolledIn, ended_of, wait_of}
+use Rattle.std.specs.List.{list_any}
 use Rattle.turn_client_proto_unanswered.specs.Sent.{Beginning, Begins, first_number, first_request}
 
 -- what is sent, where something is
@@ -93,6 +98,7 @@ module _ (b : Beginning) (p : Protocol) (is : Begins b p) where
       record {
         settings = record {
           server = is.server_is;
+          remote = ap (λ (a : agents.Agent). a.remote) is.agent;
           transport = ap (λ (a : agents.Agent). a.transport) is.agent;
           here = ap (λ (a : agents.Agent). a.here) is.agent;
           waits = ap (λ (a : agents.Agent). a.waits) is.agent;
@@ -132,3 +138,18 @@ module _ (b : Beginning) (p : Protocol) (is : Begins b p) where
       let begins = subst (λ (f : Phase). IsBegun f p b.made sent q) is.phase empty in
       let one = sends_one sent (λ (s : Sent). IsFirstSent p b.made s q) begins in
       asked_by shown sent q one.0 one.1 one.2
+
+  -- ---- it is polled before
+
+  pub first_polled : (now : ℕ) (ret : TurnPollRet) (q : Protocol) → IsPolled p now ret q → (ret ≡ answer.WaitUntil now) × (q ≡ p)
+  first_polled now ret q polled =
+      let none : (number : ℕ) → map.get p.agent.outstanding number ≡ None = λ number. ap (λ (a : agents.Agent). map.get a.outstanding number) is.agent ∙ map.get-empty nat_cmp number in
+      elim (refused_or p now ret q polled) [
+        | inl by ↦ (
+            let k = is_ticked p now ret q is.events (ap (list_any is_answer) is.queue) by in
+            let idle = idles p now ret q none k.ticked k.agent k.is_ticked in
+            let here = subst (λ (f : Phase). IsPolledIn f (ended_of k.ticked) (wait_of (pause p now ret q) k.ticked) (record p { agent = k.agent }) now ret q) is.phase k.outcome in
+            (here.0, here.1 ∙ ap (λ (y : agents.Agent). record p { agent = y }) idle.unchanged))
+        | inr refused ↦ (let k = refused.1.has_to_tell in
+            absurd (subst (λ (f : Phase). HasToTellIn f (ended_of k.ticked) (record p { agent = k.agent }) now) is.phase k.tells))
+      ]

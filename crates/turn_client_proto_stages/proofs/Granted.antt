@@ -45,7 +45,7 @@ use Rattle.turn_client_proto_poll.specs.Response.Granting.{allocations_of, famil
 use Rattle.turn_client_proto_poll.specs.Response.Telling.{created}
 use Rattle.turn_client_proto_poll.specs.Response.Told.{lifetime_told, relayed_told}
 use Rattle.turn_client_proto_stages.specs.Choosing.{Choice, signed_asked, signer_by, standing_by}
-use Rattle.turn_client_proto_stages.specs.Stages.{AsksForOne, Holds, IsGrant, IsSigning}
+use Rattle.turn_client_proto_stages.specs.Stages.{AsksForOne, Holds, IsGrant, IsSigning, created as created_told}
 use Rattle.turn_client_proto_stages.proofs.Only.{none_left, where_true}
 use Rattle.turn_client_proto_unanswered.specs.Sent.{Beginning, first_number}
 
@@ -151,7 +151,7 @@ module _ (b : Beginning) (c : Choice) (many last : ℕ) (queue : List Queued) (p
         ∙ ap (λ (l : List Allocation). map_list created l ++ []) all_is)
 
     -- the client that holds it
-    holds_after : Holds b c address lifetime now last queue (record p {
+    holds_after : Holds b c address lifetime now last queue (created_told b address) (record p {
       auth = h.client;
       agent = answered_by p.agent bytes p.server;
       phase = phase_by all;
@@ -162,6 +162,7 @@ module _ (b : Beginning) (c : Choice) (many last : ℕ) (queue : List Queued) (p
     holds_after = record {
       settings = record {
         server = w.settings.server;
+        remote = w.settings.remote;
         transport = w.settings.transport;
         here = w.settings.here;
         waits = w.settings.waits;
@@ -175,12 +176,12 @@ module _ (b : Beginning) (c : Choice) (many last : ℕ) (queue : List Queued) (p
       shown = ap relayed_shown all_is;
       queue_is = w.queue_is;
       last_send = w.last_send;
-      events = events_are;
+      events_are = events_are;
       closing = w.closing;
       resends = refl;
     }
 
-    pub holds : Holds b c address lifetime now last queue q
+    pub holds : Holds b c address lifetime now last queue (created_told b address) q
     unfolding allocated accepted
-    holds = subst (λ (x : Protocol). Holds b c address lifetime now last queue x)
+    holds = subst (λ (x : Protocol). Holds b c address lifetime now last queue (created_told b address) x)
         (sym (h.after ∙ ap (λ (y : agents.Agent). allocated (brought (record p { auth = h.client; agent = y; resends = 0 }) bytes lifetime now) (record p { auth = h.client; agent = y; resends = 0 })) agent_after)) holds_after

@@ -7,3 +7,4 @@ mod Only
 mod Polls
 mod Request
 mod Signing
+mod Told

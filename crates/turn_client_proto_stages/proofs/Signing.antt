@@ -37,6 +37,7 @@ module _ (b : Beginning) (c : Choice) (many last : ℕ) (queue : List Queued) (p
   again_after now only = record {
     settings = record {
       server = w.settings.server;
+      remote = w.settings.remote;
       transport = w.settings.transport;
       here = w.settings.here;
       waits = w.settings.waits;
@@ -101,6 +102,7 @@ module _ (b : Beginning) (c : Choice) (many last : ℕ) (p : Protocol) (w : HasC
   signed_after now = record {
     settings = record {
       server = w.settings.server;
+      remote = w.settings.remote;
       transport = w.settings.transport;
       here = w.settings.here;
       waits = w.settings.waits;
@@ -159,6 +161,7 @@ module _ (b : Beginning) (c : Choice) (many last : ℕ) (p : Protocol) (w : HasS
   ended_so = record {
     settings = record {
       server = w.settings.server;
+      remote = w.settings.remote;
       transport = w.settings.transport;
       here = w.settings.here;
       waits = w.settings.waits;

@@ -30,9 +30,10 @@ use Rattle.turn_client_proto_unanswered.specs.Sent.{Beginning, first_number, fir
 
 -- ---- what no stage changes
 
--- the server, the client's own address and transport, its waits, and what it asks for
+-- the server, the client's own address and transport, its waits, and what it asks for; it has not failed
 pub record IsOf (b : Beginning) (p : Protocol) : Type 0 where
   pub server : p.server ≡ b.server
+  pub remote : p.agent.remote ≡ Some b.server
   pub transport : p.agent.transport ≡ b.transport
   pub here : p.agent.here ≡ b.here
   pub waits : p.agent.waits ≡ b.config.waits
@@ -99,9 +100,10 @@ pub record IsGrant (b : Beginning) (c : Choice) (address : SocketAddr) (lifetime
 abbrev pub AsksForOne : Beginning → SocketAddr → Type 0
 AsksForOne b address = b.config.families ≡ family_of_socket address ∷ []
 
--- the client holds that allocation, for that lifetime from a moment on, and tells of it alone; no request is outstanding
+-- the client holds that allocation alone, for that lifetime from a moment on; no request is outstanding, this waits to be
+-- sent, and these events to be told
 pub record Holds (b : Beginning) (c : Choice) (address : SocketAddr) (lifetime now last : ℕ) (queue : List Queued)
-    (p : Protocol) : Type 0 where
+    (events : List TurnEvent) (p : Protocol) : Type 0 where
   pub settings : IsOf b p
   pub none_asked : (number : ℕ) → finite.get p.agent.outstanding number ≡ None
   pub phase : p.phase ≡ Authenticated
@@ -110,9 +112,13 @@ pub record Holds (b : Beginning) (c : Choice) (address : SocketAddr) (lifetime n
   pub shown : relayed_shown p.allocations ≡ (b.config.transport, address) ∷ []
   pub queue_is : p.queue ≡ queue
   pub last_send : p.last_send ≡ Some last
-  pub events : p.events ≡ AllocationCreated b.config.transport address ∷ []
+  pub events_are : p.events ≡ events
   pub closing : p.closing ≡ []
   pub resends : p.resends ≡ 0
+
+-- what is told of it
+abbrev pub created : Beginning → SocketAddr → List TurnEvent
+created b address = AllocationCreated b.config.transport address ∷ []
 
 -- ---- the end
 

@@ -8,7 +8,7 @@ ghost use Rattle.stun_proto.specs.Challenges.{Told};
 ghost use Rattle.stun_proto_agent.specs.Moments.{moment_after};
 ghost use Rattle.stun_types.specs.IntegrityAlgorithms.{IntegrityAlgorithm};
 ghost use Rattle.turn_client_proto_poll.specs.Api.declared.answer.TurnPollRet.{TurnPollRet};
-ghost use Rattle.turn_client_proto_poll.specs.Api.declared.answer.TurnPollRet.TheVariants.{Closed, NoMemory};
+ghost use Rattle.turn_client_proto_poll.specs.Api.declared.answer.TurnPollRet.TheVariants.{Closed, NoMemory, WaitUntil};
 ghost use Rattle.turn_client_proto_poll.specs.Api.declared.event.TurnEvent.{TurnEvent};
 ghost use Rattle.turn_client_proto_poll.specs.Core.Ending.{HasFailed};
 ghost use Rattle.turn_client_proto_poll.specs.Core.Receiving.{IsHeard};
@@ -20,7 +20,7 @@ ghost use Rattle.turn_client_proto_stages.specs.Asked.{IsDue, IsPatient, IsQuiet
 ghost use Rattle.turn_client_proto_stages.specs.Choosing.{Choice, HasTextName, IsAnsweredBy, IsBarring, IsChallenge};
 ghost use Rattle.turn_client_proto_stages.specs.Choosing.{IsChoice, IsSignedAllocate, signed_asked, signed_sent};
 ghost use Rattle.turn_client_proto_stages.specs.Stages.{AsksForOne, HasChosen, HasEnded, HasSigned, Holds};
-ghost use Rattle.turn_client_proto_stages.specs.Stages.{IsGrant, IsSigning, answer_at_end, IsAsking, failures, first_asked};
+ghost use Rattle.turn_client_proto_stages.specs.Stages.{IsGrant, IsSigning, answer_at_end, created, IsAsking, failures, first_asked};
 ghost use Rattle.turn_client_proto_unanswered.specs.Driving.{IsEventTaken};
 ghost use Rattle.turn_client_proto_unanswered.specs.Sent.{Beginning, Begins, HasRoom};
 
@@ -29,11 +29,15 @@ use turn_client_proto_poll::request::laws::{requests_are_read, signed_requests_c
 /// A client that nothing was asked of yet, drawn at a moment, sends its first request, an ALLOCATE
 /// without credentials (RFC 8489, section 9.2.3; RFC 8656, section 7.1), and then awaits the response.
 pub fn new_clients_ask()
-    ensures { (b : Beginning) (old new : Protocol) (sent : Option Sent)
+    ensures drawn { (b : Beginning) (old new : Protocol) (sent : Option Sent)
         → HasRoom b.config
         → Begins b old
         → IsDrawn old b.made sent new
         → (sent ≡ Some (sent_of b (first_asked b))) × IsAsking b 1 b.made new }
+    ensures polled { (b : Beginning) (old new : Protocol) (now : ℕ) (ret : TurnPollRet)
+        → Begins b old
+        → IsPolled old now ret new
+        → (ret ≡ WaitUntil now) × (new ≡ old) }
 {
     requests_are_read();
     texts_stay_short();
@@ -168,7 +172,7 @@ pub fn granted_clients_hold()
         → AsksForOne b address
         → IsGrant b c address lifetime bytes
         → IsHeard old bytes now handled new
-        → (handled ≡ true) × Holds b c address lifetime now last queue new }
+        → (handled ≡ true) × Holds b c address lifetime now last queue (created b address) new }
 {}
 
 /// A client that has ended.
@@ -193,6 +197,29 @@ pub fn ended_clients_rest()
         → HasEnded b events old
         → IsEventTaken old event new
         → (left : List TurnEvent) × (events ≡ option_to_list event ++ left) × HasEnded b left new }
+{}
+
+/// What `poll_event` gives at each stage.
+pub fn stages_are_told()
+    ensures fresh { (b : Beginning) (old new : Protocol) (event : Option TurnEvent)
+        → Begins b old
+        → IsEventTaken old event new
+        → (event ≡ None) × (new ≡ old) }
+    ensures asking { (b : Beginning) (many last : ℕ) (old new : Protocol) (event : Option TurnEvent)
+        → IsAsking b many last old
+        → IsEventTaken old event new
+        → (event ≡ None) × (new ≡ old) }
+    ensures signing { (b : Beginning) (c : Choice) (many last : ℕ) (queue : List Queued)
+        (old new : Protocol) (event : Option TurnEvent)
+        → IsSigning b c many last queue old
+        → IsEventTaken old event new
+        → (event ≡ None) × (new ≡ old) }
+    ensures held { (b : Beginning) (c : Choice) (address : SocketAddr) (lifetime now last : ℕ)
+        (queue : List Queued) (events : List TurnEvent) (old new : Protocol) (event : Option TurnEvent)
+        → Holds b c address lifetime now last queue events old
+        → IsEventTaken old event new
+        → (left : List TurnEvent) × (events ≡ option_to_list event ++ left)
+        × Holds b c address lifetime now last queue left new }
 {}
 
 /// What the signed ALLOCATE is that answers a challenge: a message, a request of its number that asks for
