@@ -1,5 +1,6 @@
 mod Asking
 mod Challenged
+mod Coming
 mod Ended
 mod First
 mod Granted

@@ -1,3 +1,4 @@
 pub mod Asked
 pub mod Choosing
+pub mod Coming
 pub mod Stages

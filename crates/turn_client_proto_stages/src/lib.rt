@@ -1,12 +1,21 @@
 //! The stages of a client in a handshake.
 #![tactic(auto)]
 
-ghost use Rattle.std.specs.Prelude.{◌≡◌, ◌⊎◌, ◌≤◌, ◌<◌, ◌+◌, ◌++◌, ℕ, Bool, true, false, List};
+ghost use Rattle.std.specs.Prelude.{◌≡◌, ◌≢◌, ◌⊎◌, [], ◌≤◌, ◌<◌, ◌+◌, ◌++◌, ℕ, Bool, true, false, List};
 ghost use Rattle.std.specs.Prelude.{Option, Some, None, option_to_list};
 ghost use Rattle.std.specs.declared.net.socket_addr.SocketAddr.{SocketAddr};
 ghost use Rattle.stun_proto.specs.Challenges.{Told};
 ghost use Rattle.stun_proto_agent.specs.Moments.{moment_after};
 ghost use Rattle.stun_types.specs.IntegrityAlgorithms.{IntegrityAlgorithm};
+ghost use Rattle.stun_types.specs.Grammar.{refusal};
+ghost use Rattle.stun_types.specs.declared.transmit.Transmit.{Transmit};
+ghost use Rattle.turn_types.specs.Streams.{alive};
+ghost use Rattle.turn_client_proto_receipt.specs.Api.Payloads.{PeerPayload};
+ghost use Rattle.turn_client_proto_receipt.specs.Api.declared.answer.TurnRecvRet.{TurnRecvRet};
+ghost use Rattle.turn_client_proto_receipt.specs.Api.declared.answer.TurnRecvRet.TheVariants.{Handled};
+ghost use Rattle.turn_client_proto_receipt.specs.Control.{Datagrams, Open};
+ghost use Rattle.turn_client_proto_receipt.specs.Kept.{Kept};
+ghost use Rattle.turn_client_proto_receipt.specs.Receipts.{IsReceived, IsWaitingGiven};
 ghost use Rattle.turn_client_proto_poll.specs.Api.declared.answer.TurnPollRet.{TurnPollRet};
 ghost use Rattle.turn_client_proto_poll.specs.Api.declared.answer.TurnPollRet.TheVariants.{Closed, NoMemory, WaitUntil};
 ghost use Rattle.turn_client_proto_poll.specs.Api.declared.event.TurnEvent.{TurnEvent};
@@ -19,11 +28,14 @@ ghost use Rattle.turn_client_proto_poll.specs.Polling.{IsPolled, cadence};
 ghost use Rattle.turn_client_proto_stages.specs.Asked.{IsDue, IsPatient, IsQuiet, end_of, sent_of};
 ghost use Rattle.turn_client_proto_stages.specs.Choosing.{Choice, HasTextName, IsAnsweredBy, IsBarring, IsChallenge};
 ghost use Rattle.turn_client_proto_stages.specs.Choosing.{IsChoice, IsSignedAllocate, signed_asked, signed_sent};
+ghost use Rattle.turn_client_proto_stages.specs.Coming.{HasCome, IsFromServer, IsHeardAs, IsLost};
+ghost use Rattle.turn_client_proto_stages.specs.Coming.{IsPartOf, IsUnserved};
 ghost use Rattle.turn_client_proto_stages.specs.Stages.{AsksForOne, HasChosen, HasEnded, HasSigned, Holds};
 ghost use Rattle.turn_client_proto_stages.specs.Stages.{IsGrant, IsSigning, answer_at_end, created, IsAsking, failures, first_asked};
 ghost use Rattle.turn_client_proto_unanswered.specs.Driving.{IsEventTaken};
 ghost use Rattle.turn_client_proto_unanswered.specs.Sent.{Beginning, Begins, HasRoom};
 
+use std::convert::AsSlice;
 use turn_client_proto_poll::request::laws::{requests_are_read, signed_requests_claim, texts_stay_read, texts_stay_short};
 
 /// A client that nothing was asked of yet, drawn at a moment, sends its first request, an ALLOCATE
@@ -220,6 +232,49 @@ pub fn stages_are_told()
         → IsEventTaken old event new
         → (left : List TurnEvent) × (events ≡ option_to_list event ++ left)
         × Holds b c address lifetime now last queue left new }
+{}
+
+/// How a message of the server's comes to a client to which the server has allocated nothing.
+pub fn messages_reach_clients<T: AsSlice<u8>>()
+    ensures datagram { (b : Beginning) (old new : Kept) (came : Transmit T) (now : ℕ) (answer : TurnRecvRet T)
+        → IsUnserved b old.core
+        → old.control ≡ Datagrams
+        → IsFromServer b came
+        → refusal (T.items came.bytes) ≡ None
+        → IsReceived T.items old came now answer new
+        → IsHeardAs old (T.items came.bytes) came now Datagrams answer new ⊎ IsLost old came answer new }
+    ensures piece { (b : Beginning) (old new : Kept) (came : Transmit T) (now : ℕ) (answer : TurnRecvRet T)
+        (before message : List ℕ)
+        → IsUnserved b old.core
+        → HasCome before old
+        → IsFromServer b came
+        → T.items came.bytes ≢ []
+        → IsPartOf (before ++ T.items came.bytes) message
+        → IsReceived T.items old came now answer new
+        → ((answer ≡ Handled) × (new.core ≡ old.core) × HasCome (before ++ T.items came.bytes) new)
+        ⊎ IsLost old came answer new }
+    ensures whole { (b : Beginning) (old new : Kept) (came : Transmit T) (now : ℕ) (answer : TurnRecvRet T)
+        (before : List ℕ)
+        → IsUnserved b old.core
+        → HasCome before old
+        → IsFromServer b came
+        → T.items came.bytes ≢ []
+        → refusal (before ++ T.items came.bytes) ≡ None
+        → IsReceived T.items old came now answer new
+        → IsHeardAs old (before ++ T.items came.bytes) came now (Open (alive [])) answer new
+        ⊎ IsLost old came answer new }
+    ensures asked { (b : Beginning) (old new : Kept) (now : ℕ) (given : Option PeerPayload)
+        (before message : List ℕ)
+        → IsUnserved b old.core
+        → HasCome before old
+        → IsPartOf before message
+        → IsWaitingGiven old now given new
+        → (given ≡ None) × (new ≡ old) }
+    ensures none { (b : Beginning) (old new : Kept) (now : ℕ) (given : Option PeerPayload)
+        → IsUnserved b old.core
+        → old.control ≡ Datagrams
+        → IsWaitingGiven old now given new
+        → (given ≡ None) × (new ≡ old) }
 {}
 
 /// What the signed ALLOCATE is that answers a challenge: a message, a request of its number that asks for

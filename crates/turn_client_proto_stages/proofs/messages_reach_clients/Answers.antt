@@ -1,0 +1,20 @@
+use Rattle.turn_client_proto_stages.proofs.Coming.{datagram_heard, none_asked, part_asked, piece_ends, piece_waits}
+use Rattle.turn_client_proto_stages.proofs.messages_reach_clients.Goals as goal
+
+pub returns-clause-datagram : goal.returns-clause-datagram
+returns-clause-datagram g c = λ b old new came now answer is over from message received.
+    datagram_heard b old is g.T.AsSlice.items came from now answer new over message received
+
+pub returns-clause-piece : goal.returns-clause-piece
+returns-clause-piece g c = λ b old new came now answer before message is come from some part received.
+    piece_waits b old is g.T.AsSlice.items came from now answer new before some message part come received
+
+pub returns-clause-whole : goal.returns-clause-whole
+returns-clause-whole g c = λ b old new came now answer before is come from some message received.
+    piece_ends b old is g.T.AsSlice.items came from now answer new before some message come received
+
+pub returns-clause-asked : goal.returns-clause-asked
+returns-clause-asked g c = λ b old new now given before message is come part asked. part_asked b old is now given new before message part come asked
+
+pub returns-clause-none : goal.returns-clause-none
+returns-clause-none g c = λ b old new now given is over asked. none_asked b old is now given new over asked
