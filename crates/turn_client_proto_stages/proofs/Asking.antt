@@ -1,5 +1,5 @@
 -- A client that awaits the response to its first request.
-use Rattle.std.proofs.Common.{◌≡◌, ℕ, ◌+◌, ◌<◌, ◌≤◌, ◌^◌, ◌++◌, map as map_list, Bool, true, false, List, [], ◌∷◌, Option, Some, None, refl, sym, ap, ◌∙◌, subst, ◌⊎◌, inl, inr}
+use Rattle.std.proofs.Common.{◌≡◌, ℕ, ◌+◌, ◌<◌, ◌≤◌, ◌++◌, map as map_list, Bool, true, false, List, [], ◌∷◌, Option, Some, None, refl, sym, ap, ◌∙◌, subst, ◌⊎◌, inl, inr}
 use Rattle.std.specs.Prelude.{◌==◌, ◌||◌, find}
 use Rattle.std.specs.Bool.{MatchBool}
 use Rattle.std.specs.FinMap as map
@@ -12,17 +12,15 @@ use Rattle.turn_client_proto_poll.specs.Api.declared.event.TurnEvent.{TurnEvent}
 use Rattle.turn_client_proto_poll.specs.Api.declared.event.TurnEvent.TheVariants.{AllocationCreateFailed}
 use Rattle.turn_client_proto_poll.specs.Core.Ending.{HasFailed, ended}
 use Rattle.turn_client_proto_poll.specs.Polling.{IsPolled}
-use Rattle.turn_client_proto_poll.specs.Core.declared.protocol.Phase.TheVariants.{Ended}
 use Rattle.turn_client_proto_poll.specs.Core.Waiting.{Queued, is_answer}
 use Rattle.turn_client_proto_poll.specs.Core.declared.protocol.Phase.{Phase}
-use Rattle.turn_client_proto_poll.specs.Core.declared.protocol.Phase.TheVariants.{InitialSent}
 use Rattle.turn_client_proto_poll.specs.Core.declared.protocol.Protocol.{Protocol}
 use Rattle.turn_client_proto_poll.specs.Drawing.{IsAnswerSent, IsBegun, IsDrawn, IsFreshSent, IsNextSent, IsStill, Sent, after_sending, is_resting}
 use Rattle.stun_proto_agent.specs.Sending.{kept_under}
 use Rattle.turn_client_proto_stages.specs.Asked.{IsDue, IsOnlyAsked, IsPatient, IsQuiet, end_of, sent_of, transaction_of}
 use Rattle.turn_client_proto_stages.specs.Stages.{HasEnded, IsAsking, failures, first_asked}
 use Rattle.turn_client_proto_stages.proofs.Only.{IsSentAgain, either, none_left, sent_again, sent_fresh}
-use Rattle.turn_client_proto_stages.proofs.Polls.{IsAwaiting, IsClosed, awaits, closes}
+use Rattle.turn_client_proto_stages.proofs.Polls.{awaits, closes}
 use Rattle.turn_client_proto_unanswered.specs.Sent.{Beginning, first_number}
 
 module _ (b : Beginning) (many last : ℕ) (p : Protocol) (w : IsAsking b many last p) where

@@ -1,5 +1,5 @@
 -- What a client that asks makes of a challenge, by the contract of `handle_message` alone.
-use Rattle.std.proofs.Common.{◌≡◌, ℕ, ◌+◌, ◌<◌, ◌≤◌, ◌^◌, ◌++◌, map as map_list, arith, Bool, true, false, List, [], ◌∷◌, Option, Some, None, refl, sym, ap, ◌∙◌, subst, ◌⊎◌, inl, inr}
+use Rattle.std.proofs.Common.{◌≡◌, ℕ, ◌+◌, ◌++◌, map as map_list, arith, Bool, true, false, List, [], ◌∷◌, Some, None, refl, sym, ap, ◌∙◌, subst, ◌⊎◌, inl, inr}
 use Rattle.std.specs.Prelude.{nat_lt, ◌&&◌, ◌||◌, Result, Ok, Err, is_some, if◌then◌else◌}
 use Rattle.std.specs.Bool.{MatchBool}
 use Rattle.std.specs.Cmp.{eq_by_cmp_equiv, nat_cmp_total}
@@ -15,14 +15,14 @@ use Rattle.stun_types.specs.Types.{class_of, is_response_class}
 use Rattle.stun_types.specs.declared.family.AddressFamily.{AddressFamily}
 use Rattle.stun_types.specs.declared.transport.TransportType.{TransportType}
 use Rattle.stun_proto.specs.Challenges.{Told, challenge_shown, is_anonymous_enough, is_challenge_code, is_error, told_of}
-use Rattle.stun_proto.specs.Choice.{IsStrongest, is_common}
+use Rattle.stun_proto.specs.Choice.{is_common}
 use Rattle.stun_proto.specs.Claims.{claimed, code_shown}
 use Rattle.stun_proto.specs.Client as auth
 use Rattle.stun_proto.specs.ClientAuthErrors.{LongTermClientAuthError, Unauthorized, IntegrityFailed, UnsupportedFeature, NoMemory}
 use Rattle.stun_proto.specs.ClientValidation.{IsAnswerable, IsUnanswerable, keeping}
 use Rattle.stun_proto.specs.ClientValidations.{LongTermClientValidation, ResendRequest, Validated}
 use Rattle.stun_proto_agent.specs.Agents.{Transaction}
-use Rattle.stun_proto_agent.specs.Handling.{after_message, answered as answered_by, ends_one, is_awaited, is_response}
+use Rattle.stun_proto_agent.specs.Handling.{after_message, answered as answered_by, is_awaited, is_response}
 use Rattle.stun_proto_agent.specs.Sending.{begun, with_request}
 use Rattle.stun_proto_agent.specs.State as agents
 use Rattle.stun_proto_agent.proofs.Leasts.{same_number}
@@ -39,14 +39,14 @@ use Rattle.turn_client_proto_poll.specs.Core.Receiving.{IsFollowed, IsHeard, IsH
 use Rattle.turn_client_proto_poll.specs.Core.Responding.{answered, challenged, is_tired, judged}
 use Rattle.turn_client_proto_poll.specs.Core.Waiting.{Queued}
 use Rattle.turn_client_proto_poll.specs.Core.declared.protocol.Phase.{Phase}
-use Rattle.turn_client_proto_poll.specs.Core.declared.protocol.Phase.TheVariants.{InitialSent, Authenticating, Ended}
+use Rattle.turn_client_proto_poll.specs.Core.declared.protocol.Phase.TheVariants.{InitialSent, Authenticating}
 use Rattle.turn_client_proto_poll.specs.Core.declared.protocol.Protocol.{Protocol}
-use Rattle.turn_client_proto_poll.specs.Request.Judging.{IsJudged, signer_of}
+use Rattle.turn_client_proto_poll.specs.Request.Judging.{IsJudged}
 use Rattle.turn_client_proto_poll.specs.Request.Requests.{request_text}
 use Rattle.turn_client_proto_poll.specs.Request.declared.request.TurnRequest.TheVariants.{Allocate}
 use Rattle.turn_client_proto_stages.specs.Asked.{IsOnlyAsked, transaction_of}
-use Rattle.turn_client_proto_stages.specs.Choosing.{Choice, IsAnsweredBy, IsBarring, IsChallenge, IsChoice, allocate_of, signed_asked, signed_request, signer_by}
-use Rattle.turn_client_proto_stages.specs.Stages.{HasChosen, HasEnded, IsAsking, IsOf, failures, first_asked, signed_queued}
+use Rattle.turn_client_proto_stages.specs.Choosing.{Choice, IsAnsweredBy, IsBarring, IsChallenge, IsChoice, signed_asked, signed_request, signer_by}
+use Rattle.turn_client_proto_stages.specs.Stages.{HasChosen, HasEnded, IsAsking, failures, first_asked}
 use Rattle.turn_client_proto_stages.proofs.Only.{Table, clash, none_left, put_or, put_there, stays_there, taken_out, where_false, where_true}
 use Rattle.turn_client_proto_unanswered.specs.Sent.{Beginning, first_number}
 

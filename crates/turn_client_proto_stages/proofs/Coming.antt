@@ -1,8 +1,7 @@
 -- How a message of the server's comes to a client that holds nothing yet, by the contracts of `recv` and `poll_recv` alone.
-use Rattle.std.proofs.Common.{◌≡◌, ◌≢◌, ℕ, ◌+◌, ◌<◌, ◌≤◌, arith, Bool, true, false, List, [], ◌∷◌, ◌++◌, length, take, drop, Option, Some, None, refl, sym, ap, ◌∙◌, subst, ◌⊎◌, inl, inr}
-use Rattle.std.specs.Prelude.{◌&&◌, is_none, nat_lt, MatchOption, if◌then◌else◌}
+use Rattle.std.proofs.Common.{◌≡◌, ◌≢◌, ℕ, ◌+◌, ◌<◌, arith, Bool, true, false, List, [], ◌∷◌, ◌++◌, length, take, Option, Some, None, refl, sym, ap, ◌∙◌, subst, ◌⊎◌, inl, inr}
+use Rattle.std.specs.Prelude.{is_none, nat_lt, MatchOption}
 use Rattle.std.specs.Option.{option_or}
-use Rattle.std.specs.declared.net.socket_addr.SocketAddr.{SocketAddr}
 use Rattle.std.proofs.lemmas.Bool.{cases_Bool, ltb-false}
 use Rattle.std.proofs.Common.{append-nil}
 use Rattle.std.proofs.Math.Seq.{drop-length, take-length}
@@ -14,11 +13,10 @@ use Rattle.stun_types.specs.declared.transmit.Transmit.{Transmit}
 use Rattle.turn_types_frame.specs.Frames.{IsMessageFrame}
 use Rattle.turn_types_frame.specs.StreamFronts.{front, given_of}
 use Rattle.turn_types_frame.specs.declared.front.Front.{Front}
-use Rattle.turn_types_frame.specs.declared.front.Front.TheVariants.{Message, Channel, Partial, Broken}
+use Rattle.turn_types_frame.specs.declared.front.Front.TheVariants.{Message, Partial}
 use Rattle.turn_types_frame.proofs.Fronts.{message as front_message, channel, short_message, short_channel, broken, front_cases, message_grows, channel_grows, broken_grows, message_at}
 use Rattle.turn_types.specs.StreamAnswers.{IsNone, after_look, joined, looked}
 use Rattle.turn_types.specs.Streams.{Stream, alive, left_by}
-use Rattle.turn_client_proto_receipt.specs.Allocation.declared.allocation.Allocation.{Allocation}
 use Rattle.turn_client_proto_receipt.specs.Allocation.declared.connection.Connection.{Connection}
 use Rattle.turn_client_proto_receipt.specs.Api.Payloads.{PeerPayload}
 use Rattle.turn_client_proto_receipt.specs.Api.declared.answer.TurnRecvRet.{TurnRecvRet}
@@ -26,17 +24,17 @@ use Rattle.turn_client_proto_receipt.specs.Api.declared.answer.TurnRecvRet.TheVa
 use Rattle.turn_client_proto_receipt.specs.Control.{Control, Datagrams, Open}
 use Rattle.turn_client_proto_receipt.specs.Core.Ending.{HasFailed}
 use Rattle.turn_client_proto_receipt.specs.Core.Receiving.{IsHeard}
-use Rattle.turn_client_proto_receipt.specs.Datagrams.{Foreign, Heard, IsDatagramTaken, IsHandedOver, IsHandledAs, IsMessageTaken, IsOfServer, IsRead, IsTaken, Lost as MessageLost, Own}
+use Rattle.turn_client_proto_receipt.specs.Datagrams.{Foreign, Heard, IsDatagramTaken, IsHandedOver, IsMessageTaken, IsOfServer, IsRead, Lost as MessageLost, Own}
 use Rattle.turn_client_proto_receipt.specs.HandingIn.{IsFrameTaken, IsHandedIn, taken_as}
 use Rattle.turn_client_proto_receipt.specs.Kept.{Kept, Protocol}
 use Rattle.turn_client_proto_receipt.specs.Payload.{Payload}
 use Rattle.turn_client_proto_receipt.specs.Payloads.{payload_of, payload_told}
-use Rattle.turn_client_proto_receipt.specs.Pieces.{AtFrame, Behind, Broken as FrameBroken, First, FirstLost, FirstTaken, Grew, Here, IsAnsweredBehind, IsFirstLost, IsFirstTaken, IsFrameHandled, IsLostOn, IsPieceLost, IsPieceTaken, Later, Lost, LostLater, OfItsOwn, Takes, Unkept, Waits}
+use Rattle.turn_client_proto_receipt.specs.Pieces.{AtFrame, Behind, Broken as FrameBroken, First, Grew, Here, IsAnsweredBehind, IsFirstLost, IsFirstTaken, IsFrameHandled, IsLostOn, IsPieceTaken, Later, Lost, LostLater, OfItsOwn, Takes, Unkept, Waits}
 use Rattle.turn_client_proto_receipt.specs.Pulls.{Ends, Gives, Goes, IsPulled, frame_of}
-use Rattle.turn_client_proto_receipt.specs.Receipts.{End, IsAskedFor, IsFirstGiven, IsGivenBy, IsOfStream, IsReceived, IsReceivedBy, IsStreamAsked, IsStreamed, IsWaitingGiven, Piece, Strange, has_failed}
+use Rattle.turn_client_proto_receipt.specs.Receipts.{End, IsFirstGiven, IsGivenBy, IsOfStream, IsReceived, IsReceivedBy, IsStreamed, IsWaitingGiven, Piece, Strange}
 use Rattle.turn_client_proto_receipt.specs.SocketPieces.{raw_waiting}
 use Rattle.turn_client_proto_receipt.specs.declared.handing.Taken.{Taken}
-use Rattle.turn_client_proto_receipt.specs.declared.handing.Taken.TheVariants.{Given, Handled, Ignored, Garbled}
+use Rattle.turn_client_proto_receipt.specs.declared.handing.Taken.TheVariants.{Given, Garbled}
 use Rattle.turn_client_proto_stages.specs.Coming.{HasCome, IsFromServer, IsHeardAs, IsLost, IsPartOf, IsUnserved}
 use Rattle.turn_client_proto_unanswered.specs.Sent.{Beginning}
 

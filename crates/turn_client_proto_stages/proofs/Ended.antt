@@ -1,21 +1,18 @@
 -- A client that has ended.
-use Rattle.std.proofs.Common.{◌≡◌, ℕ, ◌++◌, Bool, true, false, List, [], ◌∷◌, Option, Some, None, refl, sym, ap, ◌∙◌, subst, ◌⊎◌, inl, inr}
-use Rattle.std.specs.Prelude.{find, min, option_to_list}
+use Rattle.std.proofs.Common.{◌≡◌, ℕ, ◌++◌, Bool, false, List, [], ◌∷◌, Option, None, refl, sym, ap, ◌∙◌, subst, inl, inr}
+use Rattle.std.specs.Prelude.{find, option_to_list}
 use Rattle.std.specs.Bool.{MatchBool}
-use Rattle.std.specs.FinMap as map
 use Rattle.std.specs.List.{list_any}
 use Rattle.stun_proto_agent.specs.State as agents
-use Rattle.turn_client_proto_poll.specs.Core.AgentPolls.{StunAgentPollRet}
 use Rattle.turn_client_proto_poll.specs.Api.declared.answer.TurnPollRet.{TurnPollRet}
 use Rattle.turn_client_proto_poll.specs.Api.declared.answer.TurnPollRet.TheVariants as answer
 use Rattle.turn_client_proto_poll.specs.Api.declared.event.TurnEvent.{TurnEvent}
-use Rattle.turn_client_proto_poll.specs.Core.Outcomes.{IsIgnored}
 use Rattle.turn_client_proto_poll.specs.Core.Receiving.{IsHeard, IsHeardIn}
 use Rattle.turn_client_proto_poll.specs.Core.Waiting.{Queued, is_answer}
 use Rattle.turn_client_proto_poll.specs.Core.declared.protocol.Phase.{Phase}
 use Rattle.turn_client_proto_poll.specs.Core.declared.protocol.Protocol.{Protocol}
 use Rattle.turn_client_proto_poll.specs.Drawing.{Again, Fresh, IsAnswerSent, IsBegun, IsDrawn, IsNextSent, IsStill, Sent, is_resting}
-use Rattle.turn_client_proto_poll.specs.Polling.{Answers, HasToTellIn, IsPolled, IsPolledBy, IsPolledIn, ended_of, wait_of}
+use Rattle.turn_client_proto_poll.specs.Polling.{HasToTellIn, IsPolled, IsPolledBy, IsPolledIn, ended_of, wait_of}
 use Rattle.turn_client_proto_stages.specs.Stages.{HasEnded, answer_at_end}
 use Rattle.turn_client_proto_stages.proofs.Only.{either}
 use Rattle.turn_client_proto_stages.proofs.Polls.{idles, is_ticked, pause, refused_or}
@@ -38,25 +35,25 @@ module _ (b : Beginning) (events : List TurnEvent) (p : Protocol) (w : HasEnded 
   -- its events are taken in order
   pub ended_tells : (event : Option TurnEvent) (q : Protocol) → IsEventTaken p event q → (left : List TurnEvent) × (events ≡ option_to_list event ++ left) × HasEnded b left q
   ended_tells event q is = (
-        q.events,
-        sym w.events_are ∙ is.first,
-        subst (λ (x : Protocol). HasEnded b q.events x) (sym is.others) (record {
-          settings = record {
-            server = w.settings.server;
-            remote = w.settings.remote;
-            transport = w.settings.transport;
-            here = w.settings.here;
-            waits = w.settings.waits;
-            allocates = w.settings.allocates;
-            families = w.settings.families;
-          };
-          none_asked = w.none_asked;
-          phase = w.phase;
-          allocations = w.allocations;
-          queue = w.queue;
-          events_are = refl;
-        }),
-      )
+    q.events,
+    sym w.events_are ∙ is.first,
+    subst (λ (x : Protocol). HasEnded b q.events x) (sym is.others) (record {
+      settings = record {
+        server = w.settings.server;
+        remote = w.settings.remote;
+        transport = w.settings.transport;
+        here = w.settings.here;
+        waits = w.settings.waits;
+        allocates = w.settings.allocates;
+        families = w.settings.families;
+      };
+      none_asked = w.none_asked;
+      phase = w.phase;
+      allocations = w.allocations;
+      queue = w.queue;
+      events_are = refl;
+    }),
+  )
 
   module _ (now : ℕ) (ret : TurnPollRet) (q : Protocol) where
     -- no event waits: it is closed

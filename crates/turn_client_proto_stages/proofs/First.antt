@@ -1,8 +1,7 @@
 -- What a new client sends and answers, by the contracts of `poll_transmit` and `poll` alone.
-use Rattle.std.proofs.Common.{◌≡◌, ℕ, zero, suc, ◌<◌, arith, true, false, List, [], ◌∷◌, Option, Some, None, refl, sym, ap, ◌∙◌, subst, ◌⊎◌, inl, inr}
+use Rattle.std.proofs.Common.{◌≡◌, ℕ, zero, suc, ◌<◌, arith, true, false, List, [], ◌∷◌, Option, Some, None, refl, sym, ap, ◌∙◌, subst, inl, inr}
 use Rattle.std.specs.Prelude.{◌||◌, is_some, find}
 use Rattle.std.specs.Bool.{MatchBool}
-use Rattle.std.specs.Cmp.{nat_cmp_total}
 use Rattle.std.specs.FinMap as map
 use Rattle.std.specs.Ordering.{nat_cmp}
 use Rattle.std.specs.declared.net.socket_addr.SocketAddr.{SocketAddr}
@@ -123,9 +122,9 @@ module _ (b : Beginning) (p : Protocol) (is : Begins b p) where
   asked_by shown sent q one sent_is f =
       let same = number_is f.number f.made.is_next in (
         sent_is ∙ ap Some (f.made.is_sent
-        ∙ (ap (λ (l : List ℕ). record { bytes = l; transport = p.agent.transport; from = p.agent.here; to = p.server }) (text_is f.number same)
-        ∙ (ap (λ (a : agents.Agent). record { bytes = first_request b; transport = a.transport; from = a.here; to = p.server }) is.agent
-        ∙ ap (λ (s : SocketAddr). record { bytes = first_request b; transport = b.transport; from = b.here; to = s }) is.server_is))),
+            ∙ (ap (λ (l : List ℕ). record { bytes = l; transport = p.agent.transport; from = p.agent.here; to = p.server }) (text_is f.number same)
+            ∙ (ap (λ (a : agents.Agent). record { bytes = first_request b; transport = a.transport; from = a.here; to = p.server }) is.agent
+            ∙ ap (λ (s : SocketAddr). record { bytes = first_request b; transport = b.transport; from = b.here; to = s }) is.server_is))),
         subst (λ (x : Protocol). IsAsking b 1 b.made x) (sym f.after) (asks f.number same shown),
       )
 

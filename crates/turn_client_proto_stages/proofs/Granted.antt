@@ -1,7 +1,6 @@
 -- What a client that signed makes of the success of its request, by the contract of `handle_message` alone.
-use Rattle.std.proofs.Common.{◌≡◌, ℕ, ◌+◌, ◌<◌, ◌≤◌, ◌^◌, ◌++◌, map as map_list, filter, Bool, true, false, List, [], ◌∷◌, Option, Some, None, refl, sym, ap, ◌∙◌, subst, ◌⊎◌, inl, inr}
-use Rattle.std.specs.Prelude.{◌==◌, ◌&&◌, ◌||◌, not, Result, Ok, Err, is_some, if◌then◌else◌}
-use Rattle.std.specs.Bool.{MatchBool}
+use Rattle.std.proofs.Common.{◌≡◌, ℕ, ◌++◌, map as map_list, Bool, true, false, List, [], ◌∷◌, Option, Some, None, refl, sym, ap, ◌∙◌, subst}
+use Rattle.std.specs.Prelude.{◌==◌, ◌&&◌, ◌||◌, Result, Ok, Err, is_some, if◌then◌else◌}
 use Rattle.std.specs.FinMap as map
 use Rattle.std.specs.declared.net.socket_addr.SocketAddr.{SocketAddr}
 use Rattle.std.specs.declared.net.socket_addr.SocketAddr.TheVariants as socket
@@ -13,7 +12,6 @@ use Rattle.stun_types.specs.IntegrityAlgorithms.{IntegrityAlgorithm}
 use Rattle.stun_types.specs.MessageClasses.{MessageClass, Success}
 use Rattle.stun_types.specs.Types.{class_of, is_response_class}
 use Rattle.stun_types.specs.declared.family.AddressFamily.{AddressFamily}
-use Rattle.stun_types.specs.declared.family.AddressFamily.TheVariants.{IPV4, IPV6}
 use Rattle.stun_types.specs.declared.transport.TransportType.{TransportType}
 use Rattle.stun_proto.specs.Challenges.{challenge_shown, is_challenge_code, is_error, told_of}
 use Rattle.stun_proto.specs.Claims.{claimed, code_shown}
@@ -38,12 +36,12 @@ use Rattle.turn_client_proto_poll.specs.Core.Receiving.{IsFollowed, IsHeard, IsH
 use Rattle.turn_client_proto_poll.specs.Core.Responding.{accepted, judged}
 use Rattle.turn_client_proto_poll.specs.Core.Waiting.{Queued}
 use Rattle.turn_client_proto_poll.specs.Core.declared.protocol.Phase.{Phase}
-use Rattle.turn_client_proto_poll.specs.Core.declared.protocol.Phase.TheVariants.{Authenticating, Authenticated}
+use Rattle.turn_client_proto_poll.specs.Core.declared.protocol.Phase.TheVariants.{Authenticating}
 use Rattle.turn_client_proto_poll.specs.Core.declared.protocol.Protocol.{Protocol}
 use Rattle.turn_client_proto_poll.specs.Request.Judging.{IsJudged}
 use Rattle.turn_client_proto_poll.specs.Response.Granting.{allocations_of, families_without, first_of_each}
 use Rattle.turn_client_proto_poll.specs.Response.Telling.{created}
-use Rattle.turn_client_proto_poll.specs.Response.Told.{lifetime_told, relayed_told}
+use Rattle.turn_client_proto_poll.specs.Response.Told.{relayed_told}
 use Rattle.turn_client_proto_stages.specs.Choosing.{Choice, signed_asked, signer_by, standing_by}
 use Rattle.turn_client_proto_stages.specs.Stages.{AsksForOne, Holds, IsGrant, IsSigning, created as created_told}
 use Rattle.turn_client_proto_stages.proofs.Only.{none_left, where_true}

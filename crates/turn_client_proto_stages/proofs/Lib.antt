@@ -9,3 +9,4 @@ mod Polls
 mod Request
 mod Signing
 mod Told
+mod Unserved

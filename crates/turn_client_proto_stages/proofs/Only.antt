@@ -1,13 +1,11 @@
 -- A client of which one request is outstanding: what is sent again, and what its agent answers when it is polled.
-use Rattle.std.proofs.Common.{◌≡◌, ℕ, ◌+◌, ◌-◌, ◌<◌, ◌≤◌, arith, Bool, true, false, cond, List, [], ◌∷◌, Option, Some, None, refl, sym, ap, ◌∙◌, subst, ◌⊎◌, inl, inr}
+use Rattle.std.proofs.Common.{◌≡◌, ℕ, ◌+◌, ◌<◌, ◌≤◌, arith, Bool, true, false, cond, Option, Some, None, refl, sym, ap, ◌∙◌, ◌⊎◌, inl, inr}
 use Rattle.std.specs.Prelude.{nat_le, nat_lt, ◌&&◌, if◌then◌else◌, max}
 use Rattle.std.specs.Bool.{MatchBool}
 use Rattle.std.specs.Cmp.{eq_by_cmp_equiv, nat_cmp_total}
 use Rattle.std.specs.FinMap as map
 use Rattle.std.specs.Ordering.{is_eq, nat_cmp}
-use Rattle.std.specs.declared.net.socket_addr.SocketAddr.{SocketAddr}
-use Rattle.std.proofs.lemmas.Bool.{lt-ltb, le-leb, lt-leb, ltb-true, ltb-false}
-use Rattle.stun_types.specs.declared.transport.TransportType.{TransportType}
+use Rattle.std.proofs.lemmas.Bool.{cases_Bool, le-leb, leb-false, leb-true, lt-leb, lt-ltb, ltb-false, ltb-true}
 use Rattle.stun_proto_agent.specs.Agents.{Transaction, is_due, is_ended, is_over, next_moment, transmitted}
 use Rattle.stun_proto_agent.specs.Sending.{is_due_of, kept_under}
 use Rattle.stun_proto_agent.specs.State as agents
@@ -210,3 +208,13 @@ module _ (b : Beginning) (a : Asked) (many : ℕ) where
         let old = taken_out p.agent.outstanding a.number number x there in
         clash (is_eq (nat_cmp number a.number))
         (ap (λ (n : ℕ). is_eq (nat_cmp n a.number)) (asked.only number x old.1) ∙ (eq_by_cmp_equiv nat_cmp_total).refl a.number) old.0)
+
+-- a request is due at a moment or it isn't
+pub due_or_quiet : (b : Beginning) (a : Asked) (many now : ℕ) → IsDue b a many now ⊎ IsQuiet b a many now
+due_or_quiet b a many now = elim (cases_Bool (nat_lt many (count_of b))) [
+  | inl left ↦ elim (cases_Bool (nat_le (slot_of b a many) now)) [
+    | inl reached ↦ inl (ltb-true many (count_of b) left, leb-true (slot_of b a many) now reached)
+    | inr before ↦ inr (λ _. leb-false (slot_of b a many) now before)
+  ]
+  | inr none ↦ inr (λ left. clash (nat_lt many (count_of b)) (lt-ltb many (count_of b) left) none)
+]

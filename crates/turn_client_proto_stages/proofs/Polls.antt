@@ -1,11 +1,8 @@
 -- What a client answers when it is polled, of which one request is outstanding or none.
-use Rattle.std.proofs.Common.{◌≡◌, ℕ, ◌+◌, ◌-◌, ◌<◌, ◌≤◌, ◌^◌, arith, Bool, true, false, List, [], ◌∷◌, Option, Some, None, refl, sym, ap, ◌∙◌, subst, ◌⊎◌, inl, inr}
-use Rattle.std.specs.Prelude.{◌==◌, ◌||◌, min, max}
-use Rattle.std.specs.Bool.{MatchBool}
+use Rattle.std.proofs.Common.{◌≡◌, ℕ, ◌<◌, ◌≤◌, arith, true, false, List, [], Option, Some, None, refl, sym, ap, ◌∙◌, subst, ◌⊎◌, inl, inr}
+use Rattle.std.specs.Prelude.{min}
 use Rattle.std.specs.FinMap as map
 use Rattle.std.specs.List.{list_any}
-use Rattle.std.proofs.lemmas.Bool.{eq-eqb}
-use Rattle.stun_proto_agent.specs.Agents.{Transaction}
 use Rattle.stun_proto_agent.specs.Moments.{moment_after}
 use Rattle.stun_proto_agent.specs.State as agents
 use Rattle.turn_client_proto_poll.specs.Core.AgentPolls.{StunAgentPollRet, TransactionCancelled, TransactionTimedOut, WaitUntil}
@@ -14,7 +11,7 @@ use Rattle.turn_client_proto_poll.specs.Api.declared.answer.TurnPollRet.{TurnPol
 use Rattle.turn_client_proto_poll.specs.Api.declared.answer.TurnPollRet.TheVariants as answer
 use Rattle.turn_client_proto_poll.specs.Api.declared.event.TurnEvent.{TurnEvent}
 use Rattle.turn_client_proto_poll.specs.Core.Ending.{HasFailed, ended}
-use Rattle.turn_client_proto_poll.specs.Core.Waiting.{Queued, is_answer}
+use Rattle.turn_client_proto_poll.specs.Core.Waiting.{is_answer}
 use Rattle.turn_client_proto_poll.specs.Core.declared.protocol.Phase.{Phase}
 use Rattle.turn_client_proto_poll.specs.Core.declared.protocol.Phase.TheVariants.{InitialSent, Authenticating}
 use Rattle.turn_client_proto_poll.specs.Core.declared.protocol.Protocol.{Protocol}

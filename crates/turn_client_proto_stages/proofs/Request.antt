@@ -1,14 +1,13 @@
 -- What the requests of a handshake are, by the laws of a client's requests.
-use Rattle.std.proofs.Common.{◌≡◌, ℕ, ◌<◌, ◌≤◌, ◌^◌, arith, List, length, Option, Some, None, refl}
+use Rattle.std.proofs.Common.{◌≡◌, ℕ, ◌<◌, ◌≤◌, ◌^◌, arith, List, length, Some, None, refl}
 use Rattle.std.specs.Prelude.{true, IfSome, Result, Ok, MatchResult}
 use Rattle.stun_types.specs.Grammar.{number_at, refusal}
 use Rattle.stun_types.specs.Registry.{longest_username}
 use Rattle.stun_types.specs.ValueReading.{utf8_refusal}
-use Rattle.stun_proto.specs.Challenges.{Told, challenge_shown}
 use Rattle.stun_proto.specs.Claims.{claimed}
 use Rattle.stun_proto.specs.Client.{Client, Standing, standing_key, standing_of}
 use Rattle.stun_proto.specs.ClientAuthErrors.{LongTermClientAuthError}
-use Rattle.stun_proto.specs.ClientValidation.{IsTaken, IsTurnedDown, keeping}
+use Rattle.stun_proto.specs.ClientValidation.{IsTaken, IsTurnedDown}
 use Rattle.stun_proto.specs.ClientValidations.{LongTermClientValidation, ResendRequest}
 use Rattle.stun_proto.specs.Digests.{IsRight}
 use Rattle.stun_proto_agent.specs.Sending.{is_request}

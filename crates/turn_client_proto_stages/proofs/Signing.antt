@@ -1,13 +1,11 @@
 -- A client that answered a challenge: what it draws and answers, by the contracts of `poll_transmit` and `poll` alone.
-use Rattle.std.proofs.Common.{◌≡◌, ℕ, ◌+◌, ◌<◌, ◌≤◌, ◌^◌, ◌++◌, map as map_list, arith, Bool, true, false, List, [], ◌∷◌, Option, Some, None, refl, sym, ap, ◌∙◌, subst, ◌⊎◌, inl, inr}
-use Rattle.std.specs.Prelude.{◌==◌, ◌||◌, nat_lt, find}
+use Rattle.std.proofs.Common.{◌≡◌, ℕ, ◌+◌, ◌<◌, ◌≤◌, ◌++◌, map as map_list, arith, Bool, true, false, List, [], ◌∷◌, Option, Some, None, refl, sym, ap, ◌∙◌, subst, ◌⊎◌, inl, inr}
+use Rattle.std.specs.Prelude.{◌==◌, ◌||◌, find}
 use Rattle.std.specs.Bool.{MatchBool}
 use Rattle.std.specs.FinMap as map
 use Rattle.std.specs.List.{list_any}
-use Rattle.std.specs.declared.net.socket_addr.SocketAddr.{SocketAddr}
 use Rattle.std.proofs.lemmas.Bool.{eq-eqb, le-ltb, lt-ltb}
 use Rattle.stun_types.specs.declared.family.AddressFamily.{AddressFamily}
-use Rattle.stun_types.specs.declared.transport.TransportType.{TransportType}
 use Rattle.stun_proto_agent.specs.Moments.{moment_after}
 use Rattle.stun_proto_agent.specs.Sending.{kept_under}
 use Rattle.turn_client_proto_poll.specs.Api.declared.answer.TurnPollRet.{TurnPollRet}
@@ -17,16 +15,15 @@ use Rattle.turn_client_proto_poll.specs.Api.declared.event.TurnEvent.TheVariants
 use Rattle.turn_client_proto_poll.specs.Core.Ending.{HasFailed, ended}
 use Rattle.turn_client_proto_poll.specs.Core.Waiting.{Queued, is_answer}
 use Rattle.turn_client_proto_poll.specs.Core.declared.protocol.Phase.{Phase}
-use Rattle.turn_client_proto_poll.specs.Core.declared.protocol.Phase.TheVariants.{Authenticating}
 use Rattle.turn_client_proto_poll.specs.Core.declared.protocol.Protocol.{Protocol}
-use Rattle.turn_client_proto_poll.specs.Drawing.{IsAnswerSent, IsBegun, IsDrawn, IsFreshSent, IsNextSent, IsQueuedSent, IsStill, Sent, after_sending, is_resting}
+use Rattle.turn_client_proto_poll.specs.Drawing.{IsAnswerSent, IsBegun, IsDrawn, IsNextSent, IsQueuedSent, IsStill, Sent, after_sending, is_resting}
 use Rattle.turn_client_proto_poll.specs.Polling.{IsPolled, cadence, longest_pause, wait_to_send}
 use Rattle.turn_client_proto_stages.specs.Asked.{IsDue, IsOnlyAsked, IsPatient, IsQuiet, end_of, transaction_of}
 use Rattle.turn_client_proto_stages.specs.Choosing.{Choice, signed_asked, signed_sent}
 use Rattle.turn_client_proto_stages.specs.Stages.{HasChosen, HasEnded, HasSigned, IsSigning, failures, signed_queued}
 use Rattle.turn_client_proto_stages.proofs.First.{sends_one}
 use Rattle.turn_client_proto_stages.proofs.Only.{IsSentAgain, either, none_left, sent_again, sent_fresh, where_false, where_true}
-use Rattle.turn_client_proto_stages.proofs.Polls.{IsAwaiting, IsClosed, awaits, closes, pause}
+use Rattle.turn_client_proto_stages.proofs.Polls.{IsAwaiting, awaits, closes, pause}
 use Rattle.turn_client_proto_unanswered.specs.Sent.{Beginning, first_number}
 
 module _ (b : Beginning) (c : Choice) (many last : ℕ) (queue : List Queued) (p : Protocol) (w : IsSigning b c many last queue p) where
@@ -180,7 +177,7 @@ module _ (b : Beginning) (c : Choice) (many last : ℕ) (p : Protocol) (w : HasS
       → ((ret ≡ answer.Closed) × HasEnded b (failures b) q) ⊎ ((ret ≡ answer.NoMemory) × HasFailed p q)
   signed_ends now ret q reached is =
       elim (closes p now ret q b (signed_asked b c) many w.settings w.asked (first_number b ∷ c.number ∷ []) (inr w.phase) w.events
-        (none_answers b c many last [] p w refl) (among b c many last [] p w) reached is) [
+      (none_answers b c many last [] p w refl) (among b c many last [] p w) reached is) [
         | inl c ↦ inl (c.closed, subst (λ (x : Protocol). HasEnded b (failures b) x) (sym c.after) ended_so)
         | inr failed ↦ inr failed
       ]

@@ -1,5 +1,5 @@
 -- The events of a client that are taken.
-use Rattle.std.proofs.Common.{◌≡◌, ℕ, ◌++◌, List, [], ◌∷◌, Option, Some, None, refl, sym, ap, ◌∙◌, subst}
+use Rattle.std.proofs.Common.{◌≡◌, ℕ, ◌++◌, List, [], Option, Some, None, refl, sym, ap, ◌∙◌, subst}
 use Rattle.std.specs.Prelude.{option_to_list}
 use Rattle.std.specs.declared.net.socket_addr.SocketAddr.{SocketAddr}
 use Rattle.turn_client_proto_poll.specs.Api.declared.event.TurnEvent.{TurnEvent}
@@ -26,27 +26,27 @@ pub holding_tells : (b : Beginning) (c : Choice) (address : SocketAddr) (lifetim
     → Holds b c address lifetime now last queue events p → (event : Option TurnEvent) (q : Protocol) → IsEventTaken p event q
     → (left : List TurnEvent) × (events ≡ option_to_list event ++ left) × Holds b c address lifetime now last queue left q
 holding_tells b c address lifetime now last queue events p w event q is = (
-      q.events,
-      sym w.events_are ∙ is.first,
-      subst (λ (x : Protocol). Holds b c address lifetime now last queue q.events x) (sym is.others) (record {
-        settings = record {
-          server = w.settings.server;
-          remote = w.settings.remote;
-          transport = w.settings.transport;
-          here = w.settings.here;
-          waits = w.settings.waits;
-          allocates = w.settings.allocates;
-          families = w.settings.families;
-        };
-        none_asked = w.none_asked;
-        phase = w.phase;
-        auth = w.auth;
-        allocations = w.allocations;
-        shown = w.shown;
-        queue_is = w.queue_is;
-        last_send = w.last_send;
-        events_are = refl;
-        closing = w.closing;
-        resends = w.resends;
-      }),
-    )
+  q.events,
+  sym w.events_are ∙ is.first,
+  subst (λ (x : Protocol). Holds b c address lifetime now last queue q.events x) (sym is.others) (record {
+    settings = record {
+      server = w.settings.server;
+      remote = w.settings.remote;
+      transport = w.settings.transport;
+      here = w.settings.here;
+      waits = w.settings.waits;
+      allocates = w.settings.allocates;
+      families = w.settings.families;
+    };
+    none_asked = w.none_asked;
+    phase = w.phase;
+    auth = w.auth;
+    allocations = w.allocations;
+    shown = w.shown;
+    queue_is = w.queue_is;
+    last_send = w.last_send;
+    events_are = refl;
+    closing = w.closing;
+    resends = w.resends;
+  }),
+)

@@ -83,8 +83,8 @@ pub record IsChoice (b : Beginning) (c : Choice) : Type 0 where
 abbrev pub HasTextName : Config → Type 0
 HasTextName config = utf8_refusal config.credentials.username ≡ None
 
--- what the signed request is: a message, a request of its number, which asks for an allocation; it is right under the key
--- of the credentials in the realm of the challenge, and claims what the challenge asks for
+-- what the signed request is: a message, a request of its number, which asks for an allocation; it is right under the
+-- key of the credentials in the realm of the challenge, and claims what the challenge asks for
 pub record IsSignedAllocate (b : Beginning) (c : Choice) : Type 0 where
   pub message : refusal (signed_request b c) ≡ None
   pub request : is_request (signed_request b c) ≡ true

@@ -1,5 +1,5 @@
--- How a message of the server's comes to a client that holds nothing yet: in a datagram, or in pieces of the stream (RFC
--- 8489, sections 6.2.1 and 6.2.2; RFC 8656, section 12.5).
+-- How a message of the server's comes to a client that holds nothing yet: in a datagram, or in pieces of the stream
+-- (RFC 8489, sections 6.2.1 and 6.2.2; RFC 8656, section 12.5).
 use Rattle.std.specs.Prelude.{◌≡◌, ◌≢◌, ◌++◌, ℕ, Bool, false, List, [], None}
 use Rattle.stun_types.specs.Grammar.{refusal}
 use Rattle.stun_types.specs.declared.transmit.Transmit.{Transmit}

@@ -1,6 +1,6 @@
 -- The stages of a client in a handshake, each by what the client keeps there (RFC 8489, sections 9.2.3 and 9.2.5; RFC
 -- 8656, sections 7.1, 7.3 and 7.4).
-use Rattle.std.specs.Prelude.{◌≡◌, ◌≤◌, ℕ, List, [], ◌∷◌, map, Option, Some, None}
+use Rattle.std.specs.Prelude.{◌≡◌, ℕ, List, [], ◌∷◌, map, Some, None}
 use Rattle.std.specs.FinMap as finite
 use Rattle.std.specs.declared.net.socket_addr.SocketAddr.{SocketAddr}
 use Rattle.stun_types.specs.Attributes.{kind_at}
@@ -8,7 +8,6 @@ use Rattle.stun_types.specs.Family.{family_of_socket}
 use Rattle.stun_types.specs.Grammar.{number_at}
 use Rattle.stun_types.specs.MessageClasses.{Success}
 use Rattle.stun_types.specs.Types.{class_of}
-use Rattle.stun_types.specs.declared.transport.TransportType.{TransportType}
 use Rattle.stun_proto.specs.Client.{standing_key}
 use Rattle.stun_proto.specs.ClientValidation.{going_by}
 use Rattle.stun_proto.specs.Digests.{IsRight}
@@ -17,15 +16,18 @@ use Rattle.turn_client_proto_poll.specs.Allocation.Refreshing.{granted}
 use Rattle.turn_client_proto_poll.specs.Api.declared.answer.TurnPollRet.{TurnPollRet}
 use Rattle.turn_client_proto_poll.specs.Api.declared.answer.TurnPollRet.TheVariants as answer
 use Rattle.turn_client_proto_poll.specs.Api.declared.event.TurnEvent.{TurnEvent}
-use Rattle.turn_client_proto_poll.specs.Api.declared.event.TurnEvent.TheVariants.{AllocationCreated, AllocationCreateFailed}
+use Rattle.turn_client_proto_poll.specs.Api.declared.event.TurnEvent.TheVariants.{AllocationCreated}
+use Rattle.turn_client_proto_poll.specs.Api.declared.event.TurnEvent.TheVariants.{AllocationCreateFailed}
 use Rattle.turn_client_proto_poll.specs.Core.Asking.{queued_request}
 use Rattle.turn_client_proto_poll.specs.Core.Waiting.{Queued}
-use Rattle.turn_client_proto_poll.specs.Core.declared.protocol.Phase.TheVariants.{InitialSent, Authenticating, Authenticated, Ended}
+use Rattle.turn_client_proto_poll.specs.Core.declared.protocol.Phase.TheVariants.{InitialSent, Authenticating}
+use Rattle.turn_client_proto_poll.specs.Core.declared.protocol.Phase.TheVariants.{Authenticated, Ended}
 use Rattle.turn_client_proto_poll.specs.Core.declared.protocol.Protocol.{Protocol}
 use Rattle.turn_client_proto_poll.specs.Request.Judging.{signer_of}
 use Rattle.turn_client_proto_poll.specs.Response.Told.{lifetime_told, relayed_told}
 use Rattle.turn_client_proto_stages.specs.Asked.{Asked, IsOnlyAsked}
-use Rattle.turn_client_proto_stages.specs.Choosing.{Choice, IsChoice, signed_asked, signed_request, signer_by, standing_by}
+use Rattle.turn_client_proto_stages.specs.Choosing.{Choice, IsChoice, signed_asked, signed_request}
+use Rattle.turn_client_proto_stages.specs.Choosing.{signer_by, standing_by}
 use Rattle.turn_client_proto_unanswered.specs.Sent.{Beginning, first_number, first_request}
 
 -- ---- what no stage changes
@@ -88,7 +90,8 @@ HasSigned b c many last p = IsSigning b c many last [] p
 
 -- ---- the server has allocated
 
--- a message is the success of the signed ALLOCATE, right under the key of the credentials, with this one relayed address
+-- a message is the success of the signed ALLOCATE, right under the key of the credentials, with this relayed address
+-- alone, and this lifetime in seconds
 pub record IsGrant (b : Beginning) (c : Choice) (address : SocketAddr) (lifetime : ℕ) (bytes : List ℕ) : Type 0 where
   pub number : number_at bytes ≡ c.number
   pub success : class_of (kind_at bytes) ≡ Success
@@ -100,8 +103,8 @@ pub record IsGrant (b : Beginning) (c : Choice) (address : SocketAddr) (lifetime
 abbrev pub AsksForOne : Beginning → SocketAddr → Type 0
 AsksForOne b address = b.config.families ≡ family_of_socket address ∷ []
 
--- the client holds that allocation alone, for that lifetime from a moment on; no request is outstanding, this waits to be
--- sent, and these events to be told
+-- the client holds that allocation alone, for that lifetime from a moment on; no request is outstanding, this waits to
+-- be sent, and these events to be told
 pub record Holds (b : Beginning) (c : Choice) (address : SocketAddr) (lifetime now last : ℕ) (queue : List Queued)
     (events : List TurnEvent) (p : Protocol) : Type 0 where
   pub settings : IsOf b p

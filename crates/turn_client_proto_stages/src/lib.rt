@@ -1,23 +1,31 @@
-//! The stages of a client in a handshake.
+//! The stages of a TURN client in a handshake, by the contracts of its own calls alone, whatever answers them
+//! (RFC 8489, sections 9.2.3 and 9.2.5; RFC 8656, sections 7.1, 7.3 and 7.4). The functions do nothing; each
+//! contract is a law.
+//!
+//! A client that begins asks for an allocation without credentials ([`new_clients_ask`]) and awaits the
+//! response ([`asking_clients_wait`]). A challenge it answers by a signed request, or it ends
+//! ([`challenges_are_answered`]); what that request is says [`signed_allocates_answer`]. The request is drawn
+//! ([`chosen_clients_sign`]), and its response awaited ([`signed_clients_wait`]). Of a success with one address
+//! the client holds the allocation ([`granted_clients_hold`]). One that has ended does nothing more
+//! ([`ended_clients_rest`]). What is told at each stage says [`stages_are_told`].
+//!
+//! `IsDrawn` is the contract of `poll_transmit`, `IsPolled` that of `poll`, and `IsHeard` that of the core where a
+//! message came from the server; [`messages_reach_clients`] has how a datagram, and pieces of the stream, become
+//! such a message. Where one of these was refused memory the client has failed, and nothing is said of it.
 #![tactic(auto)]
 
-ghost use Rattle.std.specs.Prelude.{◌≡◌, ◌≢◌, ◌⊎◌, [], ◌≤◌, ◌<◌, ◌+◌, ◌++◌, ℕ, Bool, true, false, List};
-ghost use Rattle.std.specs.Prelude.{Option, Some, None, option_to_list};
+ghost use Rattle.std.specs.Prelude.{◌≡◌, ◌≢◌, ◌⊎◌, ◌≤◌, ◌<◌, ◌+◌, ◌++◌, ℕ, Bool, true, false};
+ghost use Rattle.std.specs.Prelude.{List, [], Option, Some, None, option_to_list};
 ghost use Rattle.std.specs.declared.net.socket_addr.SocketAddr.{SocketAddr};
+ghost use Rattle.stun_types.specs.Grammar.{refusal};
+ghost use Rattle.stun_types.specs.IntegrityAlgorithms.{IntegrityAlgorithm};
+ghost use Rattle.stun_types.specs.declared.transmit.Transmit.{Transmit};
 ghost use Rattle.stun_proto.specs.Challenges.{Told};
 ghost use Rattle.stun_proto_agent.specs.Moments.{moment_after};
-ghost use Rattle.stun_types.specs.IntegrityAlgorithms.{IntegrityAlgorithm};
-ghost use Rattle.stun_types.specs.Grammar.{refusal};
-ghost use Rattle.stun_types.specs.declared.transmit.Transmit.{Transmit};
 ghost use Rattle.turn_types.specs.Streams.{alive};
-ghost use Rattle.turn_client_proto_receipt.specs.Api.Payloads.{PeerPayload};
-ghost use Rattle.turn_client_proto_receipt.specs.Api.declared.answer.TurnRecvRet.{TurnRecvRet};
-ghost use Rattle.turn_client_proto_receipt.specs.Api.declared.answer.TurnRecvRet.TheVariants.{Handled};
-ghost use Rattle.turn_client_proto_receipt.specs.Control.{Datagrams, Open};
-ghost use Rattle.turn_client_proto_receipt.specs.Kept.{Kept};
-ghost use Rattle.turn_client_proto_receipt.specs.Receipts.{IsReceived, IsWaitingGiven};
 ghost use Rattle.turn_client_proto_poll.specs.Api.declared.answer.TurnPollRet.{TurnPollRet};
-ghost use Rattle.turn_client_proto_poll.specs.Api.declared.answer.TurnPollRet.TheVariants.{Closed, NoMemory, WaitUntil};
+ghost use Rattle.turn_client_proto_poll.specs.Api.declared.answer.TurnPollRet.TheVariants.{Closed, NoMemory};
+ghost use Rattle.turn_client_proto_poll.specs.Api.declared.answer.TurnPollRet.TheVariants.{WaitUntil};
 ghost use Rattle.turn_client_proto_poll.specs.Api.declared.event.TurnEvent.{TurnEvent};
 ghost use Rattle.turn_client_proto_poll.specs.Core.Ending.{HasFailed};
 ghost use Rattle.turn_client_proto_poll.specs.Core.Receiving.{IsHeard};
@@ -25,21 +33,32 @@ ghost use Rattle.turn_client_proto_poll.specs.Core.Waiting.{Queued};
 ghost use Rattle.turn_client_proto_poll.specs.Core.declared.protocol.Protocol.{Protocol};
 ghost use Rattle.turn_client_proto_poll.specs.Drawing.{IsDrawn, Sent};
 ghost use Rattle.turn_client_proto_poll.specs.Polling.{IsPolled, cadence};
-ghost use Rattle.turn_client_proto_stages.specs.Asked.{IsDue, IsPatient, IsQuiet, end_of, sent_of};
-ghost use Rattle.turn_client_proto_stages.specs.Choosing.{Choice, HasTextName, IsAnsweredBy, IsBarring, IsChallenge};
-ghost use Rattle.turn_client_proto_stages.specs.Choosing.{IsChoice, IsSignedAllocate, signed_asked, signed_sent};
+ghost use Rattle.turn_client_proto_receipt.specs.Api.Payloads.{PeerPayload};
+ghost use Rattle.turn_client_proto_receipt.specs.Api.declared.answer.TurnRecvRet.{TurnRecvRet};
+ghost use Rattle.turn_client_proto_receipt.specs.Api.declared.answer.TurnRecvRet.TheVariants.{Handled};
+ghost use Rattle.turn_client_proto_receipt.specs.Control.{Datagrams, Open};
+ghost use Rattle.turn_client_proto_receipt.specs.Kept.{Kept};
+ghost use Rattle.turn_client_proto_receipt.specs.Receipts.{IsReceived, IsWaitingGiven};
+ghost use Rattle.turn_client_proto_stages.specs.Asked.{Asked, IsDue, IsPatient, IsQuiet, end_of, sent_of};
+ghost use Rattle.turn_client_proto_stages.specs.Choosing.{Choice, HasTextName, IsAnsweredBy, IsBarring};
+ghost use Rattle.turn_client_proto_stages.specs.Choosing.{IsChallenge, IsChoice, IsSignedAllocate};
+ghost use Rattle.turn_client_proto_stages.specs.Choosing.{signed_asked, signed_sent};
 ghost use Rattle.turn_client_proto_stages.specs.Coming.{HasCome, IsFromServer, IsHeardAs, IsLost};
 ghost use Rattle.turn_client_proto_stages.specs.Coming.{IsPartOf, IsUnserved};
-ghost use Rattle.turn_client_proto_stages.specs.Stages.{AsksForOne, HasChosen, HasEnded, HasSigned, Holds};
-ghost use Rattle.turn_client_proto_stages.specs.Stages.{IsGrant, IsSigning, answer_at_end, created, IsAsking, failures, first_asked};
+ghost use Rattle.turn_client_proto_stages.specs.Stages.{AsksForOne, HasChosen, HasEnded, HasSigned};
+ghost use Rattle.turn_client_proto_stages.specs.Stages.{Holds, IsAsking, IsGrant, IsSigning};
+ghost use Rattle.turn_client_proto_stages.specs.Stages.{answer_at_end, created, failures, first_asked};
 ghost use Rattle.turn_client_proto_unanswered.specs.Driving.{IsEventTaken};
 ghost use Rattle.turn_client_proto_unanswered.specs.Sent.{Beginning, Begins, HasRoom};
 
 use std::convert::AsSlice;
-use turn_client_proto_poll::request::laws::{requests_are_read, signed_requests_claim, texts_stay_read, texts_stay_short};
+use turn_client_proto_poll::request::laws::{
+    requests_are_read, signed_requests_claim, texts_stay_read, texts_stay_short,
+};
 
-/// A client that nothing was asked of yet, drawn at a moment, sends its first request, an ALLOCATE
-/// without credentials (RFC 8489, section 9.2.3; RFC 8656, section 7.1), and then awaits the response.
+/// A client of which nothing was asked, drawn at a moment, sends its first request: an ALLOCATE without
+/// credentials (RFC 8489, section 9.2.3; RFC 8656, section 7.1). Then it awaits the response: that request
+/// alone is outstanding, sent once, and nothing waits to be sent or told. Polled before, it is to be drawn.
 pub fn new_clients_ask()
     ensures drawn { (b : Beginning) (old new : Protocol) (sent : Option Sent)
         → HasRoom b.config
@@ -55,54 +74,71 @@ pub fn new_clients_ask()
     texts_stay_short();
 }
 
+/// A client that awaits the response to its first request. Drawn, it sends that again where it is due by its
+/// schedule (RFC 8489, section 6.2.1), and else nothing, and then stays as it is. Polled before the end of the
+/// schedule it waits, until the next slot at the latest, and stays as it is; from the end on it is closed and
+/// has ended, and tells of each family that no address was allocated, unless memory is refused for that.
+/// By `cases`, a request is due at a moment or it isn't.
 pub fn asking_clients_wait()
-    ensures again { (b : Beginning) (many last : ℕ) (old new : Protocol) (now : ℕ) (sent : Option Sent)
+    ensures again { (b : Beginning) (many last : ℕ) (old new : Protocol) (now : ℕ)
+        (sent : Option Sent)
         → IsAsking b many last old
         → IsDue b (first_asked b) many now
         → IsDrawn old now sent new
         → (sent ≡ Some (sent_of b (first_asked b))) × IsAsking b (many + 1) now new }
-    ensures still { (b : Beginning) (many last : ℕ) (old new : Protocol) (now : ℕ) (sent : Option Sent)
+    ensures still { (b : Beginning) (many last : ℕ) (old new : Protocol) (now : ℕ)
+        (sent : Option Sent)
         → IsAsking b many last old
         → IsQuiet b (first_asked b) many now
         → IsDrawn old now sent new
         → (sent ≡ None) × (new ≡ old) }
-    ensures polled { (b : Beginning) (many last : ℕ) (old new : Protocol) (now : ℕ) (ret : TurnPollRet)
+    ensures polled { (b : Beginning) (many last : ℕ) (old new : Protocol) (now : ℕ)
+        (ret : TurnPollRet)
         → IsAsking b many last old
         → now < end_of b (first_asked b)
         → IsPolled old now ret new
         → IsPatient b (first_asked b) many now old ret new }
-    ensures ends { (b : Beginning) (many last : ℕ) (old new : Protocol) (now : ℕ) (ret : TurnPollRet)
+    ensures ends { (b : Beginning) (many last : ℕ) (old new : Protocol) (now : ℕ)
+        (ret : TurnPollRet)
         → IsAsking b many last old
         → end_of b (first_asked b) ≤ now
         → IsPolled old now ret new
-        → ((ret ≡ Closed) × HasEnded b (failures b) new) ⊎ ((ret ≡ NoMemory) × HasFailed old new) }
+        → ((ret ≡ Closed) × HasEnded b (failures b) new)
+        ⊎ ((ret ≡ NoMemory) × HasFailed old new) }
+    ensures cases { (b : Beginning) (a : Asked) (many now : ℕ)
+        → IsDue b a many now ⊎ IsQuiet b a many now }
 {}
 
-/// A challenge to the first request comes to a client that asks, from the server (RFC 8489, section
-/// 9.2.5).
+/// A challenge comes to a client that asks, with the number of its request (RFC 8489, section 9.2.5). Where it
+/// takes an algorithm that the settings allow, and the name can be hidden if that is required, it is answered
+/// by the strongest such algorithm: the client keeps the challenge with that choice, and a signed ALLOCATE of
+/// a new number is outstanding in place of the first, and waits to be sent. Else the client has ended, and
+/// tells of each family that no address was allocated. By `either` one of the two is so; by `apart` not both;
+/// and by `one` the algorithm is one.
 pub fn challenges_are_answered()
-    ensures answered { (b : Beginning) (many last : ℕ) (old new : Protocol) (told : Told) (bytes : List ℕ)
-        (now : ℕ) (handled : Bool) (algorithm : IntegrityAlgorithm)
+    ensures answered { (b : Beginning) (many last : ℕ) (old new : Protocol) (told : Told)
+        (bytes : List ℕ) (now : ℕ) (handled : Bool) (algorithm : IntegrityAlgorithm)
         → HasRoom b.config
         → IsAsking b many last old
         → IsChallenge b told bytes
         → IsAnsweredBy b.config told algorithm
         → IsHeard old bytes now handled new
-        → (handled ≡ true) × (number : ℕ)
-        × HasChosen b (record { told = told; algorithm = algorithm; number = number; made = now }) 1 last new }
-    ensures barred { (b : Beginning) (many last : ℕ) (old new : Protocol) (told : Told) (bytes : List ℕ)
-        (now : ℕ) (handled : Bool)
+        → (handled ≡ true) × (number : ℕ) × HasChosen b
+        (record { told = told; algorithm = algorithm; number = number; made = now }) 1 last new }
+    ensures barred { (b : Beginning) (many last : ℕ) (old new : Protocol) (told : Told)
+        (bytes : List ℕ) (now : ℕ) (handled : Bool)
         → IsAsking b many last old
         → IsChallenge b told bytes
         → IsBarring b.config told
         → IsHeard old bytes now handled new
         → (handled ≡ true) × HasEnded b (failures b) new }
-    ensures either { (b : Beginning) (many last : ℕ) (old new : Protocol) (told : Told) (bytes : List ℕ)
-        (now : ℕ) (handled : Bool)
+    ensures either { (b : Beginning) (many last : ℕ) (old new : Protocol) (told : Told)
+        (bytes : List ℕ) (now : ℕ) (handled : Bool)
         → IsAsking b many last old
         → IsChallenge b told bytes
         → IsHeard old bytes now handled new
-        → ((algorithm : IntegrityAlgorithm) × IsAnsweredBy b.config told algorithm) ⊎ IsBarring b.config told }
+        → ((algorithm : IntegrityAlgorithm) × IsAnsweredBy b.config told algorithm)
+        ⊎ IsBarring b.config told }
     ensures apart { (b : Beginning) (told : Told) (algorithm : IntegrityAlgorithm)
         → IsAnsweredBy b.config told algorithm
         → IsBarring b.config told
@@ -116,7 +152,28 @@ pub fn challenges_are_answered()
     texts_stay_short();
 }
 
-/// A client that answered a challenge, before the signed request is drawn from what waits.
+/// What the signed ALLOCATE is that answers a challenge: a message, a request of its number that asks for
+/// an allocation, right under the key of the credentials in the realm of the challenge, and it claims what
+/// the challenge asks for (RFC 8489, sections 9.2.3 and 9.2.5). The name of the user is a text: that of a
+/// client's settings always is (`names_are_texts`).
+pub fn signed_allocates_answer()
+    ensures { (b : Beginning) (c : Choice)
+        → HasRoom b.config
+        → HasTextName b.config
+        → IsChoice b c
+        → IsSignedAllocate b c }
+{
+    requests_are_read();
+    signed_requests_claim();
+    texts_stay_read();
+    texts_stay_short();
+}
+
+/// A client that answered a challenge, and whose signed request waits to be sent. It is drawn 50 ms behind the
+/// last message that was sent, and not before: from the client's own address to the server. Until then nothing
+/// is, but where the settings have waits so short that the request is due again before: its schedule begins
+/// when the challenge comes. Then it is sent at once, and still waits. Polled before the end of that schedule
+/// the client waits, no longer than it takes until the request may be drawn, and stays as it is.
 pub fn chosen_clients_sign()
     ensures again { (b : Beginning) (c : Choice) (many last : ℕ) (old new : Protocol) (now : ℕ)
         (sent : Option Sent)
@@ -147,8 +204,8 @@ pub fn chosen_clients_sign()
         × (patient.moment ≤ moment_after last cadence) }
 {}
 
-/// A client whose signed request was drawn awaits the response as [`asking_clients_wait`] says it of the
-/// first one.
+/// A client whose signed request was drawn, and nothing more waits, awaits the response to it as
+/// [`asking_clients_wait`] says it of the first one.
 pub fn signed_clients_wait()
     ensures again { (b : Beginning) (c : Choice) (many last : ℕ) (old new : Protocol) (now : ℕ)
         (sent : Option Sent)
@@ -173,13 +230,17 @@ pub fn signed_clients_wait()
         → HasSigned b c many last old
         → end_of b (signed_asked b c) ≤ now
         → IsPolled old now ret new
-        → ((ret ≡ Closed) × HasEnded b (failures b) new) ⊎ ((ret ≡ NoMemory) × HasFailed old new) }
+        → ((ret ≡ Closed) × HasEnded b (failures b) new)
+        ⊎ ((ret ≡ NoMemory) × HasFailed old new) }
 {}
 
-/// The success of its signed request comes to a client that has signed.
+/// The success of its signed request comes to a client, right under the key of its credentials, with one
+/// relayed address, of the one family that it asks for (RFC 8656, section 7.3): it holds that allocation alone,
+/// for the lifetime that is told, and tells of it alone. Whether the request was drawn from what waits makes
+/// no difference.
 pub fn granted_clients_hold()
-    ensures { (b : Beginning) (c : Choice) (many last : ℕ) (queue : List Queued) (old new : Protocol)
-        (address : SocketAddr) (lifetime : ℕ) (bytes : List ℕ) (now : ℕ) (handled : Bool)
+    ensures { (b : Beginning) (c : Choice) (many last : ℕ) (queue : List Queued)
+        (old new : Protocol) (address : SocketAddr) (lifetime : ℕ) (bytes : List ℕ) (now : ℕ) (handled : Bool)
         → IsSigning b c many last queue old
         → AsksForOne b address
         → IsGrant b c address lifetime bytes
@@ -187,7 +248,9 @@ pub fn granted_clients_hold()
         → (handled ≡ true) × Holds b c address lifetime now last queue (created b address) new }
 {}
 
-/// A client that has ended.
+/// A client that has ended, for want of a response or by a challenge that it can't answer. Drawn, it sends
+/// nothing; a poll answers that an event waits to be taken, and once none does, that the client is closed; no
+/// message is for it; and it stays as it is. Its events are taken in order.
 pub fn ended_clients_rest()
     ensures drawn { (b : Beginning) (events : List TurnEvent) (old new : Protocol) (now : ℕ)
         (sent : Option Sent)
@@ -208,10 +271,12 @@ pub fn ended_clients_rest()
         (event : Option TurnEvent)
         → HasEnded b events old
         → IsEventTaken old event new
-        → (left : List TurnEvent) × (events ≡ option_to_list event ++ left) × HasEnded b left new }
+        → (left : List TurnEvent) × (events ≡ option_to_list event ++ left)
+        × HasEnded b left new }
 {}
 
-/// What `poll_event` gives at each stage.
+/// What `poll_event` gives of a client that holds an allocation, in order; before, it gives nothing, and the
+/// client stays as it is.
 pub fn stages_are_told()
     ensures fresh { (b : Beginning) (old new : Protocol) (event : Option TurnEvent)
         → Begins b old
@@ -227,34 +292,57 @@ pub fn stages_are_told()
         → IsEventTaken old event new
         → (event ≡ None) × (new ≡ old) }
     ensures held { (b : Beginning) (c : Choice) (address : SocketAddr) (lifetime now last : ℕ)
-        (queue : List Queued) (events : List TurnEvent) (old new : Protocol) (event : Option TurnEvent)
+        (queue : List Queued) (events : List TurnEvent) (old new : Protocol)
+        (event : Option TurnEvent)
         → Holds b c address lifetime now last queue events old
         → IsEventTaken old event new
         → (left : List TurnEvent) × (events ≡ option_to_list event ++ left)
         × Holds b c address lifetime now last queue left new }
 {}
 
-/// How a message of the server's comes to a client to which the server has allocated nothing.
+/// Until it holds an allocation the server has allocated nothing to a client, whatever its stage.
+pub fn stages_are_unserved()
+    ensures fresh { (b : Beginning) (p : Protocol) → Begins b p → IsUnserved b p }
+    ensures asking { (b : Beginning) (many last : ℕ) (p : Protocol)
+        → IsAsking b many last p
+        → IsUnserved b p }
+    ensures signing { (b : Beginning) (c : Choice) (many last : ℕ) (queue : List Queued)
+        (p : Protocol)
+        → IsSigning b c many last queue p
+        → IsUnserved b p }
+    ensures ended { (b : Beginning) (events : List TurnEvent) (p : Protocol)
+        → HasEnded b events p
+        → IsUnserved b p }
+{}
+
+/// How a message of the server's comes to a client to which nothing is allocated. Over UDP, where a datagram is
+/// one, it is heard. Over TCP a piece that doesn't end a message is kept, and nothing else changes; the
+/// message is heard with the piece that ends it, wherever it was cut, and nothing of the stream is kept then
+/// (RFC 8656, section 12.5). Or memory was refused. What waits of the stream gives nothing, and the client stays as
+/// it is: over UDP always, and over TCP while a message is under way, or nothing of one has come.
 pub fn messages_reach_clients<T: AsSlice<u8>>()
-    ensures datagram { (b : Beginning) (old new : Kept) (came : Transmit T) (now : ℕ) (answer : TurnRecvRet T)
+    ensures datagram { (b : Beginning) (old new : Kept) (came : Transmit T) (now : ℕ)
+        (answer : TurnRecvRet T)
         → IsUnserved b old.core
         → old.control ≡ Datagrams
         → IsFromServer b came
         → refusal (T.items came.bytes) ≡ None
         → IsReceived T.items old came now answer new
-        → IsHeardAs old (T.items came.bytes) came now Datagrams answer new ⊎ IsLost old came answer new }
-    ensures piece { (b : Beginning) (old new : Kept) (came : Transmit T) (now : ℕ) (answer : TurnRecvRet T)
-        (before message : List ℕ)
+        → IsHeardAs old (T.items came.bytes) came now Datagrams answer new
+        ⊎ IsLost old came answer new }
+    ensures piece { (b : Beginning) (old new : Kept) (came : Transmit T) (now : ℕ)
+        (answer : TurnRecvRet T) (before message : List ℕ)
         → IsUnserved b old.core
         → HasCome before old
         → IsFromServer b came
         → T.items came.bytes ≢ []
         → IsPartOf (before ++ T.items came.bytes) message
         → IsReceived T.items old came now answer new
-        → ((answer ≡ Handled) × (new.core ≡ old.core) × HasCome (before ++ T.items came.bytes) new)
+        → ((answer ≡ Handled) × (new.core ≡ old.core)
+        × HasCome (before ++ T.items came.bytes) new)
         ⊎ IsLost old came answer new }
-    ensures whole { (b : Beginning) (old new : Kept) (came : Transmit T) (now : ℕ) (answer : TurnRecvRet T)
-        (before : List ℕ)
+    ensures whole { (b : Beginning) (old new : Kept) (came : Transmit T) (now : ℕ)
+        (answer : TurnRecvRet T) (before : List ℕ)
         → IsUnserved b old.core
         → HasCome before old
         → IsFromServer b came
@@ -263,32 +351,16 @@ pub fn messages_reach_clients<T: AsSlice<u8>>()
         → IsReceived T.items old came now answer new
         → IsHeardAs old (before ++ T.items came.bytes) came now (Open (alive [])) answer new
         ⊎ IsLost old came answer new }
-    ensures asked { (b : Beginning) (old new : Kept) (now : ℕ) (given : Option PeerPayload)
+    ensures waiting { (b : Beginning) (old new : Kept) (now : ℕ) (given : Option PeerPayload)
         (before message : List ℕ)
         → IsUnserved b old.core
         → HasCome before old
         → IsPartOf before message
         → IsWaitingGiven old now given new
         → (given ≡ None) × (new ≡ old) }
-    ensures none { (b : Beginning) (old new : Kept) (now : ℕ) (given : Option PeerPayload)
+    ensures none_waits { (b : Beginning) (old new : Kept) (now : ℕ) (given : Option PeerPayload)
         → IsUnserved b old.core
         → old.control ≡ Datagrams
         → IsWaitingGiven old now given new
         → (given ≡ None) × (new ≡ old) }
 {}
-
-/// What the signed ALLOCATE is that answers a challenge: a message, a request of its number that asks for
-/// an allocation, right under the key of the credentials in the realm of the challenge, and it claims what
-/// the challenge asks for (RFC 8489, sections 9.2.3 and 9.2.5).
-pub fn signed_allocates_answer()
-    ensures { (b : Beginning) (c : Choice)
-        → HasRoom b.config
-        → HasTextName b.config
-        → IsChoice b c
-        → IsSignedAllocate b c }
-{
-    requests_are_read();
-    signed_requests_claim();
-    texts_stay_read();
-    texts_stay_short();
-}

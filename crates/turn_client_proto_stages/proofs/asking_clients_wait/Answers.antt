@@ -1,4 +1,5 @@
 use Rattle.turn_client_proto_stages.proofs.Asking.{asking_again, asking_ends, asking_still, asking_waits}
+use Rattle.turn_client_proto_stages.proofs.Only.{due_or_quiet}
 use Rattle.turn_client_proto_stages.proofs.asking_clients_wait.Goals as goal
 
 pub returns-clause-again : goal.returns-clause-again
@@ -12,3 +13,6 @@ returns-clause-polled c = λ b many last old new now ret is before polled. askin
 
 pub returns-clause-ends : goal.returns-clause-ends
 returns-clause-ends c = λ b many last old new now ret is reached polled. asking_ends b many last old is now ret new reached polled
+
+pub returns-clause-cases : goal.returns-clause-cases
+returns-clause-cases c = λ b a many now. due_or_quiet b a many now

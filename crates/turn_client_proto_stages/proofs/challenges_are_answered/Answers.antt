@@ -1,10 +1,9 @@
-use Rattle.std.proofs.Common.{◌≡◌, ℕ, Bool, true, List, subst, sym, ◌⊎◌, inl, inr}
+use Rattle.std.proofs.Common.{◌≡◌, ℕ, Bool, true, List, subst, ◌⊎◌, inl, inr}
 use Rattle.stun_types.specs.IntegrityAlgorithms.{IntegrityAlgorithm}
 use Rattle.stun_proto.specs.Challenges.{Told}
-use Rattle.turn_client_proto_poll.specs.Core.Receiving.{IsHeard}
 use Rattle.turn_client_proto_poll.specs.Core.declared.protocol.Protocol.{Protocol}
-use Rattle.turn_client_proto_stages.specs.Choosing.{IsAnsweredBy, IsBarring, IsChallenge}
-use Rattle.turn_client_proto_stages.specs.Stages.{HasChosen, HasEnded, IsAsking, failures}
+use Rattle.turn_client_proto_stages.specs.Choosing.{IsAnsweredBy, IsChallenge}
+use Rattle.turn_client_proto_stages.specs.Stages.{HasChosen, IsAsking}
 use Rattle.turn_client_proto_stages.proofs.Challenged.{HasAnswered, IsOver, challenge_heard, chooses, is_over, none_barred, one_choice}
 use Rattle.turn_client_proto_stages.proofs.Request.{signed_shown}
 use Rattle.turn_client_proto_stages.proofs.challenges_are_answered.Goals as goal
@@ -17,13 +16,13 @@ chosen : (c : goal.After-texts_stay_short) (b : Beginning) (many last : ℕ) (ol
     → (handled ≡ true) × (number : ℕ) × HasChosen b (record { told = told; algorithm = algorithm; number = number; made = now }) 1 last new
 chosen c b many last old new told bytes now handled algorithm room w is by (inr over) = none_barred b.config told algorithm by over.barring
 chosen c b many last old new told bytes now handled algorithm room w is by (inl h) = (
-      h.is_handled,
-      h.number,
-      subst (λ (a : IntegrityAlgorithm). HasChosen b (record { told = told; algorithm = a; number = h.number; made = now }) 1 last new)
+  h.is_handled,
+  h.number,
+  subst (λ (a : IntegrityAlgorithm). HasChosen b (record { told = told; algorithm = a; number = h.number; made = now }) 1 last new)
       (one_choice b.config told h.algorithm algorithm h.answered_by by)
       (chooses b many last old w told bytes is now handled new h
       (λ choice. signed_shown b room c.texts_stay_short.ensures.fresh (record { told = told; algorithm = h.algorithm; number = h.number; made = now }) choice c.texts_stay_short.ensures.stay c.requests_are_read.ensures.number)),
-    )
+)
 
 pub returns-clause-answered : goal.returns-clause-answered
 returns-clause-answered c = λ b many last old new told bytes now handled algorithm room w is by heard.

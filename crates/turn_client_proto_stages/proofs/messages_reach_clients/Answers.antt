@@ -13,8 +13,8 @@ pub returns-clause-whole : goal.returns-clause-whole
 returns-clause-whole g c = λ b old new came now answer before is come from some message received.
     piece_ends b old is g.T.AsSlice.items came from now answer new before some message come received
 
-pub returns-clause-asked : goal.returns-clause-asked
-returns-clause-asked g c = λ b old new now given before message is come part asked. part_asked b old is now given new before message part come asked
+pub returns-clause-waiting : goal.returns-clause-waiting
+returns-clause-waiting g c = λ b old new now given before message is come part asked. part_asked b old is now given new before message part come asked
 
-pub returns-clause-none : goal.returns-clause-none
-returns-clause-none g c = λ b old new now given is over asked. none_asked b old is now given new over asked
+pub returns-clause-none_waits : goal.returns-clause-none_waits
+returns-clause-none_waits g c = λ b old new now given is over asked. none_asked b old is now given new over asked

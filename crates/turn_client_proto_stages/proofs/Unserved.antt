@@ -1,0 +1,35 @@
+-- A client to which nothing is allocated yet.
+use Rattle.std.proofs.Common.{ℕ, List, ap}
+use Rattle.stun_proto_agent.specs.State as agents
+use Rattle.turn_client_proto_poll.specs.Api.declared.event.TurnEvent.{TurnEvent}
+use Rattle.turn_client_proto_poll.specs.Core.Deleting.{is_authenticated}
+use Rattle.turn_client_proto_poll.specs.Core.Waiting.{Queued}
+use Rattle.turn_client_proto_poll.specs.Core.declared.protocol.Protocol.{Protocol}
+use Rattle.turn_client_proto_stages.specs.Choosing.{Choice}
+use Rattle.turn_client_proto_stages.specs.Coming.{IsUnserved}
+use Rattle.turn_client_proto_stages.specs.Stages.{HasEnded, IsAsking, IsSigning}
+use Rattle.turn_client_proto_unanswered.specs.Sent.{Beginning, Begins}
+
+pub fresh_unserved : (b : Beginning) (p : Protocol) → Begins b p → IsUnserved b p
+fresh_unserved b p is = record {
+  settings = record {
+    server = is.server_is;
+    remote = ap (λ (a : agents.Agent). a.remote) is.agent;
+    transport = ap (λ (a : agents.Agent). a.transport) is.agent;
+    here = ap (λ (a : agents.Agent). a.here) is.agent;
+    waits = ap (λ (a : agents.Agent). a.waits) is.agent;
+    allocates = is.allocates;
+    families = is.families;
+  };
+  allocations = is.allocations;
+  phase = ap is_authenticated is.phase;
+}
+
+pub asking_unserved : (b : Beginning) (many last : ℕ) (p : Protocol) → IsAsking b many last p → IsUnserved b p
+asking_unserved b many last p w = record { settings = w.settings; allocations = w.allocations; phase = ap is_authenticated w.phase }
+
+pub signing_unserved : (b : Beginning) (c : Choice) (many last : ℕ) (queue : List Queued) (p : Protocol) → IsSigning b c many last queue p → IsUnserved b p
+signing_unserved b c many last queue p w = record { settings = w.settings; allocations = w.allocations; phase = ap is_authenticated w.phase }
+
+pub ended_unserved : (b : Beginning) (events : List TurnEvent) (p : Protocol) → HasEnded b events p → IsUnserved b p
+ended_unserved b events p w = record { settings = w.settings; allocations = w.allocations; phase = ap is_authenticated w.phase }
