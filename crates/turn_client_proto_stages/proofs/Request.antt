@@ -66,10 +66,16 @@ abbrev pub AreClaims : Type 0
 AreClaims = (auth : Client) (request : TurnRequest) (number : ℕ) (standing : Standing) → HasShortTexts auth → HasReadTexts auth → IsLawfulRequest request → number < 2 ^ 96 → is_signed request ≡ true
     → standing_of auth ≡ Some standing → claimed (request_text auth request number) ≡ own_claim auth.anonymous_username standing
 
+-- the texts of who signs can be read
+pub signed_read : (b : Beginning) (c : Choice) → IsChoice b c → HasTextName b.config → AreRead → StayRead → HasReadTexts (signer_by b c)
+signed_read b c chosen text read stay_read =
+    let taken : IsTaken (signer_of b.config) chosen.message (ResendRequest c.algorithm) (signer_by b c) = record { told = c.told; shown = chosen.shown; answerable = chosen.answered; kept = refl } in
+    stay_read (signer_of b.config) (signer_by b c) chosen.message (Ok (ResendRequest c.algorithm)) taken (read (signer_of b.config) refl text)
+
 module _ (b : Beginning) (room : HasRoom b.config) (short : AreShort) where
   -- ---- the first one
 
-  texts_short : HasShortTexts (signer_of b.config)
+  pub texts_short : HasShortTexts (signer_of b.config)
   texts_short = short (signer_of b.config) refl room.0
 
   number_fits : first_number b < 2 ^ 96
@@ -85,14 +91,11 @@ module _ (b : Beginning) (room : HasRoom b.config) (short : AreShort) where
     taken : IsTaken (signer_of b.config) chosen.message (ResendRequest c.algorithm) (signer_by b c)
     taken = record { told = c.told; shown = chosen.shown; answerable = chosen.answered; kept = refl }
 
-    signed_short : HasShortTexts (signer_by b c)
+    pub signed_short : HasShortTexts (signer_by b c)
     signed_short = stay (signer_of b.config) (signer_by b c) chosen.message (Ok (ResendRequest c.algorithm)) taken texts_short
 
     pub signed_shown : AreNumbered → number_at (signed_request b c) ≡ c.number
     signed_shown numbered = numbered (signer_by b c) (allocate_of b) c.number signed_short room.1 chosen.fits
-
-    signed_read : HasTextName b.config → AreRead → StayRead → HasReadTexts (signer_by b c)
-    signed_read text read stay_read = stay_read (signer_of b.config) (signer_by b c) chosen.message (Ok (ResendRequest c.algorithm)) taken (read (signer_of b.config) refl text)
 
     pub signed_allocates : HasTextName b.config → AreNumbered → AreMessages → AreRequests → AreTold → AreValid → AreRead → StayRead → AreClaims → IsSignedAllocate b c
     signed_allocates text numbered messages requests told valid read stay_read claims = record {
@@ -101,5 +104,5 @@ module _ (b : Beginning) (room : HasRoom b.config) (short : AreShort) where
       number = signed_shown numbered;
       told = told (signer_by b c) (allocate_of b) c.number signed_short room.1 chosen.fits tt;
       valid = valid (signer_by b c) (allocate_of b) c.number (standing_by b c) signed_short room.1 chosen.fits refl refl;
-      claims = claims (signer_by b c) (allocate_of b) c.number (standing_by b c) signed_short (signed_read text read stay_read) room.1 chosen.fits refl refl;
+      claims = claims (signer_by b c) (allocate_of b) c.number (standing_by b c) signed_short (signed_read b c chosen text read stay_read) room.1 chosen.fits refl refl;
     }

@@ -22,7 +22,7 @@ use Rattle.turn_client_proto_stages.specs.Asked.{IsDue, IsOnlyAsked, IsPatient, 
 use Rattle.turn_client_proto_stages.specs.Choosing.{Choice, signed_asked, signed_sent}
 use Rattle.turn_client_proto_stages.specs.Stages.{HasChosen, HasEnded, HasSigned, IsSigning, failures, signed_queued}
 use Rattle.turn_client_proto_stages.proofs.First.{sends_one}
-use Rattle.turn_client_proto_stages.proofs.Only.{IsSentAgain, either, none_left, sent_again, sent_fresh, where_false, where_true}
+use Rattle.turn_client_proto_stages.proofs.Only.{due_or_quiet, IsSentAgain, either, none_left, sent_again, sent_fresh, where_false, where_true}
 use Rattle.turn_client_proto_stages.proofs.Polls.{IsAwaiting, awaits, closes, pause}
 use Rattle.turn_client_proto_unanswered.specs.Sent.{Beginning, first_number}
 
@@ -139,6 +139,14 @@ module _ (b : Beginning) (c : Choice) (many last : ℕ) (p : Protocol) (w : HasC
       ap (λ (l : List Queued). wait_to_send p.last_send l now (moment_after now longest_pause)) w.queue_is
       ∙ ap (λ (l : Option ℕ). wait_to_send l (signed_queued b c ∷ []) now (moment_after now longest_pause)) w.last_send in
       (a.patient, omega (arith, by_pause, pause_is))
+
+-- whatever the waits, from then on it is what is drawn
+pub chosen_late : (b : Beginning) (c : Choice) (many last : ℕ) (p : Protocol) → HasChosen b c many last p → (now : ℕ) (sent : Option Sent) (q : Protocol) → moment_after last cadence ≤ now → IsDrawn p now sent q
+    → (sent ≡ Some (signed_sent b c)) × (used : ℕ) × (queue : List Queued) × IsSigning b c used now queue q
+chosen_late b c many last p w now sent q late is = elim (due_or_quiet b (signed_asked b c) many now) [
+  | inl due ↦ (let again = signing_again b c many last (signed_queued b c ∷ []) p w now sent q due is in (again.0, many + 1, signed_queued b c ∷ [], again.1))
+  | inr quiet ↦ (let signs = chosen_signs b c many last p w now sent q quiet late is in (signs.0, many, [], signs.1))
+]
 
 -- ---- it was drawn
 

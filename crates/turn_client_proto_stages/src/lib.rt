@@ -17,10 +17,11 @@
 ghost use Rattle.std.specs.Prelude.{◌≡◌, ◌≢◌, ◌⊎◌, ◌≤◌, ◌<◌, ◌+◌, ◌++◌, ℕ, Bool, true, false};
 ghost use Rattle.std.specs.Prelude.{List, [], Option, Some, None, option_to_list};
 ghost use Rattle.std.specs.declared.net.socket_addr.SocketAddr.{SocketAddr};
-ghost use Rattle.stun_types.specs.Grammar.{refusal};
+ghost use Rattle.stun_types.specs.Grammar.{number_at, refusal};
 ghost use Rattle.stun_types.specs.IntegrityAlgorithms.{IntegrityAlgorithm};
 ghost use Rattle.stun_types.specs.declared.transmit.Transmit.{Transmit};
 ghost use Rattle.stun_proto.specs.Challenges.{Told};
+ghost use Rattle.stun_proto.specs.Client.{standing_of};
 ghost use Rattle.stun_proto_agent.specs.Moments.{moment_after};
 ghost use Rattle.turn_types.specs.Streams.{alive};
 ghost use Rattle.turn_client_proto_poll.specs.Api.declared.answer.TurnPollRet.{TurnPollRet};
@@ -33,6 +34,9 @@ ghost use Rattle.turn_client_proto_poll.specs.Core.Waiting.{Queued};
 ghost use Rattle.turn_client_proto_poll.specs.Core.declared.protocol.Protocol.{Protocol};
 ghost use Rattle.turn_client_proto_poll.specs.Drawing.{IsDrawn, Sent};
 ghost use Rattle.turn_client_proto_poll.specs.Polling.{IsPolled, cadence};
+ghost use Rattle.turn_client_proto_poll.specs.Request.Judging.{signer_of};
+ghost use Rattle.turn_client_proto_poll.specs.Request.ReadTexts.{HasReadTexts};
+ghost use Rattle.turn_client_proto_poll.specs.Request.ShortTexts.{HasShortTexts};
 ghost use Rattle.turn_client_proto_receipt.specs.Api.Payloads.{PeerPayload};
 ghost use Rattle.turn_client_proto_receipt.specs.Api.declared.answer.TurnRecvRet.{TurnRecvRet};
 ghost use Rattle.turn_client_proto_receipt.specs.Api.declared.answer.TurnRecvRet.TheVariants.{Handled};
@@ -42,7 +46,7 @@ ghost use Rattle.turn_client_proto_receipt.specs.Receipts.{IsReceived, IsWaiting
 ghost use Rattle.turn_client_proto_stages.specs.Asked.{Asked, IsDue, IsPatient, IsQuiet, end_of, sent_of};
 ghost use Rattle.turn_client_proto_stages.specs.Choosing.{Choice, HasTextName, IsAnsweredBy, IsBarring};
 ghost use Rattle.turn_client_proto_stages.specs.Choosing.{IsChallenge, IsChoice, IsSignedAllocate};
-ghost use Rattle.turn_client_proto_stages.specs.Choosing.{signed_asked, signed_sent};
+ghost use Rattle.turn_client_proto_stages.specs.Choosing.{signed_asked, signed_sent, signer_by, standing_by};
 ghost use Rattle.turn_client_proto_stages.specs.Coming.{HasCome, IsFromServer, IsHeardAs, IsLost};
 ghost use Rattle.turn_client_proto_stages.specs.Coming.{IsPartOf, IsUnserved};
 ghost use Rattle.turn_client_proto_stages.specs.Stages.{AsksForOne, HasChosen, HasEnded, HasSigned};
@@ -50,6 +54,7 @@ ghost use Rattle.turn_client_proto_stages.specs.Stages.{Holds, IsAsking, IsGrant
 ghost use Rattle.turn_client_proto_stages.specs.Stages.{answer_at_end, created, failures, first_asked};
 ghost use Rattle.turn_client_proto_unanswered.specs.Driving.{IsEventTaken};
 ghost use Rattle.turn_client_proto_unanswered.specs.Sent.{Beginning, Begins, HasRoom};
+ghost use Rattle.turn_client_proto_unanswered.specs.Sent.{first_number, first_request};
 
 use std::convert::AsSlice;
 use turn_client_proto_poll::request::laws::{
@@ -59,6 +64,7 @@ use turn_client_proto_poll::request::laws::{
 /// A client of which nothing was asked, drawn at a moment, sends its first request: an ALLOCATE without
 /// credentials (RFC 8489, section 9.2.3; RFC 8656, section 7.1). Then it awaits the response: that request
 /// alone is outstanding, sent once, and nothing waits to be sent or told. Polled before, it is to be drawn.
+/// The request shows its number (`number`), and the texts of the client's authenticator are short (`short`).
 pub fn new_clients_ask()
     ensures drawn { (b : Beginning) (old new : Protocol) (sent : Option Sent)
         → HasRoom b.config
@@ -69,6 +75,10 @@ pub fn new_clients_ask()
         → Begins b old
         → IsPolled old now ret new
         → (ret ≡ WaitUntil now) × (new ≡ old) }
+    ensures number { (b : Beginning)
+        → HasRoom b.config
+        → number_at (first_request b) ≡ first_number b }
+    ensures short { (b : Beginning) → HasRoom b.config → HasShortTexts (signer_of b.config) }
 {
     requests_are_read();
     texts_stay_short();
@@ -155,13 +165,24 @@ pub fn challenges_are_answered()
 /// What the signed ALLOCATE is that answers a challenge: a message, a request of its number that asks for
 /// an allocation, right under the key of the credentials in the realm of the challenge, and it claims what
 /// the challenge asks for (RFC 8489, sections 9.2.3 and 9.2.5). The name of the user is a text: that of a
-/// client's settings always is (`names_are_texts`).
+/// client's settings always is (`names_are_texts`). The authenticator that signs it has credentials and a
+/// challenge that count (`stands`), and its texts are short and can be read.
 pub fn signed_allocates_answer()
-    ensures { (b : Beginning) (c : Choice)
+    ensures request { (b : Beginning) (c : Choice)
         → HasRoom b.config
         → HasTextName b.config
         → IsChoice b c
         → IsSignedAllocate b c }
+    ensures stands { (b : Beginning) (c : Choice)
+        → standing_of (signer_by b c) ≡ Some (standing_by b c) }
+    ensures short { (b : Beginning) (c : Choice)
+        → HasRoom b.config
+        → IsChoice b c
+        → HasShortTexts (signer_by b c) }
+    ensures read { (b : Beginning) (c : Choice)
+        → HasTextName b.config
+        → IsChoice b c
+        → HasReadTexts (signer_by b c) }
 {
     requests_are_read();
     signed_requests_claim();
@@ -173,7 +194,8 @@ pub fn signed_allocates_answer()
 /// last message that was sent, and not before: from the client's own address to the server. Until then nothing
 /// is, but where the settings have waits so short that the request is due again before: its schedule begins
 /// when the challenge comes. Then it is sent at once, and still waits. Polled before the end of that schedule
-/// the client waits, no longer than it takes until the request may be drawn, and stays as it is.
+/// the client waits, no longer than it takes until the request may be drawn, and stays as it is. By `late`,
+/// from 50 ms on the signed request is drawn, whatever the waits.
 pub fn chosen_clients_sign()
     ensures again { (b : Beginning) (c : Choice) (many last : ℕ) (old new : Protocol) (now : ℕ)
         (sent : Option Sent)
@@ -202,6 +224,13 @@ pub fn chosen_clients_sign()
         → IsPolled old now ret new
         → (patient : IsPatient b (signed_asked b c) many now old ret new)
         × (patient.moment ≤ moment_after last cadence) }
+    ensures late { (b : Beginning) (c : Choice) (many last : ℕ) (old new : Protocol) (now : ℕ)
+        (sent : Option Sent)
+        → HasChosen b c many last old
+        → moment_after last cadence ≤ now
+        → IsDrawn old now sent new
+        → (sent ≡ Some (signed_sent b c)) × (used : ℕ) × (queue : List Queued)
+        × IsSigning b c used now queue new }
 {}
 
 /// A client whose signed request was drawn, and nothing more waits, awaits the response to it as
@@ -240,7 +269,8 @@ pub fn signed_clients_wait()
 /// no difference.
 pub fn granted_clients_hold()
     ensures { (b : Beginning) (c : Choice) (many last : ℕ) (queue : List Queued)
-        (old new : Protocol) (address : SocketAddr) (lifetime : ℕ) (bytes : List ℕ) (now : ℕ) (handled : Bool)
+        (old new : Protocol) (address : SocketAddr) (lifetime : ℕ) (bytes : List ℕ) (now : ℕ)
+        (handled : Bool)
         → IsSigning b c many last queue old
         → AsksForOne b address
         → IsGrant b c address lifetime bytes

@@ -1,6 +1,6 @@
 use Rattle.std.proofs.Common.{[], ◌∷◌}
 use Rattle.turn_client_proto_stages.specs.Stages.{signed_queued}
-use Rattle.turn_client_proto_stages.proofs.Signing.{chosen_rests, chosen_signs, chosen_waits, signing_again}
+use Rattle.turn_client_proto_stages.proofs.Signing.{chosen_late, chosen_rests, chosen_signs, chosen_waits, signing_again}
 use Rattle.turn_client_proto_stages.proofs.chosen_clients_sign.Goals as goal
 
 pub returns-clause-again : goal.returns-clause-again
@@ -14,3 +14,6 @@ returns-clause-signs c = λ b choice many last old new now sent is quiet late dr
 
 pub returns-clause-polled : goal.returns-clause-polled
 returns-clause-polled c = λ b choice many last old new now ret is before polled. chosen_waits b choice many last old is now ret new before polled
+
+pub returns-clause-late : goal.returns-clause-late
+returns-clause-late c = λ b choice many last old new now sent is late drawn. chosen_late b choice many last old is now sent new late drawn

@@ -1,4 +1,4 @@
-use Rattle.turn_client_proto_stages.proofs.Request.{first_shown}
+use Rattle.turn_client_proto_stages.proofs.Request.{first_shown, texts_short}
 use Rattle.turn_client_proto_stages.proofs.First.{first_drawn, first_polled}
 use Rattle.turn_client_proto_stages.proofs.new_clients_ask.Goals as goal
 
@@ -8,3 +8,9 @@ returns-clause-drawn c = λ b old new sent room is drawn.
 
 pub returns-clause-polled : goal.returns-clause-polled
 returns-clause-polled c = λ b old new now ret is polled. first_polled b old is now ret new polled
+
+pub returns-clause-number : goal.returns-clause-number
+returns-clause-number c = λ b room. first_shown b room c.texts_stay_short.ensures.fresh c.requests_are_read.ensures.number
+
+pub returns-clause-short : goal.returns-clause-short
+returns-clause-short c = λ b room. texts_short b room c.texts_stay_short.ensures.fresh
