@@ -20,7 +20,7 @@ use Rattle.stun_proto_agent.specs.Sending.{kept_under}
 use Rattle.turn_client_proto_stages.specs.Asked.{IsDue, IsOnlyAsked, IsPatient, IsQuiet, end_of, sent_of, transaction_of}
 use Rattle.turn_client_proto_stages.specs.Stages.{HasEnded, IsAsking, failures, first_asked}
 use Rattle.turn_client_proto_stages.proofs.Only.{IsSentAgain, either, none_left, sent_again, sent_fresh}
-use Rattle.turn_client_proto_stages.proofs.Polls.{awaits, closes}
+use Rattle.turn_client_proto_stages.proofs.Polls.{awaits, closes, patient}
 use Rattle.turn_client_proto_unanswered.specs.Sent.{Beginning, first_number}
 
 module _ (b : Beginning) (many last : ℕ) (p : Protocol) (w : IsAsking b many last p) where
@@ -69,9 +69,10 @@ module _ (b : Beginning) (many last : ℕ) (p : Protocol) (w : IsAsking b many l
   unanswered : list_any is_answer p.queue ≡ false
   unanswered = ap (list_any is_answer) w.queue
 
-  pub asking_waits : (now : ℕ) (ret : TurnPollRet) (q : Protocol) → now < end_of b (first_asked b) → IsPolled p now ret q → IsPatient b (first_asked b) many now p ret q
+  pub asking_waits : (now : ℕ) (ret : TurnPollRet) (q : Protocol) → now < end_of b (first_asked b) → IsPolled p now ret q → IsPatient b (first_asked b) many None now p ret q
   asking_waits now ret q before is =
-      (awaits p now ret q b (first_asked b) many w.settings w.asked (first_number b ∷ []) (inl w.phase) w.events unanswered before is).patient
+      patient p now ret q b (first_asked b) many w.settings w.asked (first_number b ∷ []) (inl w.phase) w.events unanswered w.queue
+      (awaits p now ret q b (first_asked b) many w.settings w.asked (first_number b ∷ []) (inl w.phase) w.events unanswered before is)
 
   -- a client that has ended, for want of a response
   ended_so : HasEnded b (failures b) (ended (record p { agent = record p.agent { outstanding = map.remove p.agent.outstanding (first_number b) } }))

@@ -16,6 +16,7 @@ use Rattle.turn_client_proto_poll.specs.Core.declared.protocol.Protocol.{Protoco
 use Rattle.turn_client_proto_poll.specs.Drawing.{Again, Fresh, IsDrawn, IsFreshSent, Sent, after_sending}
 use Rattle.turn_client_proto_stages.specs.Asked.{Asked, IsOnlyAsked, IsDue, IsQuiet, count_of, end_of, sent_of, slot_of, transaction_of}
 use Rattle.turn_client_proto_stages.specs.Stages.{IsOf}
+use Rattle.turn_client_proto_unanswered.specs.Driving.{client_end}
 use Rattle.turn_client_proto_unanswered.specs.Sent.{Beginning}
 
 -- ---- tools
@@ -102,6 +103,13 @@ module _ (b : Beginning) (a : Asked) (many : ℕ) where
     | false ↦ λ is. none (ltb-false many (count_of b) is)
   ] refl
 
+  -- what is next is later than now, where nothing is due and the end is later
+  next_later : (now : ℕ) → IsQuiet b a many now → now < end_of b a → now < next_moment tcp t
+  next_later now quiet before = elim (nat_lt many (count_of b)) as (λ (x : Bool). nat_lt many (count_of b) ≡ x → now < (if x then slot_of b a many else end_of b a)) [
+    | true ↦ λ is. quiet (ltb-true many (count_of b) is)
+    | false ↦ λ is. before
+  ] refl
+
   slot_to_end : many < count_of b → slot_of b a many ≤ end_of b a
   slot_to_end left = slot_before_end tcp t (lt-ltb many (count_of b) left)
 
@@ -162,12 +170,24 @@ module _ (b : Beginning) (a : Asked) (many : ℕ) where
     none_over now number x before there is =
         clash (is_ended now x) is (ap (λ (y : Transaction). is_ended now y) (found number x there).1 ∙ lt-leb (end_of b a) now before)
 
+    until_later : (now until : ℕ) → now ≤ client_end → IsQuiet b a many now → now < end_of b a → agents.IsNext p.agent now until → now < until
+    until_later now until early quiet before next = elim next.reached [
+      | inl longest ↦ omega (arith, longest, early)
+      | inr some ↦ (
+          let same : next_moment (agents.is_tcp p.agent.transport) some.1 ≡ next_moment tcp t =
+          ap (λ (x : Transaction). next_moment (agents.is_tcp p.agent.transport) x) (found some.0 some.1 some.2).1 ∙ ap (λ (y : Bool). next_moment y t) tcp_is in
+          let more = next_later now quiet before in
+          let is = some.3 in
+          omega (arith, same, more, is))
+    ]
+
     -- before the end a moment
     pub record IsStillAsked (now : ℕ) (ticked : StunAgentPollRet) (agent : agents.Agent) : Type 0 where
       pub until : ℕ
       pub ticked_is : ticked ≡ WaitUntil until
       pub by_slot : many < count_of b → until ≤ max now (slot_of b a many)
       pub by_end : until ≤ end_of b a
+      pub later : now ≤ client_end → IsQuiet b a many now → now < until
       pub unchanged : agent ≡ p.agent
 
     pub still_asked : (now : ℕ) (ticked : StunAgentPollRet) (agent : agents.Agent) → now < end_of b a → agents.IsPolled p.agent now ticked agent → IsStillAsked now ticked agent
@@ -182,6 +202,7 @@ module _ (b : Beginning) (a : Asked) (many : ℕ) where
           ticked_is = refl;
           by_slot = λ left. (let to_slot = next_is (slot_of b a many) (λ l. omega arith) (λ none. absurd (omega (arith, none, left))) in omega (arith, next, same, to_slot));
           by_end = omega (arith, next, same, to_end, before);
+          later = λ early quiet. until_later now until early quiet before is.1;
           unchanged = is.2;
         }
 

@@ -1,6 +1,6 @@
 -- What a client answers when it is polled, of which one request is outstanding or none.
-use Rattle.std.proofs.Common.{◌≡◌, ℕ, ◌<◌, ◌≤◌, arith, true, false, List, [], Option, Some, None, refl, sym, ap, ◌∙◌, subst, ◌⊎◌, inl, inr}
-use Rattle.std.specs.Prelude.{min}
+use Rattle.std.proofs.Common.{◌≡◌, ℕ, ◌<◌, ◌≤◌, arith, true, false, List, [], ◌∷◌, Option, Some, None, refl, sym, ap, ◌∙◌, subst, ◌⊎◌, inl, inr}
+use Rattle.std.specs.Prelude.{max, min}
 use Rattle.std.specs.FinMap as map
 use Rattle.std.specs.List.{list_any}
 use Rattle.stun_proto_agent.specs.Moments.{moment_after}
@@ -11,14 +11,15 @@ use Rattle.turn_client_proto_poll.specs.Api.declared.answer.TurnPollRet.{TurnPol
 use Rattle.turn_client_proto_poll.specs.Api.declared.answer.TurnPollRet.TheVariants as answer
 use Rattle.turn_client_proto_poll.specs.Api.declared.event.TurnEvent.{TurnEvent}
 use Rattle.turn_client_proto_poll.specs.Core.Ending.{HasFailed, ended}
-use Rattle.turn_client_proto_poll.specs.Core.Waiting.{is_answer}
+use Rattle.turn_client_proto_poll.specs.Core.Waiting.{Queued, is_answer}
 use Rattle.turn_client_proto_poll.specs.Core.declared.protocol.Phase.{Phase}
 use Rattle.turn_client_proto_poll.specs.Core.declared.protocol.Phase.TheVariants.{InitialSent, Authenticating}
 use Rattle.turn_client_proto_poll.specs.Core.declared.protocol.Protocol.{Protocol}
-use Rattle.turn_client_proto_poll.specs.Polling.{Answers, HasToTellIn, IsPolled, IsPolledBy, IsPolledIn, IsPolledSent, IsRefused, IsTicked, ended_of, longest_pause, wait_of, wait_to_send, waits_until}
-use Rattle.turn_client_proto_stages.specs.Asked.{Asked, IsOnlyAsked, IsPatient, end_of}
+use Rattle.turn_client_proto_poll.specs.Polling.{cadence, Answers, HasToTellIn, IsPolled, IsPolledBy, IsPolledIn, IsPolledSent, IsRefused, IsTicked, ended_of, longest_pause, wait_of, wait_to_send, waits_until}
+use Rattle.turn_client_proto_stages.specs.Asked.{Asked, IsOnlyAsked, IsPatient, IsQuiet, count_of, end_of, slot_of}
 use Rattle.turn_client_proto_stages.specs.Stages.{IsOf}
 use Rattle.turn_client_proto_stages.proofs.Only.{IsGivenUp, IsStillAsked, given_up, still_asked, where_false, where_true}
+use Rattle.turn_client_proto_unanswered.specs.Driving.{client_end}
 use Rattle.turn_client_proto_unanswered.specs.Sent.{Beginning}
 
 -- memory was refused, or not
@@ -60,24 +61,24 @@ module _ (p : Protocol) (now : ℕ) (ret : TurnPollRet) (q : Protocol) where
 
     -- it waits for what the agent waits for, or for the time at which what waits is sent
     pub record IsAwaiting : Type 0 where
-      pub patient : IsPatient b a many now p ret q
-      pub by_pause : patient.moment ≤ pause
+      pub until : ℕ
+      pub answer_is : ret ≡ answer.WaitUntil (min pause until)
+      pub by_slot : many < count_of b → until ≤ max now (slot_of b a many)
+      pub by_end : until ≤ end_of b a
+      pub later : now ≤ client_end → IsQuiet b a many now → now < until
+      pub unchanged : q ≡ p
 
     awaits_by : (ticked : StunAgentPollRet) (agent : agents.Agent) → IsStillAsked b a many p of asked now ticked agent → IsOut ticked agent → IsAwaiting
     awaits_by ticked agent s out =
         let here = subst (λ (x : StunAgentPollRet). IsOut x agent) s.ticked_is out in
         let by_sent = in_phase numbers sent None (min pause s.until) (record p { agent = agent }) here in
-        let slots = s.by_slot in
-        let ends = s.by_end in
         record {
-          patient = record {
-            moment = min pause s.until;
-            answer_is = by_sent.0;
-            by_slot = λ left. (let slot = slots left in omega (arith, slot));
-            by_end = omega (arith, ends);
-            unchanged = by_sent.1 ∙ ap (λ (y : agents.Agent). record p { agent = y }) s.unchanged;
-          };
-          by_pause = omega arith;
+          until = s.until;
+          answer_is = by_sent.0;
+          by_slot = s.by_slot;
+          by_end = s.by_end;
+          later = s.later;
+          unchanged = by_sent.1 ∙ ap (λ (y : agents.Agent). record p { agent = y }) s.unchanged;
         }
 
     none_among : {A : Type 0} (ticked : StunAgentPollRet) (agent : agents.Agent) → IsStillAsked b a many p of asked now ticked agent → is_among (ended_of ticked) numbers ≡ true → A
@@ -90,6 +91,40 @@ module _ (p : Protocol) (now : ℕ) (ret : TurnPollRet) (q : Protocol) where
       | inr refused ↦ (let k = refused.1.has_to_tell in
           none_among k.ticked k.agent (still_asked b a many p of asked now k.ticked k.agent before k.is_ticked) (tells_in numbers sent (ended_of k.ticked) (record p { agent = k.agent }) k.tells))
     ]
+
+    -- where nothing waits to be sent, it does so
+    pub patient : p.queue ≡ [] → IsAwaiting → IsPatient b a many None now p ret q
+    patient empty w =
+        let pause_is : pause ≡ moment_after now longest_pause = ap (λ (l : List Queued). wait_to_send p.last_send l now (moment_after now longest_pause)) empty in
+        let slots = w.by_slot in
+        let ends = w.by_end in
+        record {
+          moment = min pause w.until;
+          answer_is = w.answer_is;
+          by_slot = λ left. (let slot = slots left in omega (arith, slot));
+          by_end = omega (arith, ends);
+          by_ready = tt;
+          later = λ early quiet none. (let more = w.later early quiet in omega (arith, more, pause_is, early));
+          unchanged = w.unchanged;
+        }
+
+    -- where one message waits, since another was sent at a moment, until that may be sent at the latest
+    pub patient_for : (one : Queued) (last : ℕ) → p.queue ≡ one ∷ [] → p.last_send ≡ Some last → IsAwaiting → IsPatient b a many (Some (moment_after last cadence)) now p ret q
+    patient_for one last waits sent_last w =
+        let pause_is : pause ≡ min (moment_after now longest_pause) (moment_after last cadence) =
+        ap (λ (l : List Queued). wait_to_send p.last_send l now (moment_after now longest_pause)) waits
+        ∙ ap (λ (l : Option ℕ). wait_to_send l (one ∷ []) now (moment_after now longest_pause)) sent_last in
+        let slots = w.by_slot in
+        let ends = w.by_end in
+        record {
+          moment = min pause w.until;
+          answer_is = w.answer_is;
+          by_slot = λ left. (let slot = slots left in omega (arith, slot));
+          by_end = omega (arith, ends);
+          by_ready = omega (arith, pause_is);
+          later = λ early quiet before. (let more = w.later early quiet in omega (arith, more, pause_is, early, before));
+          unchanged = w.unchanged;
+        }
 
     -- ---- at the end
 

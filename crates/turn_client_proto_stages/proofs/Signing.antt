@@ -1,5 +1,5 @@
 -- A client that answered a challenge: what it draws and answers, by the contracts of `poll_transmit` and `poll` alone.
-use Rattle.std.proofs.Common.{◌≡◌, ℕ, ◌+◌, ◌<◌, ◌≤◌, ◌++◌, map as map_list, arith, Bool, true, false, List, [], ◌∷◌, Option, Some, None, refl, sym, ap, ◌∙◌, subst, ◌⊎◌, inl, inr}
+use Rattle.std.proofs.Common.{◌≡◌, ℕ, ◌+◌, ◌<◌, ◌≤◌, ◌++◌, map as map_list, Bool, true, false, List, [], ◌∷◌, Option, Some, None, refl, sym, ap, ◌∙◌, subst, ◌⊎◌, inl, inr}
 use Rattle.std.specs.Prelude.{◌==◌, ◌||◌, find}
 use Rattle.std.specs.Bool.{MatchBool}
 use Rattle.std.specs.FinMap as map
@@ -17,13 +17,13 @@ use Rattle.turn_client_proto_poll.specs.Core.Waiting.{Queued, is_answer}
 use Rattle.turn_client_proto_poll.specs.Core.declared.protocol.Phase.{Phase}
 use Rattle.turn_client_proto_poll.specs.Core.declared.protocol.Protocol.{Protocol}
 use Rattle.turn_client_proto_poll.specs.Drawing.{IsAnswerSent, IsBegun, IsDrawn, IsNextSent, IsQueuedSent, IsStill, Sent, after_sending, is_resting}
-use Rattle.turn_client_proto_poll.specs.Polling.{IsPolled, cadence, longest_pause, wait_to_send}
+use Rattle.turn_client_proto_poll.specs.Polling.{IsPolled, cadence}
 use Rattle.turn_client_proto_stages.specs.Asked.{IsDue, IsOnlyAsked, IsPatient, IsQuiet, end_of, transaction_of}
 use Rattle.turn_client_proto_stages.specs.Choosing.{Choice, signed_asked, signed_sent}
 use Rattle.turn_client_proto_stages.specs.Stages.{HasChosen, HasEnded, HasSigned, IsSigning, failures, signed_queued}
 use Rattle.turn_client_proto_stages.proofs.First.{sends_one}
 use Rattle.turn_client_proto_stages.proofs.Only.{due_or_quiet, IsSentAgain, either, none_left, sent_again, sent_fresh, where_false, where_true}
-use Rattle.turn_client_proto_stages.proofs.Polls.{IsAwaiting, awaits, closes, pause}
+use Rattle.turn_client_proto_stages.proofs.Polls.{patient, patient_for, IsAwaiting, awaits, closes}
 use Rattle.turn_client_proto_unanswered.specs.Sent.{Beginning, first_number}
 
 module _ (b : Beginning) (c : Choice) (many last : ℕ) (queue : List Queued) (p : Protocol) (w : IsSigning b c many last queue p) where
@@ -131,14 +131,11 @@ module _ (b : Beginning) (c : Choice) (many last : ℕ) (p : Protocol) (w : HasC
       )
 
   pub chosen_waits : (now : ℕ) (ret : TurnPollRet) (q : Protocol) → now < end_of b (signed_asked b c) → IsPolled p now ret q
-      → (patient : IsPatient b (signed_asked b c) many now p ret q) × (patient.moment ≤ moment_after last cadence)
+      → IsPatient b (signed_asked b c) many (Some (moment_after last cadence)) now p ret q
   chosen_waits now ret q before is =
-      let a = signing_waits b c many last (signed_queued b c ∷ []) p w refl now ret q before is in
-      let by_pause = a.by_pause in
-      let pause_is : pause p now ret q ≡ wait_to_send (Some last) (signed_queued b c ∷ []) now (moment_after now longest_pause) =
-      ap (λ (l : List Queued). wait_to_send p.last_send l now (moment_after now longest_pause)) w.queue_is
-      ∙ ap (λ (l : Option ℕ). wait_to_send l (signed_queued b c ∷ []) now (moment_after now longest_pause)) w.last_send in
-      (a.patient, omega (arith, by_pause, pause_is))
+      let none : list_any is_answer p.queue ≡ false = none_answers b c many last (signed_queued b c ∷ []) p w refl in
+      patient_for p now ret q b (signed_asked b c) many w.settings w.asked (first_number b ∷ c.number ∷ []) (inr w.phase) w.events none
+      (signed_queued b c) last w.queue_is w.last_send (signing_waits b c many last (signed_queued b c ∷ []) p w refl now ret q before is)
 
 -- whatever the waits, from then on it is what is drawn
 pub chosen_late : (b : Beginning) (c : Choice) (many last : ℕ) (p : Protocol) → HasChosen b c many last p → (now : ℕ) (sent : Option Sent) (q : Protocol) → moment_after last cadence ≤ now → IsDrawn p now sent q
@@ -158,8 +155,11 @@ module _ (b : Beginning) (c : Choice) (many last : ℕ) (p : Protocol) (w : HasS
       (subst (λ (f : Phase). MatchBool (is_resting p.last_send now) (IsStill p sent q) (IsBegun f p now sent q)) w.phase
       (fresh b c many last [] p w now sent q quiet is))
 
-  pub signed_waits : (now : ℕ) (ret : TurnPollRet) (q : Protocol) → now < end_of b (signed_asked b c) → IsPolled p now ret q → IsPatient b (signed_asked b c) many now p ret q
-  signed_waits now ret q before is = (signing_waits b c many last [] p w refl now ret q before is).patient
+  pub signed_waits : (now : ℕ) (ret : TurnPollRet) (q : Protocol) → now < end_of b (signed_asked b c) → IsPolled p now ret q → IsPatient b (signed_asked b c) many None now p ret q
+  signed_waits now ret q before is =
+      let none : list_any is_answer p.queue ≡ false = none_answers b c many last [] p w refl in
+      patient p now ret q b (signed_asked b c) many w.settings w.asked (first_number b ∷ c.number ∷ []) (inr w.phase) w.events none
+      w.queue_is (signing_waits b c many last [] p w refl now ret q before is)
 
   ended_so : HasEnded b (failures b) (ended (record p { agent = record p.agent { outstanding = map.remove p.agent.outstanding c.number } }))
   unfolding ended

@@ -1,5 +1,5 @@
 -- A request of a client's that is outstanding, and when it is sent again (RFC 8489, section 6.2.1).
-use Rattle.std.specs.Prelude.{◌≡◌, ◌<◌, ◌≤◌, ℕ, max, List, Some}
+use Rattle.std.specs.Prelude.{◌≡◌, ◌<◌, ◌≤◌, ℕ, max, List, Option, Some, IfSome}
 use Rattle.std.specs.FinMap as map
 use Rattle.stun_proto_agent.specs.Agents.{Transaction}
 use Rattle.stun_proto_agent.specs.Schedule.{end_at, slot_at, transmissions}
@@ -9,6 +9,7 @@ use Rattle.turn_client_proto_poll.specs.Api.declared.answer.TurnPollRet.{TurnPol
 use Rattle.turn_client_proto_poll.specs.Api.declared.answer.TurnPollRet.TheVariants.{WaitUntil}
 use Rattle.turn_client_proto_poll.specs.Core.declared.protocol.Protocol.{Protocol}
 use Rattle.turn_client_proto_poll.specs.Drawing.{Sent}
+use Rattle.turn_client_proto_unanswered.specs.Driving.{client_end}
 use Rattle.turn_client_proto_unanswered.specs.Sent.{Beginning}
 
 -- a request: its number, its bytes, and the moment at which it was made
@@ -58,12 +59,15 @@ IsDue b a many now = (many < count_of b) × (slot_of b a many ≤ now)
 abbrev pub IsQuiet : Beginning → Asked → (many now : ℕ) → Type 0
 IsQuiet b a many now = many < count_of b → now < slot_of b a many
 
--- the client waits until a moment, nothing has changed, and the moment isn't behind the next slot, if one is left, nor
--- behind the end
-pub record IsPatient (b : Beginning) (a : Asked) (many now : ℕ) (old : Protocol) (ret : TurnPollRet) (new : Protocol)
-    : Type 0 where
+-- the client waits until a moment, and nothing has changed. The moment isn't behind the next slot, if one is left, nor
+-- behind the end, nor behind that from which on what waits may be drawn, if something does; and it is later than now,
+-- unless a transmission is due, or what waits may be drawn
+pub record IsPatient (b : Beginning) (a : Asked) (many : ℕ) (ready : Option ℕ) (now : ℕ) (old : Protocol)
+    (ret : TurnPollRet) (new : Protocol) : Type 0 where
   pub moment : ℕ
   pub answer_is : ret ≡ WaitUntil moment
   pub by_slot : many < count_of b → moment ≤ max now (slot_of b a many)
   pub by_end : moment ≤ end_of b a
+  pub by_ready : IfSome ready (λ from. moment ≤ from)
+  pub later : now ≤ client_end → IsQuiet b a many now → IfSome ready (λ from. now < from) → now < moment
   pub unchanged : new ≡ old

@@ -86,9 +86,9 @@ pub fn new_clients_ask()
 
 /// A client that awaits the response to its first request. Drawn, it sends that again where it is due by its
 /// schedule (RFC 8489, section 6.2.1), and else nothing, and then stays as it is. Polled before the end of the
-/// schedule it waits, until the next slot at the latest, and stays as it is; from the end on it is closed and
-/// has ended, and tells of each family that no address was allocated, unless memory is refused for that.
-/// By `cases`, a request is due at a moment or it isn't.
+/// schedule it waits, until the next slot at the latest, and for a later moment where no transmission is due;
+/// and it stays as it is. From the end on it is closed and has ended, and tells of each family that no address
+/// was allocated, unless memory is refused for that. By `cases`, a request is due at a moment or it isn't.
 pub fn asking_clients_wait()
     ensures again { (b : Beginning) (many last : ℕ) (old new : Protocol) (now : ℕ)
         (sent : Option Sent)
@@ -107,7 +107,7 @@ pub fn asking_clients_wait()
         → IsAsking b many last old
         → now < end_of b (first_asked b)
         → IsPolled old now ret new
-        → IsPatient b (first_asked b) many now old ret new }
+        → IsPatient b (first_asked b) many None now old ret new }
     ensures ends { (b : Beginning) (many last : ℕ) (old new : Protocol) (now : ℕ)
         (ret : TurnPollRet)
         → IsAsking b many last old
@@ -194,8 +194,8 @@ pub fn signed_allocates_answer()
 /// last message that was sent, and not before: from the client's own address to the server. Until then nothing
 /// is, but where the settings have waits so short that the request is due again before: its schedule begins
 /// when the challenge comes. Then it is sent at once, and still waits. Polled before the end of that schedule
-/// the client waits, no longer than it takes until the request may be drawn, and stays as it is. By `late`,
-/// from 50 ms on the signed request is drawn, whatever the waits.
+/// the client waits until the request may be drawn at the latest, and for a later moment where none is to be
+/// drawn now; and it stays as it is. By `late`, from 50 ms on the signed request is drawn, whatever the waits.
 pub fn chosen_clients_sign()
     ensures again { (b : Beginning) (c : Choice) (many last : ℕ) (old new : Protocol) (now : ℕ)
         (sent : Option Sent)
@@ -222,8 +222,7 @@ pub fn chosen_clients_sign()
         → HasChosen b c many last old
         → now < end_of b (signed_asked b c)
         → IsPolled old now ret new
-        → (patient : IsPatient b (signed_asked b c) many now old ret new)
-        × (patient.moment ≤ moment_after last cadence) }
+        → IsPatient b (signed_asked b c) many (Some (moment_after last cadence)) now old ret new }
     ensures late { (b : Beginning) (c : Choice) (many last : ℕ) (old new : Protocol) (now : ℕ)
         (sent : Option Sent)
         → HasChosen b c many last old
@@ -253,7 +252,7 @@ pub fn signed_clients_wait()
         → HasSigned b c many last old
         → now < end_of b (signed_asked b c)
         → IsPolled old now ret new
-        → IsPatient b (signed_asked b c) many now old ret new }
+        → IsPatient b (signed_asked b c) many None now old ret new }
     ensures ends { (b : Beginning) (c : Choice) (many last : ℕ) (old new : Protocol) (now : ℕ)
         (ret : TurnPollRet)
         → HasSigned b c many last old
