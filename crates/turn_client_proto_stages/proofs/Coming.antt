@@ -1,9 +1,8 @@
 -- How a message of the server's comes to a client that holds nothing yet, by the contracts of `recv` and `poll_recv` alone.
-use Rattle.std.proofs.Common.{◌≡◌, ◌≢◌, ℕ, ◌+◌, ◌<◌, arith, Bool, true, false, List, [], ◌∷◌, ◌++◌, length, take, Option, Some, None, refl, sym, ap, ◌∙◌, subst, ◌⊎◌, inl, inr}
+use Rattle.std.proofs.Common.{◌≡◌, ◌≢◌, ℕ, ◌+◌, ◌<◌, arith, Bool, true, false, List, [], ◌∷◌, ◌++◌, length, take, Option, Some, None, refl, sym, ap, ◌∙◌, subst, ◌⊎◌, inl, inr, append-nil}
 use Rattle.std.specs.Prelude.{is_none, nat_lt, MatchOption}
 use Rattle.std.specs.Option.{option_or}
 use Rattle.std.proofs.lemmas.Bool.{cases_Bool, ltb-false}
-use Rattle.std.proofs.Common.{append-nil}
 use Rattle.std.proofs.Math.Seq.{drop-length, take-length}
 use Rattle.std.proofs.lemmas.List.{length-append}
 use Rattle.stun_types.specs.Attributes.{length_at}
@@ -132,10 +131,6 @@ module _ (b : Beginning) (k : Kept) (u : IsUnserved b k.core) where
   unfolding payload_of payload_told
   no_payload bytes is = rw (is, u.phase) refl
 
-  -- no bytes of a connection's peer wait
-  no_raw : raw_waiting k.core ≡ None
-  no_raw = rw u.allocations refl
-
   module _ {T : Type 0} (items : T → List ℕ) (came : Transmit T) (from : IsFromServer b came) (now : ℕ) (answer : TurnRecvRet T) (k2 : Kept) where
     of_server : IsOfServer k.core came
     of_server = record {
@@ -253,24 +248,24 @@ module _ (b : Beginning) (k : Kept) (u : IsUnserved b k.core) where
             let streamed = subst (λ (c : Control). IsReceivedBy items now c k.core came answer k2) come received in
             taken_piece whole_taken streamed
 
-  -- ---- what waits is asked for
+-- ---- what waits is asked for
 
-  module _ (now : ℕ) (given : Option PeerPayload) (k2 : Kept) where
-    same_kept : k2.core ≡ k.core → k2.control ≡ k.control → k2 ≡ k
-    same_kept core_is control_is =
-        let one : k2 ≡ record { core = k.core; control = k2.control } = ap (λ (x : Protocol). record { core = x; control = k2.control }) core_is in
-        let other : record { core = k.core; control = k2.control } ≡ k = ap (λ (x : Control). record { core = k.core; control = x }) control_is in
-        one ∙ other
+module _ (k : Kept) (now : ℕ) (given : Option PeerPayload) (k2 : Kept) where
+  same_kept : k2.core ≡ k.core → k2.control ≡ k.control → k2 ≡ k
+  same_kept core_is control_is =
+      let one : k2 ≡ record { core = k.core; control = k2.control } = ap (λ (x : Protocol). record { core = x; control = k2.control }) core_is in
+      let other : record { core = k.core; control = k2.control } ≡ k = ap (λ (x : Control). record { core = k.core; control = x }) control_is in
+      one ∙ other
 
-    pub none_asked : k.control ≡ Datagrams → IsWaitingGiven k now given k2 → (given ≡ None) × (k2 ≡ k)
-    none_asked over is =
-        let asked = subst (λ (c : Control). IsGivenBy now c k.core given k2) over is in
-        (asked.0, same_kept asked.1 (asked.2 ∙ sym over))
+  pub none_asked : k.control ≡ Datagrams → IsWaitingGiven k now given k2 → (given ≡ None) × (k2 ≡ k)
+  none_asked over is =
+      let asked = subst (λ (c : Control). IsGivenBy now c k.core given k2) over is in
+      (asked.0, same_kept asked.1 (asked.2 ∙ sym over))
 
-    pub part_asked : (before message : List ℕ) → IsPartOf before message → HasCome before k → IsWaitingGiven k now given k2 → (given ≡ None) × (k2 ≡ k)
-    part_asked before message part come is =
-        let asked = subst (λ (c : Control). IsGivenBy now c k.core given k2) come is in
-        let stream = subst (λ (o : Option Connection). IsFirstGiven now o (Open (alive before)) k.core given k2) no_raw asked in
-        let partial = part_front before message part in
-        let nothing = none_pulled now (alive before) (subst IsNone (sym partial) tt) k.core k2.core given stream.left stream.pulled in
-        (nothing.0, same_kept nothing.2 (stream.stands ∙ (ap Open (nothing.1 ∙ ap (λ (f : Front). left_by f before) partial) ∙ sym come)))
+  pub part_asked : raw_waiting k.core ≡ None → (before message : List ℕ) → IsPartOf before message → HasCome before k → IsWaitingGiven k now given k2 → (given ≡ None) × (k2 ≡ k)
+  part_asked no_raw before message part come is =
+      let asked = subst (λ (c : Control). IsGivenBy now c k.core given k2) come is in
+      let stream = subst (λ (o : Option Connection). IsFirstGiven now o (Open (alive before)) k.core given k2) no_raw asked in
+      let partial = part_front before message part in
+      let nothing = none_pulled now (alive before) (subst IsNone (sym partial) tt) k.core k2.core given stream.left stream.pulled in
+      (nothing.0, same_kept nothing.2 (stream.stands ∙ (ap Open (nothing.1 ∙ ap (λ (f : Front). left_by f before) partial) ∙ sym come)))

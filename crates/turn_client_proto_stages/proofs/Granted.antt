@@ -1,5 +1,5 @@
 -- What a client that signed makes of the success of its request, by the contract of `handle_message` alone.
-use Rattle.std.proofs.Common.{◌≡◌, ℕ, ◌++◌, map as map_list, Bool, true, false, List, [], ◌∷◌, Option, Some, None, refl, sym, ap, ◌∙◌, subst}
+use Rattle.std.proofs.Common.{inl, inr, ◌≡◌, ℕ, ◌++◌, map as map_list, Bool, true, false, List, [], ◌∷◌, Option, Some, None, refl, sym, ap, ◌∙◌, subst}
 use Rattle.std.specs.Prelude.{◌==◌, ◌&&◌, ◌||◌, Result, Ok, Err, is_some, if◌then◌else◌}
 use Rattle.std.specs.FinMap as map
 use Rattle.std.specs.declared.net.socket_addr.SocketAddr.{SocketAddr}
@@ -45,6 +45,10 @@ use Rattle.turn_client_proto_poll.specs.Response.Told.{relayed_told}
 use Rattle.turn_client_proto_stages.specs.Choosing.{Choice, signed_asked, signer_by, standing_by}
 use Rattle.turn_client_proto_stages.specs.Stages.{AsksForOne, Holds, IsGrant, IsSigning, created as created_told}
 use Rattle.turn_client_proto_stages.proofs.Only.{none_left, where_true}
+use Rattle.turn_client_proto_stages.proofs.Polls.{refused_or}
+use Rattle.turn_client_proto_poll.specs.Api.declared.answer.TurnPollRet.{TurnPollRet}
+use Rattle.turn_client_proto_poll.specs.Api.declared.answer.TurnPollRet.TheVariants as answer
+use Rattle.turn_client_proto_poll.specs.Polling.{IsPolled, IsPolledBy}
 use Rattle.turn_client_proto_unanswered.specs.Sent.{Beginning, first_number}
 
 -- a success is a response, and no challenge
@@ -183,3 +187,11 @@ module _ (b : Beginning) (c : Choice) (many last : ℕ) (queue : List Queued) (p
     unfolding allocated accepted
     holds = subst (λ (x : Protocol). Holds b c address lifetime now last queue (created_told b address) x)
         (sym (h.after ∙ ap (λ (y : agents.Agent). allocated (brought (record p { auth = h.client; agent = y; resends = 0 }) bytes lifetime now) (record p { auth = h.client; agent = y; resends = 0 })) agent_after)) holds_after
+
+-- polled while an event waits, a client answers that one does
+pub holding_polled : (p : Protocol) (event : TurnEvent) (others : List TurnEvent) → p.events ≡ event ∷ others → (now : ℕ) (ret : TurnPollRet) (q : Protocol) → IsPolled p now ret q
+    → (ret ≡ answer.WaitUntil now) × (q ≡ p)
+holding_polled p event others waits now ret q polled = elim (refused_or p now ret q polled) [
+  | inl by ↦ subst (λ (l : List TurnEvent). IsPolledBy l p now ret q) waits by
+  | inr refused ↦ absurd (Prim.cc (sym waits ∙ refused.1.no_event))
+]

@@ -1,5 +1,7 @@
 -- A client to which nothing is allocated yet.
-use Rattle.std.proofs.Common.{ℕ, List, ap}
+use Rattle.std.proofs.Common.{ℕ, List, ap, ◌≡◌, None, refl}
+use Rattle.std.specs.declared.net.socket_addr.SocketAddr.{SocketAddr}
+use Rattle.turn_client_proto_receipt.specs.SocketPieces.{raw_waiting}
 use Rattle.stun_proto_agent.specs.State as agents
 use Rattle.turn_client_proto_poll.specs.Api.declared.event.TurnEvent.{TurnEvent}
 use Rattle.turn_client_proto_poll.specs.Core.Deleting.{is_authenticated}
@@ -7,7 +9,7 @@ use Rattle.turn_client_proto_poll.specs.Core.Waiting.{Queued}
 use Rattle.turn_client_proto_poll.specs.Core.declared.protocol.Protocol.{Protocol}
 use Rattle.turn_client_proto_stages.specs.Choosing.{Choice}
 use Rattle.turn_client_proto_stages.specs.Coming.{IsUnserved}
-use Rattle.turn_client_proto_stages.specs.Stages.{HasEnded, IsAsking, IsSigning}
+use Rattle.turn_client_proto_stages.specs.Stages.{HasEnded, Holds, IsAsking, IsSigning}
 use Rattle.turn_client_proto_unanswered.specs.Sent.{Beginning, Begins}
 
 pub fresh_unserved : (b : Beginning) (p : Protocol) → Begins b p → IsUnserved b p
@@ -33,3 +35,12 @@ signing_unserved b c many last queue p w = record { settings = w.settings; alloc
 
 pub ended_unserved : (b : Beginning) (events : List TurnEvent) (p : Protocol) → HasEnded b events p → IsUnserved b p
 ended_unserved b events p w = record { settings = w.settings; allocations = w.allocations; phase = ap is_authenticated w.phase }
+
+-- no bytes of the peer of a connection wait, where nothing is allocated
+pub none_raw : (b : Beginning) (p : Protocol) → IsUnserved b p → raw_waiting p ≡ None
+none_raw b p u = rw u.allocations refl
+
+-- nor in an allocation that was just granted
+pub holding_none_raw : (b : Beginning) (c : Choice) (address : SocketAddr) (lifetime now last : ℕ) (queue : List Queued) (events : List TurnEvent) (p : Protocol)
+    → Holds b c address lifetime now last queue events p → raw_waiting p ≡ None
+holding_none_raw b c address lifetime now last queue events p w = rw w.allocations refl

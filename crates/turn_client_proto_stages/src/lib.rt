@@ -15,7 +15,7 @@
 #![tactic(auto)]
 
 ghost use Rattle.std.specs.Prelude.{◌≡◌, ◌≢◌, ◌⊎◌, ◌≤◌, ◌<◌, ◌+◌, ◌++◌, ℕ, Bool, true, false};
-ghost use Rattle.std.specs.Prelude.{List, [], Option, Some, None, option_to_list};
+ghost use Rattle.std.specs.Prelude.{List, [], ◌∷◌, Option, Some, None, option_to_list};
 ghost use Rattle.std.specs.declared.net.socket_addr.SocketAddr.{SocketAddr};
 ghost use Rattle.stun_types.specs.Grammar.{number_at, refusal};
 ghost use Rattle.stun_types.specs.IntegrityAlgorithms.{IntegrityAlgorithm};
@@ -43,6 +43,7 @@ ghost use Rattle.turn_client_proto_receipt.specs.Api.declared.answer.TurnRecvRet
 ghost use Rattle.turn_client_proto_receipt.specs.Control.{Datagrams, Open};
 ghost use Rattle.turn_client_proto_receipt.specs.Kept.{Kept};
 ghost use Rattle.turn_client_proto_receipt.specs.Receipts.{IsReceived, IsWaitingGiven};
+ghost use Rattle.turn_client_proto_receipt.specs.SocketPieces.{raw_waiting};
 ghost use Rattle.turn_client_proto_stages.specs.Asked.{Asked, IsDue, IsPatient, IsQuiet, end_of, sent_of};
 ghost use Rattle.turn_client_proto_stages.specs.Choosing.{Choice, HasTextName, IsAnsweredBy, IsBarring};
 ghost use Rattle.turn_client_proto_stages.specs.Choosing.{IsChallenge, IsChoice, IsSignedAllocate};
@@ -265,9 +266,9 @@ pub fn signed_clients_wait()
 /// The success of its signed request comes to a client, right under the key of its credentials, with one
 /// relayed address, of the one family that it asks for (RFC 8656, section 7.3): it holds that allocation alone,
 /// for the lifetime that is told, and tells of it alone. Whether the request was drawn from what waits makes
-/// no difference.
+/// no difference. Polled before its event is taken, it answers that one waits, and stays as it is.
 pub fn granted_clients_hold()
-    ensures { (b : Beginning) (c : Choice) (many last : ℕ) (queue : List Queued)
+    ensures holds { (b : Beginning) (c : Choice) (many last : ℕ) (queue : List Queued)
         (old new : Protocol) (address : SocketAddr) (lifetime : ℕ) (bytes : List ℕ) (now : ℕ)
         (handled : Bool)
         → IsSigning b c many last queue old
@@ -275,6 +276,12 @@ pub fn granted_clients_hold()
         → IsGrant b c address lifetime bytes
         → IsHeard old bytes now handled new
         → (handled ≡ true) × Holds b c address lifetime now last queue (created b address) new }
+    ensures polled { (b : Beginning) (c : Choice) (address : SocketAddr) (lifetime made last : ℕ)
+        (queue : List Queued) (event : TurnEvent) (others : List TurnEvent) (old new : Protocol)
+        (now : ℕ) (ret : TurnPollRet)
+        → Holds b c address lifetime made last queue (event ∷ others) old
+        → IsPolled old now ret new
+        → (ret ≡ WaitUntil now) × (new ≡ old) }
 {}
 
 /// A client that has ended, for want of a response or by a challenge that it can't answer. Drawn, it sends
@@ -329,7 +336,8 @@ pub fn stages_are_told()
         × Holds b c address lifetime now last queue left new }
 {}
 
-/// Until it holds an allocation the server has allocated nothing to a client, whatever its stage.
+/// Until it holds an allocation the server has allocated nothing to a client, whatever its stage. No bytes of
+/// the peer of a connection wait in such a client, nor in one that holds an allocation that it was just granted.
 pub fn stages_are_unserved()
     ensures fresh { (b : Beginning) (p : Protocol) → Begins b p → IsUnserved b p }
     ensures asking { (b : Beginning) (many last : ℕ) (p : Protocol)
@@ -342,13 +350,19 @@ pub fn stages_are_unserved()
     ensures ended { (b : Beginning) (events : List TurnEvent) (p : Protocol)
         → HasEnded b events p
         → IsUnserved b p }
+    ensures none_waits { (b : Beginning) (p : Protocol) → IsUnserved b p → raw_waiting p ≡ None }
+    ensures held { (b : Beginning) (c : Choice) (address : SocketAddr) (lifetime now last : ℕ)
+        (queue : List Queued) (events : List TurnEvent) (p : Protocol)
+        → Holds b c address lifetime now last queue events p
+        → raw_waiting p ≡ None }
 {}
 
 /// How a message of the server's comes to a client to which nothing is allocated. Over UDP, where a datagram is
 /// one, it is heard. Over TCP a piece that doesn't end a message is kept, and nothing else changes; the
 /// message is heard with the piece that ends it, wherever it was cut, and nothing of the stream is kept then
-/// (RFC 8656, section 12.5). Or memory was refused. What waits of the stream gives nothing, and the client stays as
-/// it is: over UDP always, and over TCP while a message is under way, or nothing of one has come.
+/// (RFC 8656, section 12.5). Or memory was refused. What waits of the stream gives nothing, and the client stays
+/// as it is: over UDP always; over TCP while a message is under way, or nothing of one has come, and no bytes
+/// of the peer of a connection wait.
 pub fn messages_reach_clients<T: AsSlice<u8>>()
     ensures datagram { (b : Beginning) (old new : Kept) (came : Transmit T) (now : ℕ)
         (answer : TurnRecvRet T)
@@ -380,15 +394,14 @@ pub fn messages_reach_clients<T: AsSlice<u8>>()
         → IsReceived T.items old came now answer new
         → IsHeardAs old (before ++ T.items came.bytes) came now (Open (alive [])) answer new
         ⊎ IsLost old came answer new }
-    ensures waiting { (b : Beginning) (old new : Kept) (now : ℕ) (given : Option PeerPayload)
+    ensures waiting { (old new : Kept) (now : ℕ) (given : Option PeerPayload)
         (before message : List ℕ)
-        → IsUnserved b old.core
+        → raw_waiting old.core ≡ None
         → HasCome before old
         → IsPartOf before message
         → IsWaitingGiven old now given new
         → (given ≡ None) × (new ≡ old) }
-    ensures none_waits { (b : Beginning) (old new : Kept) (now : ℕ) (given : Option PeerPayload)
-        → IsUnserved b old.core
+    ensures none_waits { (old new : Kept) (now : ℕ) (given : Option PeerPayload)
         → old.control ≡ Datagrams
         → IsWaitingGiven old now given new
         → (given ≡ None) × (new ≡ old) }

@@ -14,7 +14,7 @@ returns-clause-whole g c = λ b old new came now answer before is come from some
     piece_ends b old is g.T.AsSlice.items came from now answer new before some message come received
 
 pub returns-clause-waiting : goal.returns-clause-waiting
-returns-clause-waiting g c = λ b old new now given before message is come part asked. part_asked b old is now given new before message part come asked
+returns-clause-waiting g c = λ old new now given before message none come part asked. part_asked old now given new none before message part come asked
 
 pub returns-clause-none_waits : goal.returns-clause-none_waits
-returns-clause-none_waits g c = λ b old new now given is over asked. none_asked b old is now given new over asked
+returns-clause-none_waits g c = λ old new now given over asked. none_asked old now given new over asked
