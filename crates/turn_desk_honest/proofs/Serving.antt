@@ -1,0 +1,86 @@
+-- What a desk that has challenged a client keeps of it.
+use Rattle.std.proofs.Common.{◌≡◌, inl, inr, [], ℕ, Bool, true, false, List, Some, None, refl, sym, ap, ◌∙◌, subst}
+use Rattle.std.specs.Prelude.{◌&&◌, if◌then◌else◌, IsSome}
+use Rattle.std.specs.FinMap as map
+use Rattle.std.specs.Option.{option_map}
+use Rattle.stun_types.specs.IntegrityAlgorithms.{IntegrityAlgorithm}
+use Rattle.stun_types.specs.Userhashes.{userhash_of}
+use Rattle.stun_proto.specs.Challenges.{Told}
+use Rattle.stun_proto.specs.Choice.{supports, takes}
+use Rattle.stun_proto.specs.Server.{Client}
+use Rattle.stun_proto.specs.SupportedAlgorithms.{list_of}
+use Rattle.stun_proto.specs.Users.{HashesDiffer}
+use Rattle.turn_client_proto.specs.Kept.{Protocol}
+use Rattle.turn_client_proto_stages.specs.Choosing.{Choice, IsAnsweredBy, IsChoice, standing_by}
+use Rattle.turn_client_proto_stages.specs.Stages.{IsOf}
+use Rattle.turn_desk_handshake.specs.Handshakes.{IsOfServer, list_given}
+use Rattle.turn_desk_steps.specs.State.{State}
+use Rattle.turn_desk_honest.specs.Scripts.{Plan}
+use Rattle.turn_desk_honest.specs.Standing.{HasDrawn, IsFirstReply, IsOfSettings, IsUnder}
+
+pub second_true : (a b : Bool) → (a && b) ≡ true → b ≡ true
+second_true true b is = is
+second_true false b is = absurd (Prim.cc is)
+
+pub first_true : (a b : Bool) → (a && b) ≡ true → a ≡ true
+first_true true b is = refl
+first_true false b is = absurd (Prim.cc is)
+
+module _ (plan : Plan) (old desk : State) where
+  first_settings : (reply : List ℕ) (f : IsFirstReply plan old reply desk) → IsOfSettings old.auth f.told
+  first_settings reply f = record {
+    realm = f.realm;
+    takes_own = f.takes_own;
+    hides = ap (λ n. n.anonymous_username) f.features;
+  }
+
+  pub of_settings : (told : Told) → IsUnder plan old told desk → IsOfSettings old.auth told
+  of_settings told u = subst (λ (t : Told). IsOfSettings old.auth t) u.told_is (first_settings u.reply u.challenge)
+
+  -- no two users have the same hash still
+  pub differ_still : (told : Told) → IsUnder plan old told desk → HashesDiffer old.auth → HashesDiffer desk.auth
+  differ_still told u differ = λ a b one other same. differ a b
+      (subst (λ m. IsSome (map.get m a)) u.challenge.settings.users one)
+      (subst (λ m. IsSome (map.get m b)) u.challenge.settings.users other)
+      (subst (λ (r : List ℕ). userhash_of a r ≡ userhash_of b r) u.challenge.settings.realm same)
+
+  -- the client that answers is a user of the desk's
+  module _ (c : Choice) (u : IsUnder plan old c.told desk) (by : IsAnsweredBy plan.client.config c.told c.algorithm)
+      (user : map.get old.auth.users plan.client.config.credentials.username ≡ Some plan.client.config.credentials.password) where
+    pub chosen_supported : supports old.auth.algorithms c.algorithm ≡ true
+    chosen_supported = sym ((of_settings c.told u).takes_own c.algorithm) ∙ second_true (supports plan.client.config.algorithms c.algorithm) (takes c.told.offered c.algorithm) by.strongest.common
+
+    given : u.challenge.told.offered ≡ list_given desk.auth.algorithms
+    given = u.challenge.list
+        ∙ ap (λ n. if n.password_algorithms then Some (list_of old.auth.algorithms) else None) u.challenge.features
+        ∙ sym (ap list_given u.challenge.settings.algorithms)
+
+    pub is_user : IsOfServer desk.auth plan.client.here (standing_by plan.client c)
+    is_user = record {
+      present = subst (λ m. map.get m plan.client.config.credentials.username ≡ Some plan.client.config.credentials.password) (sym u.challenge.settings.users) user;
+      realm = sym (ap (λ (t : Told). t.realm) u.told_is) ∙ u.challenge.realm ∙ sym u.challenge.settings.realm;
+      nonce = ap (option_map (λ (k : Client). k.nonce)) u.challenge.kept ∙ ap (λ (t : Told). Some t.nonce) u.told_is;
+      offered = sym (ap (λ (t : Told). t.offered) u.told_is) ∙ given;
+      choice = ap (λ (l : List IntegrityAlgorithm). supports l c.algorithm) u.challenge.settings.algorithms ∙ chosen_supported;
+    }
+
+-- ---- the client, once its signed request was drawn
+
+module _ (plan : Plan) (c : Choice) (p : Protocol) (d : HasDrawn plan c p) where
+  pub choice_of : IsChoice plan.client c
+  choice_of = elim d.is [
+    | inl w ↦ w.choice
+    | inr w ↦ w.choice
+  ]
+
+  pub settings_of : IsOf plan.client p
+  settings_of = elim d.is [
+    | inl w ↦ w.settings
+    | inr w ↦ w.settings
+  ]
+
+  pub allocations_of : p.allocations ≡ []
+  allocations_of = elim d.is [
+    | inl w ↦ w.allocations
+    | inr w ↦ w.allocations
+  ]

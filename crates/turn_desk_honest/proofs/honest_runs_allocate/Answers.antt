@@ -1,0 +1,112 @@
+use Rattle.std.proofs.Common.{◌≡◌, ◌++◌, ℕ, List, [], ◌∷◌, ap, refl, sym, ◌∙◌, subst, inl, inr, append_assoc}
+use Rattle.std.proofs.lemmas.List.{append-nil}
+use Rattle.std.specs.declared.net.socket_addr.SocketAddr.{SocketAddr}
+use Rattle.stun_proto.specs.Client.{account_key}
+use Rattle.stun_proto.specs.Digests.{IsRight}
+use Rattle.turn_client_proto.specs.Allocation.Listed.{relayed_shown}
+use Rattle.turn_client_proto.specs.Api.declared.event.TurnEvent.{TurnEvent}
+use Rattle.turn_client_proto.specs.Kept.{Protocol}
+use Rattle.turn_client_proto_stages.specs.Choosing.{Choice}
+use Rattle.turn_desk_event.specs.declared.answer.Answer.{Answer}
+use Rattle.turn_desk_event.specs.declared.event.Event.{Event}
+use Rattle.turn_desk_world.specs.Model.{World}
+use Rattle.turn_desk_world.specs.Runs.{IsRun, IsStep}
+use Rattle.turn_desk_honest.specs.Promises.{AreApart, HasCome, IsAllocated, IsFresh, IsTurnedAway, event_in, events_in}
+use Rattle.turn_desk_honest.specs.Scripts.{AskFirst, AskSecond, Asked, Barred, Came, Challenged, Done, DrawFirst, DrawSecond, DrawsOn, Follows, GiveFirst, GiveSecond, Granted, IsScript, Looks, Place, Plan, Polls, Signed, Silent, Start}
+use Rattle.turn_desk_honest.specs.Standing.{IsChosen, IsHeld, IsOver, Stands}
+use Rattle.turn_desk_honest.proofs.Meeting.{are_apart, strongest_of_both, together}
+use Rattle.turn_desk_honest.proofs.Serving.{of_settings}
+use Rattle.turn_desk_honest.proofs.honest_runs_allocate.Goals as goal
+
+module _ (c : goal.After-ended_worlds_rest) (plan : Plan) (old : World) (fresh : IsFresh plan old) where
+  -- ---- one event
+
+  module _ (w v : World) (told : List TurnEvent) (place next : Place) (event : Event) (ret : Answer) where
+    -- with the place, the event and the next place as a constructor says them
+    abbrev At : Place → Event → Place → Type 0
+    At from happening to = Stands plan old told from w → IsStep happening w ret v → Stands plan old (told ++ event_in ret) to v
+
+    as_said : (from : Place) (happening : Event) (to : Place) → place ≡ from → event ≡ happening → next ≡ to → At from happening to → At place event next
+    as_said from happening to one two three is = λ stands step.
+        subst (λ (n : Place). Stands plan old (told ++ event_in ret) n v) (sym three)
+        (is (subst (λ (p : Place). Stands plan old told p w) one stands) (subst (λ (e : Event). IsStep e w ret v) two step))
+
+    one : Follows plan place event ret next → At place event next
+    one (DrawFirst at is to) = as_said _ _ _ at is to (λ stands step. c.first_requests_are_drawn.ensures plan old w v told ret fresh stands step)
+    one (AskFirst request bytes decision seed at same is to) =
+        as_said _ _ _ at is to (λ stands step. c.first_requests_are_challenged.ensures plan old w v told ret request bytes decision seed fresh stands same step)
+    one (GiveFirst reply bytes at same is to) = as_said _ _ _ at is to (λ stands step. c.first_replies_are_taken.ensures plan old w v told ret reply bytes fresh stands same step)
+    one (DrawSecond at is to) = as_said _ _ _ at is to (λ stands step. c.second_requests_are_drawn.ensures plan old w v told ret fresh stands step)
+    one (AskSecond request bytes address lifetime seed at same asks whole is to) =
+        as_said _ _ _ at is to (λ stands step. c.second_requests_are_granted.ensures plan old w v told ret request bytes address lifetime seed fresh stands same asks whole step)
+    one (GiveSecond request address lifetime reply bytes at same is to) =
+        as_said _ _ _ at is to (λ stands step. c.second_replies_are_taken.ensures plan old w v told ret request address lifetime reply bytes fresh stands same step)
+    one (Looks what now look is to) = as_said _ _ _ refl is to (λ stands step. c.worlds_stand_still.ensures.looks plan old w v told ret place what now stands look step)
+    one (Polls now at before is to) = as_said _ _ _ refl is to (λ stands step. c.worlds_stand_still.ensures.polls plan old w v told ret place now stands at before step)
+    one (DrawsOn now at is to) = as_said _ _ _ at is to (λ stands step. c.ended_worlds_rest.ensures.rests plan old w v told ret now stands step)
+
+  -- ---- all of them
+
+  all : (w new : World) (told : List TurnEvent) (place last : Place) (pairs : List (Event × Answer)) → Stands plan old told place w → IsRun w pairs new → IsScript plan place pairs last → Stands plan old (told ++ events_in pairs) last new
+  unfolding IsRun IsScript
+  all w new told place last [] stands run is =
+      subst (λ (l : List TurnEvent). Stands plan old l last new) (sym (append-nil told))
+      (subst (λ (p : Place). Stands plan old told p new) (sym is) (subst (λ (x : World). Stands plan old told place x) (sym run) stands))
+  all w new told place last (pair ∷ pairs) stands run is =
+      let behind = one w run.0 told place is.0 pair.0 pair.1 is.1 stands run.1 in
+      subst (λ (l : List TurnEvent). Stands plan old l last new) (append_assoc told (event_in pair.1) (events_in pairs))
+      (all run.0 new (told ++ event_in pair.1) is.0 last pairs behind run.2 is.2)
+
+  -- ---- what that means
+
+  turned_away : (told : List TurnEvent) (w : World) → IsOver plan old told w → IsTurnedAway plan old told w
+  turned_away told w is = record {
+    apart = are_apart plan.client.config old.desk.auth is.challenge (of_settings plan old.desk w.desk is.challenge is.under) is.barring;
+    held = record {
+      core = is.client.core;
+      there = is.client.there;
+      is = (ap relayed_shown is.client.is.allocations, ap (λ (l : List TurnEvent). told ++ l) is.client.is.events_are ∙ is.tells);
+    };
+    granted = is.under.challenge.granted;
+    quiet = λ now ret next early step. c.ended_worlds_rest.ensures.quiet plan old w next told ret now is early step;
+    closed = λ now ret next early gone step. c.ended_worlds_rest.ensures.closed plan old w next told ret now is early gone step;
+  }
+
+  not_apart : (choice : Choice) (w : World) (Is : Protocol → Type 0) → IsChosen plan old choice Is w → AreApart plan.client.config old.desk.auth → ⊥
+  not_apart choice w Is is = together plan.client.config old.desk.auth choice.told (of_settings plan old.desk w.desk choice.told is.under) choice.algorithm is.answered
+
+  in_realm : (choice : Choice) (bytes realm : List ℕ) → choice.told.realm ≡ realm → IsRight bytes (account_key plan.client.config.credentials choice.told.realm choice.algorithm)
+      → IsRight bytes (account_key plan.client.config.credentials realm choice.algorithm)
+  in_realm choice bytes realm same right = subst (λ (r : List ℕ). IsRight bytes (account_key plan.client.config.credentials r choice.algorithm)) same right
+
+  allocated : (told : List TurnEvent) (request : List ℕ) (address : SocketAddr) (lifetime : ℕ) (reply : List ℕ) (w : World) → IsHeld plan old told request address lifetime reply w → IsAllocated plan old told request address lifetime reply w
+  allocated told request address lifetime reply w is = record {
+    together = together plan.client.config old.desk.auth is.choice.told is.is.of is.choice.algorithm is.is.answered;
+    algorithm = is.choice.algorithm;
+    strongest = strongest_of_both plan.client.config old.desk.auth is.choice.told is.is.of is.choice.algorithm is.is.answered;
+    request_is_right = in_realm is.choice request old.desk.auth.realm is.is.of.realm is.is.request_right;
+    reply_is_right = in_realm is.choice reply old.desk.auth.realm is.is.of.realm is.is.grant.right;
+    held = record {
+      core = is.client.core;
+      there = is.client.there;
+      is = (is.client.is.shown, ap (λ (l : List TurnEvent). told ++ l) is.client.is.events_are ∙ is.tells);
+    };
+    granted = is.is.granted;
+  }
+
+  come : (told : List TurnEvent) (w : World) (place : Place) → Stands plan old told place w → HasCome plan old told place w
+  come told w Start is = is.0
+  come told w (Asked request) is = is.0
+  come told w (Challenged reply) is = is.0
+  come told w Came (inl is) = (λ apart. absurd (not_apart is.1.choice w _ is.1.chosen apart), λ other. is.0)
+  come told w Came (inr is) = (λ apart. turned_away told w is, λ other. absurd (other (turned_away told w is).apart))
+  come told w (Signed request) is = not_apart is.1.choice w _ is.1.chosen
+  come told w (Granted request address lifetime reply) is = together plan.client.config old.desk.auth is.1.choice.told is.1.is.of is.1.choice.algorithm is.1.is.answered
+  come told w (Done request address lifetime reply) is = allocated told request address lifetime reply w is
+  come told w Barred is = turned_away told w is
+  come told w Silent is = is
+
+pub returns : goal.returns
+returns c = λ plan old new pairs place fresh run is.
+    come c plan old fresh (events_in pairs) new place
+    (all c plan old fresh old new [] Start place pairs (refl, record { client = fresh.client; desk_is = refl }) run is)

@@ -1,0 +1,143 @@
+-- What an honest run over UDP comes to (RFC 8489, section 9.2; RFC 8656, sections 7.1 to 7.4).
+use Rattle.std.specs.Prelude.{◌≡◌, ◌≤◌, ◌<◌, ◌^◌, ◌⊎◌, ◌++◌, ℕ, true, false, List, [], ◌∷◌, Some, None}
+use Rattle.std.specs.FinMap as map
+use Rattle.std.specs.List.{flat_map}
+use Rattle.std.specs.declared.net.socket_addr.SocketAddr.{SocketAddr}
+use Rattle.stun_types.specs.IntegrityAlgorithms.{IntegrityAlgorithm}
+use Rattle.stun_types.specs.Strength.{is_stronger}
+use Rattle.stun_types.specs.declared.transport.TransportType.TheVariants.{Udp}
+use Rattle.stun_proto.specs.Choice.{supports}
+use Rattle.stun_proto.specs.Client.{account_key}
+use Rattle.stun_proto.specs.Digests.{IsRight}
+use Rattle.stun_proto.specs.Features.{Feature, Required, Disabled}
+use Rattle.stun_proto.specs.Moments.{moment_after}
+use Rattle.stun_proto.specs.Server.{Server}
+use Rattle.stun_proto.specs.Users.{HashesDiffer}
+use Rattle.turn_client_proto.specs.Api.declared.event.TurnEvent.{TurnEvent}
+use Rattle.turn_client_proto.specs.Config.{Config}
+use Rattle.turn_client_proto.specs.Getters.{relayed_of}
+use Rattle.turn_client_proto.specs.Kept.{Protocol, over_udp}
+use Rattle.turn_client_proto.specs.Polling.{cadence}
+use Rattle.turn_client_proto.specs.Sent.{Begins, HasRoom}
+use Rattle.turn_client_proto_stages.specs.Choosing.{HasTextName}
+use Rattle.turn_client_proto_stages.specs.Stages.{created, failures}
+use Rattle.turn_desk_event.specs.declared.answer.Answer.{Answer}
+use Rattle.turn_desk_event.specs.declared.answer.Answer.TheVariants as answer
+use Rattle.turn_desk_event.specs.declared.event.ClientCall.TheVariants as call
+use Rattle.turn_desk_event.specs.declared.event.Event.{Event}
+use Rattle.turn_desk_event.specs.declared.event.Event.TheVariants.{Call, Draw}
+use Rattle.turn_desk_event.specs.declared.grant.Grant.{Grant}
+use Rattle.turn_desk_steps.specs.Verdicts.{bare_grant}
+use Rattle.turn_desk_world.specs.Model.{World}
+use Rattle.turn_desk_world.specs.Runs.{IsStep}
+use Rattle.turn_desk_honest.specs.Scripts.{Plan, Place, Start, Asked, Challenged, Came, Signed, Granted, Done, Barred, Silent}
+
+-- ---- where it begins
+
+-- the second draw comes 50 ms after the first or later
+pub record IsTimely (plan : Plan) : Type 0 where
+  pub apart : moment_after plan.client.made cadence ≤ plan.second
+  pub in_range : plan.second ≤ 2 ^ 62
+
+-- a world has a client over UDP, of which this is so
+pub record HasClient (w : World) (Is : Protocol → Type 0) : Type 0 where
+  pub core : Protocol
+  pub there : w.client ≡ Some (over_udp core)
+  pub is : Is core
+
+-- a client of which nothing was asked yet, and a desk that has its user and keeps nothing for its address; the nonce of
+-- the first reply stands at the second draw
+pub record IsFresh (plan : Plan) (w : World) : Type 0 where
+  pub udp : plan.client.transport ≡ Udp
+  pub client : HasClient w (λ p. Begins plan.client p)
+  pub room : HasRoom plan.client.config
+  pub text : HasTextName plan.client.config
+  pub unknown : map.get w.desk.auth.clients plan.client.here ≡ None
+  pub user : map.get w.desk.auth.users plan.client.config.credentials.username
+      ≡ Some plan.client.config.credentials.password
+  pub hashes : HashesDiffer w.desk.auth
+  pub timely : IsTimely plan
+  pub stands : plan.second < moment_after plan.client.made w.desk.auth.nonce_expiry
+
+-- ---- whether they come together
+
+-- the strongest of the algorithms that both have
+pub record IsStrongestOf (own others : List IntegrityAlgorithm) (chosen : IntegrityAlgorithm) : Type 0 where
+  pub is_own : supports own chosen ≡ true
+  pub is_other : supports others chosen ≡ true
+  pub greatest : (algorithm : IntegrityAlgorithm) → supports own algorithm ≡ true → supports others algorithm ≡ true
+      → is_stronger algorithm chosen ≡ false
+
+-- they have none in common
+abbrev pub HaveNone : (own others : List IntegrityAlgorithm) → Type 0
+HaveNone own others = (algorithm : IntegrityAlgorithm) → supports own algorithm ≡ true → supports others algorithm ≡ true → ⊥
+
+-- the client insists that its name is hidden, and the desk takes no hash of one
+abbrev pub MustShowName : (own other : Feature) → Type 0
+MustShowName own other = (own ≡ Required) × (other ≡ Disabled)
+
+-- why they can't
+abbrev pub AreApart : Config → Server → Type 0
+AreApart config server =
+    HaveNone config.algorithms server.algorithms ⊎ MustShowName config.anonymous_username server.anonymous_username
+
+-- ---- what was told
+
+abbrev pub event_in : Answer → List TurnEvent
+event_in (answer.Event event) = event ∷ []
+event_in _ = []
+
+-- the events that a run told, in order
+abbrev pub events_in : List (Event × Answer) → List TurnEvent
+events_in pairs = flat_map (λ (pair : Event × Answer). event_in pair.1) pairs
+
+-- these events were told, and what still waits makes them whole
+abbrev pub TellsWhole : (told whole : List TurnEvent) → Protocol → Type 0
+TellsWhole told whole p = told ++ p.events ≡ whole
+
+-- ---- both cases
+
+-- the one grant of that request
+abbrev pub allocation_granted : Plan → (request : List ℕ) → SocketAddr → (lifetime : ℕ) → Grant
+allocation_granted plan request address lifetime = record (bare_grant request plan.client.here) {
+  transport = Some plan.client.config.transport;
+  relayed = address ∷ [];
+  lifetime = Some lifetime;
+}
+
+-- the client holds exactly that allocation, and tells of it once; the desk has granted it in answer to that request, and
+-- nothing else; request and reply are right under the user's key in the desk's realm, by the strongest common algorithm
+pub record IsAllocated (plan : Plan) (old : World) (told : List TurnEvent) (request : List ℕ) (address : SocketAddr)
+    (lifetime : ℕ) (reply : List ℕ) (new : World) : Type 0 where
+  pub together : AreApart plan.client.config old.desk.auth → ⊥
+  pub algorithm : IntegrityAlgorithm
+  pub strongest : IsStrongestOf plan.client.config.algorithms old.desk.auth.algorithms algorithm
+  pub request_is_right : IsRight request (account_key plan.client.config.credentials old.desk.auth.realm algorithm)
+  pub reply_is_right : IsRight reply (account_key plan.client.config.credentials old.desk.auth.realm algorithm)
+  pub held : HasClient new (λ p. (relayed_of p ≡ (plan.client.config.transport, address) ∷ [])
+      × TellsWhole told (created plan.client address) p)
+  pub granted : new.desk.grants ≡ old.desk.grants ++ allocation_granted plan request address lifetime ∷ []
+
+-- they can't come together: the client holds nothing, and tells of the failure; the desk has granted nothing; nothing is
+-- drawn any more, and once the events are taken the client is closed
+pub record IsTurnedAway (plan : Plan) (old : World) (told : List TurnEvent) (new : World) : Type 0 where
+  pub apart : AreApart plan.client.config old.desk.auth
+  pub held : HasClient new (λ p. (relayed_of p ≡ []) × TellsWhole told (failures plan.client) p)
+  pub granted : new.desk.grants ≡ old.desk.grants
+  pub quiet : (now : ℕ) (ret : Answer) (next : World) → now ≤ 2 ^ 62 → IsStep (Draw now) new ret next → ret ≡ answer.Nothing
+  pub closed : (now : ℕ) (ret : Answer) (next : World) → now ≤ 2 ^ 62 → told ≡ failures plan.client
+      → IsStep (Call call.Poll now) new ret next → ret ≡ answer.Closed
+
+-- what holds where a script has come to a place. Behind the first reply it is either case, by whether the two can come
+-- together; and the second request is drawn if and only if they can
+abbrev pub HasCome : Plan → World → List TurnEvent → Place → World → Type 0
+HasCome plan old told (Signed request) new = AreApart plan.client.config old.desk.auth → ⊥
+HasCome plan old told (Granted request address lifetime reply) new = AreApart plan.client.config old.desk.auth → ⊥
+HasCome plan old told (Done request address lifetime reply) new = IsAllocated plan old told request address lifetime reply new
+HasCome plan old told Barred new = IsTurnedAway plan old told new
+HasCome plan old told Silent new = ⊥
+HasCome plan old told Start new = told ≡ []
+HasCome plan old told (Asked request) new = told ≡ []
+HasCome plan old told (Challenged reply) new = told ≡ []
+HasCome plan old told Came new = (AreApart plan.client.config old.desk.auth → IsTurnedAway plan old told new)
+    × ((AreApart plan.client.config old.desk.auth → ⊥) → told ≡ [])
