@@ -26,24 +26,24 @@ use Rattle.stun_proto_agent.specs.Handling.{after_message, answered as answered_
 use Rattle.stun_proto_agent.specs.Sending.{begun, with_request}
 use Rattle.stun_proto_agent.specs.State as agents
 use Rattle.stun_proto_agent.proofs.Leasts.{same_number}
-use Rattle.turn_client_proto_poll.specs.Api.Config.{Config}
-use Rattle.turn_client_proto_poll.specs.Api.declared.event.TurnEvent.{TurnEvent}
-use Rattle.turn_client_proto_poll.specs.Api.declared.event.TurnEvent.TheVariants.{AllocationCreateFailed}
-use Rattle.turn_client_proto_poll.specs.Allocation.Listed.{is_any_awaited}
-use Rattle.turn_client_proto_poll.specs.Core.Asking.{asked, queued_request}
-use Rattle.turn_client_proto_poll.specs.Core.Authenticating.{IsAllocatingAgain, IsFirstJudged, allocates_again, numbers_sent}
-use Rattle.turn_client_proto_poll.specs.Core.Ending.{ended}
-use Rattle.turn_client_proto_poll.specs.Core.Numbering.{IsNextNumber, awaits, is_taken}
-use Rattle.turn_client_proto_poll.specs.Core.Outcomes.{IsHandled, IsIgnored}
-use Rattle.turn_client_proto_poll.specs.Core.Receiving.{IsFollowed, IsHeard, IsHeardIn}
-use Rattle.turn_client_proto_poll.specs.Core.Responding.{answered, challenged, is_tired, judged}
-use Rattle.turn_client_proto_poll.specs.Core.Waiting.{Queued}
-use Rattle.turn_client_proto_poll.specs.Core.declared.protocol.Phase.{Phase}
-use Rattle.turn_client_proto_poll.specs.Core.declared.protocol.Phase.TheVariants.{InitialSent, Authenticating}
-use Rattle.turn_client_proto_poll.specs.Core.declared.protocol.Protocol.{Protocol}
-use Rattle.turn_client_proto_poll.specs.Request.Judging.{IsJudged}
-use Rattle.turn_client_proto_poll.specs.Request.Requests.{request_text}
-use Rattle.turn_client_proto_poll.specs.Request.declared.request.TurnRequest.TheVariants.{Allocate}
+use Rattle.turn_client_proto_receipt.specs.Api.Config.{Config}
+use Rattle.turn_client_proto_receipt.specs.Api.declared.event.TurnEvent.{TurnEvent}
+use Rattle.turn_client_proto_receipt.specs.Api.declared.event.TurnEvent.TheVariants.{AllocationCreateFailed}
+use Rattle.turn_client_proto_receipt.specs.Allocation.Listed.{is_any_awaited}
+use Rattle.turn_client_proto_receipt.specs.Core.Asking.{asked, queued_request}
+use Rattle.turn_client_proto_receipt.specs.Core.Authenticating.{IsAllocatingAgain, IsFirstJudged, allocates_again, numbers_sent}
+use Rattle.turn_client_proto_receipt.specs.Core.Ending.{ended}
+use Rattle.turn_client_proto_receipt.specs.Core.Numbering.{IsNextNumber, awaits, is_taken}
+use Rattle.turn_client_proto_receipt.specs.Core.Outcomes.{IsHandled, IsIgnored}
+use Rattle.turn_client_proto_receipt.specs.Core.Receiving.{IsFollowed, IsHeard, IsHeardIn}
+use Rattle.turn_client_proto_receipt.specs.Core.Responding.{answered, challenged, is_tired, judged}
+use Rattle.turn_client_proto_receipt.specs.Core.Waiting.{Queued}
+use Rattle.turn_client_proto_receipt.specs.Core.declared.protocol.Phase.{Phase}
+use Rattle.turn_client_proto_receipt.specs.Core.declared.protocol.Phase.TheVariants.{InitialSent, Authenticating}
+use Rattle.turn_client_proto_receipt.specs.Core.declared.protocol.Protocol.{Protocol}
+use Rattle.turn_client_proto_receipt.specs.Core.Request.Judging.{IsJudged}
+use Rattle.turn_client_proto_receipt.specs.Core.Request.Requests.{request_text}
+use Rattle.turn_client_proto_receipt.specs.Core.Request.declared.request.TurnRequest.TheVariants.{Allocate}
 use Rattle.turn_client_proto_stages.specs.Asked.{IsOnlyAsked, transaction_of}
 use Rattle.turn_client_proto_stages.specs.Choosing.{Choice, IsAnsweredBy, IsBarring, IsChallenge, IsChoice, signed_asked, signed_request, signer_by}
 use Rattle.turn_client_proto_stages.specs.Stages.{HasChosen, HasEnded, IsAsking, failures, first_asked}

@@ -4,15 +4,15 @@ use Rattle.std.specs.Prelude.{find, option_to_list}
 use Rattle.std.specs.Bool.{MatchBool}
 use Rattle.std.specs.List.{list_any}
 use Rattle.stun_proto_agent.specs.State as agents
-use Rattle.turn_client_proto_poll.specs.Api.declared.answer.TurnPollRet.{TurnPollRet}
-use Rattle.turn_client_proto_poll.specs.Api.declared.answer.TurnPollRet.TheVariants as answer
-use Rattle.turn_client_proto_poll.specs.Api.declared.event.TurnEvent.{TurnEvent}
-use Rattle.turn_client_proto_poll.specs.Core.Receiving.{IsHeard, IsHeardIn}
-use Rattle.turn_client_proto_poll.specs.Core.Waiting.{Queued, is_answer}
-use Rattle.turn_client_proto_poll.specs.Core.declared.protocol.Phase.{Phase}
-use Rattle.turn_client_proto_poll.specs.Core.declared.protocol.Protocol.{Protocol}
-use Rattle.turn_client_proto_poll.specs.Drawing.{Again, Fresh, IsAnswerSent, IsBegun, IsDrawn, IsNextSent, IsStill, Sent, is_resting}
-use Rattle.turn_client_proto_poll.specs.Polling.{HasToTellIn, IsPolled, IsPolledBy, IsPolledIn, ended_of, wait_of}
+use Rattle.turn_client_proto_receipt.specs.Api.declared.answer.TurnPollRet.{TurnPollRet}
+use Rattle.turn_client_proto_receipt.specs.Api.declared.answer.TurnPollRet.TheVariants as answer
+use Rattle.turn_client_proto_receipt.specs.Api.declared.event.TurnEvent.{TurnEvent}
+use Rattle.turn_client_proto_receipt.specs.Core.Receiving.{IsHeard, IsHeardIn}
+use Rattle.turn_client_proto_receipt.specs.Core.Waiting.{Queued, is_answer}
+use Rattle.turn_client_proto_receipt.specs.Core.declared.protocol.Phase.{Phase}
+use Rattle.turn_client_proto_receipt.specs.Core.declared.protocol.Protocol.{Protocol}
+use Rattle.turn_client_proto_receipt.specs.Drawing.{Again, Fresh, IsAnswerSent, IsBegun, IsDrawn, IsNextSent, IsStill, Sent, is_resting}
+use Rattle.turn_client_proto_receipt.specs.Polling.{HasToTellIn, IsPolled, IsPolledBy, IsPolledIn, ended_of, wait_of}
 use Rattle.turn_client_proto_stages.specs.Stages.{HasEnded, answer_at_end}
 use Rattle.turn_client_proto_stages.proofs.Only.{either}
 use Rattle.turn_client_proto_stages.proofs.Polls.{idles, is_ticked, pause, refused_or}

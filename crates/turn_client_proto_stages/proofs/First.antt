@@ -12,25 +12,25 @@ use Rattle.stun_proto_agent.specs.State as agents
 use Rattle.stun_types.specs.Grammar.{number_at}
 use Rattle.stun_types.specs.declared.family.AddressFamily.{AddressFamily}
 use Rattle.stun_types.specs.declared.transport.TransportType.{TransportType}
-use Rattle.turn_client_proto_poll.specs.Allocation.declared.allocation.Allocation.{Allocation}
-use Rattle.turn_client_proto_poll.specs.Allocation.Listed.{is_any_awaited}
-use Rattle.turn_client_proto_poll.specs.Api.Client.{Client}
-use Rattle.turn_client_proto_poll.specs.Core.Numbering.{IsNextNumber, awaits, behind, drawn, is_taken}
-use Rattle.turn_client_proto_poll.specs.Core.Waiting.{Queued, is_answer}
-use Rattle.turn_client_proto_poll.specs.Core.declared.protocol.Phase.{Phase}
-use Rattle.turn_client_proto_poll.specs.Core.declared.protocol.Phase.TheVariants.{InitialSent}
-use Rattle.turn_client_proto_poll.specs.Core.declared.protocol.Protocol.{Protocol}
-use Rattle.turn_client_proto_poll.specs.Drawing.{Again, Fresh, IsAnswerSent, IsBegun, IsDrawn, IsFirstSent, IsNextSent, Sends, Sent, after_sending, first_allocated, is_resting, sent_at_once}
-use Rattle.turn_client_proto_poll.specs.Request.Judging.{signer_of}
-use Rattle.turn_client_proto_poll.specs.Request.Requests.{request_text}
-use Rattle.turn_client_proto_poll.specs.Request.declared.request.TurnRequest.TheVariants.{FirstAllocate}
+use Rattle.turn_client_proto_receipt.specs.Allocation.declared.allocation.Allocation.{Allocation}
+use Rattle.turn_client_proto_receipt.specs.Allocation.Listed.{is_any_awaited}
+use Rattle.turn_client_proto_receipt.specs.Api.Client.{Client}
+use Rattle.turn_client_proto_receipt.specs.Core.Numbering.{IsNextNumber, awaits, behind, drawn, is_taken}
+use Rattle.turn_client_proto_receipt.specs.Core.Waiting.{Queued, is_answer}
+use Rattle.turn_client_proto_receipt.specs.Core.declared.protocol.Phase.{Phase}
+use Rattle.turn_client_proto_receipt.specs.Core.declared.protocol.Phase.TheVariants.{InitialSent}
+use Rattle.turn_client_proto_receipt.specs.Core.declared.protocol.Protocol.{Protocol}
+use Rattle.turn_client_proto_receipt.specs.Drawing.{Again, Fresh, IsAnswerSent, IsBegun, IsDrawn, IsFirstSent, IsNextSent, Sends, Sent, after_sending, first_allocated, is_resting, sent_at_once}
+use Rattle.turn_client_proto_receipt.specs.Core.Request.Judging.{signer_of}
+use Rattle.turn_client_proto_receipt.specs.Core.Request.Requests.{request_text}
+use Rattle.turn_client_proto_receipt.specs.Core.Request.declared.request.TurnRequest.TheVariants.{FirstAllocate}
 use Rattle.turn_client_proto_stages.specs.Asked.{IsOnlyAsked, sent_of, transaction_of}
 use Rattle.turn_client_proto_stages.specs.Stages.{IsAsking, first_asked}
 use Rattle.turn_client_proto_stages.proofs.Only.{clash, put_or, put_there}
 use Rattle.turn_client_proto_stages.proofs.Polls.{idles, is_ticked, pause, refused_or}
-use Rattle.turn_client_proto_poll.specs.Api.declared.answer.TurnPollRet.{TurnPollRet}
-use Rattle.turn_client_proto_poll.specs.Api.declared.answer.TurnPollRet.TheVariants as answer
-use Rattle.turn_client_proto_poll.specs.Polling.{HasToTellIn, IsPolled, IsPolledIn, ended_of, wait_of}
+use Rattle.turn_client_proto_receipt.specs.Api.declared.answer.TurnPollRet.{TurnPollRet}
+use Rattle.turn_client_proto_receipt.specs.Api.declared.answer.TurnPollRet.TheVariants as answer
+use Rattle.turn_client_proto_receipt.specs.Polling.{HasToTellIn, IsPolled, IsPolledIn, ended_of, wait_of}
 use Rattle.std.specs.List.{list_any}
 use Rattle.turn_client_proto_unanswered.specs.Sent.{Beginning, Begins, first_number, first_request}
 

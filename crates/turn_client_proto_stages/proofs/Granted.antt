@@ -23,32 +23,32 @@ use Rattle.stun_proto.specs.ClientValidations.{LongTermClientValidation, ResendR
 use Rattle.stun_proto_agent.specs.Handling.{after_message, answered as answered_by, is_awaited, is_response}
 use Rattle.stun_proto_agent.specs.State as agents
 use Rattle.stun_proto_client.proofs.Stepping.{right_is_accepted}
-use Rattle.turn_client_proto_poll.specs.Allocation.Awaited.{has_number}
-use Rattle.turn_client_proto_poll.specs.Allocation.Listed.{relayed_shown}
-use Rattle.turn_client_proto_poll.specs.Allocation.Refreshing.{granted}
-use Rattle.turn_client_proto_poll.specs.Allocation.declared.allocation.Allocation.{Allocation}
-use Rattle.turn_client_proto_poll.specs.Api.declared.event.TurnEvent.{TurnEvent}
-use Rattle.turn_client_proto_poll.specs.Api.declared.event.TurnEvent.TheVariants.{AllocationCreated, AllocationCreateFailed}
-use Rattle.turn_client_proto_poll.specs.Core.Allocating.{IsAllocated, IsAllocatedFor, allocated, brought, phase_by}
-use Rattle.turn_client_proto_poll.specs.Core.Authenticating.{IsAccepted, IsAllocateAnswered, IsSignedJudged}
-use Rattle.turn_client_proto_poll.specs.Core.Outcomes.{IsHandled, IsIgnored}
-use Rattle.turn_client_proto_poll.specs.Core.Receiving.{IsFollowed, IsHeard, IsHeardIn}
-use Rattle.turn_client_proto_poll.specs.Core.Responding.{accepted, judged}
-use Rattle.turn_client_proto_poll.specs.Core.Waiting.{Queued}
-use Rattle.turn_client_proto_poll.specs.Core.declared.protocol.Phase.{Phase}
-use Rattle.turn_client_proto_poll.specs.Core.declared.protocol.Phase.TheVariants.{Authenticating}
-use Rattle.turn_client_proto_poll.specs.Core.declared.protocol.Protocol.{Protocol}
-use Rattle.turn_client_proto_poll.specs.Request.Judging.{IsJudged}
-use Rattle.turn_client_proto_poll.specs.Response.Granting.{allocations_of, families_without, first_of_each}
-use Rattle.turn_client_proto_poll.specs.Response.Telling.{created}
-use Rattle.turn_client_proto_poll.specs.Response.Told.{relayed_told}
+use Rattle.turn_client_proto_receipt.specs.Allocation.Awaited.{has_number}
+use Rattle.turn_client_proto_receipt.specs.Allocation.Listed.{relayed_shown}
+use Rattle.turn_client_proto_receipt.specs.Allocation.Refreshing.{granted}
+use Rattle.turn_client_proto_receipt.specs.Allocation.declared.allocation.Allocation.{Allocation}
+use Rattle.turn_client_proto_receipt.specs.Api.declared.event.TurnEvent.{TurnEvent}
+use Rattle.turn_client_proto_receipt.specs.Api.declared.event.TurnEvent.TheVariants.{AllocationCreated, AllocationCreateFailed}
+use Rattle.turn_client_proto_receipt.specs.Core.Allocating.{IsAllocated, IsAllocatedFor, allocated, brought, phase_by}
+use Rattle.turn_client_proto_receipt.specs.Core.Authenticating.{IsAccepted, IsAllocateAnswered, IsSignedJudged}
+use Rattle.turn_client_proto_receipt.specs.Core.Outcomes.{IsHandled, IsIgnored}
+use Rattle.turn_client_proto_receipt.specs.Core.Receiving.{IsFollowed, IsHeard, IsHeardIn}
+use Rattle.turn_client_proto_receipt.specs.Core.Responding.{accepted, judged}
+use Rattle.turn_client_proto_receipt.specs.Core.Waiting.{Queued}
+use Rattle.turn_client_proto_receipt.specs.Core.declared.protocol.Phase.{Phase}
+use Rattle.turn_client_proto_receipt.specs.Core.declared.protocol.Phase.TheVariants.{Authenticating}
+use Rattle.turn_client_proto_receipt.specs.Core.declared.protocol.Protocol.{Protocol}
+use Rattle.turn_client_proto_receipt.specs.Core.Request.Judging.{IsJudged}
+use Rattle.turn_client_proto_receipt.specs.Core.Response.Granting.{allocations_of, families_without, first_of_each}
+use Rattle.turn_client_proto_receipt.specs.Core.Response.Telling.{created}
+use Rattle.turn_client_proto_receipt.specs.Core.Response.Told.{relayed_told}
 use Rattle.turn_client_proto_stages.specs.Choosing.{Choice, signed_asked, signer_by, standing_by}
 use Rattle.turn_client_proto_stages.specs.Stages.{AsksForOne, Holds, IsGrant, IsSigning, created as created_told}
 use Rattle.turn_client_proto_stages.proofs.Only.{none_left, where_true}
 use Rattle.turn_client_proto_stages.proofs.Polls.{refused_or}
-use Rattle.turn_client_proto_poll.specs.Api.declared.answer.TurnPollRet.{TurnPollRet}
-use Rattle.turn_client_proto_poll.specs.Api.declared.answer.TurnPollRet.TheVariants as answer
-use Rattle.turn_client_proto_poll.specs.Polling.{IsPolled, IsPolledBy}
+use Rattle.turn_client_proto_receipt.specs.Api.declared.answer.TurnPollRet.{TurnPollRet}
+use Rattle.turn_client_proto_receipt.specs.Api.declared.answer.TurnPollRet.TheVariants as answer
+use Rattle.turn_client_proto_receipt.specs.Polling.{IsPolled, IsPolledBy}
 use Rattle.turn_client_proto_unanswered.specs.Sent.{Beginning, first_number}
 
 -- a success is a response, and no challenge

@@ -11,9 +11,9 @@ use Rattle.stun_proto_agent.specs.Sending.{is_due_of, kept_under}
 use Rattle.stun_proto_agent.specs.State as agents
 use Rattle.stun_proto_agent.proofs.Leasts.{same_number}
 use Rattle.stun_proto_agent.proofs.Quiet.{slot_before_end}
-use Rattle.turn_client_proto_poll.specs.Core.AgentPolls.{StunAgentPollRet, TransactionCancelled, TransactionTimedOut, WaitUntil}
-use Rattle.turn_client_proto_poll.specs.Core.declared.protocol.Protocol.{Protocol}
-use Rattle.turn_client_proto_poll.specs.Drawing.{Again, Fresh, IsDrawn, IsFreshSent, Sent, after_sending}
+use Rattle.turn_client_proto_receipt.specs.Core.AgentPolls.{StunAgentPollRet, TransactionCancelled, TransactionTimedOut, WaitUntil}
+use Rattle.turn_client_proto_receipt.specs.Core.declared.protocol.Protocol.{Protocol}
+use Rattle.turn_client_proto_receipt.specs.Drawing.{Again, Fresh, IsDrawn, IsFreshSent, Sent, after_sending}
 use Rattle.turn_client_proto_stages.specs.Asked.{Asked, IsOnlyAsked, IsDue, IsQuiet, count_of, end_of, sent_of, slot_of, transaction_of}
 use Rattle.turn_client_proto_stages.specs.Stages.{IsOf}
 use Rattle.turn_client_proto_unanswered.specs.Driving.{client_end}

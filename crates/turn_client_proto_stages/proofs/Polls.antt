@@ -5,17 +5,17 @@ use Rattle.std.specs.FinMap as map
 use Rattle.std.specs.List.{list_any}
 use Rattle.stun_proto_agent.specs.Moments.{moment_after}
 use Rattle.stun_proto_agent.specs.State as agents
-use Rattle.turn_client_proto_poll.specs.Core.AgentPolls.{StunAgentPollRet, TransactionCancelled, TransactionTimedOut, WaitUntil}
-use Rattle.turn_client_proto_poll.specs.Allocation.Awaited.{is_among}
-use Rattle.turn_client_proto_poll.specs.Api.declared.answer.TurnPollRet.{TurnPollRet}
-use Rattle.turn_client_proto_poll.specs.Api.declared.answer.TurnPollRet.TheVariants as answer
-use Rattle.turn_client_proto_poll.specs.Api.declared.event.TurnEvent.{TurnEvent}
-use Rattle.turn_client_proto_poll.specs.Core.Ending.{HasFailed, ended}
-use Rattle.turn_client_proto_poll.specs.Core.Waiting.{Queued, is_answer}
-use Rattle.turn_client_proto_poll.specs.Core.declared.protocol.Phase.{Phase}
-use Rattle.turn_client_proto_poll.specs.Core.declared.protocol.Phase.TheVariants.{InitialSent, Authenticating}
-use Rattle.turn_client_proto_poll.specs.Core.declared.protocol.Protocol.{Protocol}
-use Rattle.turn_client_proto_poll.specs.Polling.{cadence, Answers, HasToTellIn, IsPolled, IsPolledBy, IsPolledIn, IsPolledSent, IsRefused, IsTicked, ended_of, longest_pause, wait_of, wait_to_send, waits_until}
+use Rattle.turn_client_proto_receipt.specs.Core.AgentPolls.{StunAgentPollRet, TransactionCancelled, TransactionTimedOut, WaitUntil}
+use Rattle.turn_client_proto_receipt.specs.Allocation.Awaited.{is_among}
+use Rattle.turn_client_proto_receipt.specs.Api.declared.answer.TurnPollRet.{TurnPollRet}
+use Rattle.turn_client_proto_receipt.specs.Api.declared.answer.TurnPollRet.TheVariants as answer
+use Rattle.turn_client_proto_receipt.specs.Api.declared.event.TurnEvent.{TurnEvent}
+use Rattle.turn_client_proto_receipt.specs.Core.Ending.{HasFailed, ended}
+use Rattle.turn_client_proto_receipt.specs.Core.Waiting.{Queued, is_answer}
+use Rattle.turn_client_proto_receipt.specs.Core.declared.protocol.Phase.{Phase}
+use Rattle.turn_client_proto_receipt.specs.Core.declared.protocol.Phase.TheVariants.{InitialSent, Authenticating}
+use Rattle.turn_client_proto_receipt.specs.Core.declared.protocol.Protocol.{Protocol}
+use Rattle.turn_client_proto_receipt.specs.Polling.{cadence, Answers, HasToTellIn, IsPolled, IsPolledBy, IsPolledIn, IsPolledSent, IsRefused, IsTicked, ended_of, longest_pause, wait_of, wait_to_send, waits_until}
 use Rattle.turn_client_proto_stages.specs.Asked.{Asked, IsOnlyAsked, IsPatient, IsQuiet, count_of, end_of, slot_of}
 use Rattle.turn_client_proto_stages.specs.Stages.{IsOf}
 use Rattle.turn_client_proto_stages.proofs.Only.{IsGivenUp, IsStillAsked, given_up, still_asked, where_false, where_true}

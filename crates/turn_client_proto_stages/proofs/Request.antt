@@ -11,15 +11,15 @@ use Rattle.stun_proto.specs.ClientValidation.{IsTaken, IsTurnedDown}
 use Rattle.stun_proto.specs.ClientValidations.{LongTermClientValidation, ResendRequest}
 use Rattle.stun_proto.specs.Digests.{IsRight}
 use Rattle.stun_proto_agent.specs.Sending.{is_request}
-use Rattle.turn_client_proto_poll.specs.Request.Judging.{signer_of}
-use Rattle.turn_client_proto_poll.specs.Request.OwnClaims.{own_claim}
-use Rattle.turn_client_proto_poll.specs.Request.ReadTexts.{HasReadTexts}
-use Rattle.turn_client_proto_poll.specs.Request.Requests.{is_signed, request_text}
-use Rattle.turn_client_proto_poll.specs.Request.ShortTexts.{HasShortTexts}
-use Rattle.turn_client_proto_poll.specs.Request.ToldRequests.{CanBeRead, IsLawfulRequest, told_request}
-use Rattle.turn_client_proto_poll.specs.Request.declared.request.TurnRequest.{TurnRequest}
-use Rattle.turn_client_proto_poll.specs.Request.declared.request.TurnRequest.TheVariants.{FirstAllocate}
-use Rattle.turn_client_proto_poll.specs.StunWire.{told_by}
+use Rattle.turn_client_proto_receipt.specs.Core.Request.Judging.{signer_of}
+use Rattle.turn_client_proto_receipt.specs.Core.Request.OwnClaims.{own_claim}
+use Rattle.turn_client_proto_receipt.specs.Core.Request.ReadTexts.{HasReadTexts}
+use Rattle.turn_client_proto_receipt.specs.Core.Request.Requests.{is_signed, request_text}
+use Rattle.turn_client_proto_receipt.specs.Core.Request.ShortTexts.{HasShortTexts}
+use Rattle.turn_client_proto_receipt.specs.Core.Request.ToldRequests.{CanBeRead, IsLawfulRequest, told_request}
+use Rattle.turn_client_proto_receipt.specs.Core.Request.declared.request.TurnRequest.{TurnRequest}
+use Rattle.turn_client_proto_receipt.specs.Core.Request.declared.request.TurnRequest.TheVariants.{FirstAllocate}
+use Rattle.turn_client_proto_receipt.specs.Core.StunWire.{told_by}
 use Rattle.turn_client_proto_stages.specs.Choosing.{Choice, HasTextName, IsChoice, IsSignedAllocate, allocate_of, signer_by, signed_request, standing_by}
 use Rattle.turn_client_proto_unanswered.specs.Sent.{Beginning, HasRoom, first_number, first_request}
 

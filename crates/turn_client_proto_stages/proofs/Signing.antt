@@ -8,16 +8,16 @@ use Rattle.std.proofs.lemmas.Bool.{eq-eqb, le-ltb, lt-ltb}
 use Rattle.stun_types.specs.declared.family.AddressFamily.{AddressFamily}
 use Rattle.stun_proto_agent.specs.Moments.{moment_after}
 use Rattle.stun_proto_agent.specs.Sending.{kept_under}
-use Rattle.turn_client_proto_poll.specs.Api.declared.answer.TurnPollRet.{TurnPollRet}
-use Rattle.turn_client_proto_poll.specs.Api.declared.answer.TurnPollRet.TheVariants as answer
-use Rattle.turn_client_proto_poll.specs.Api.declared.event.TurnEvent.{TurnEvent}
-use Rattle.turn_client_proto_poll.specs.Api.declared.event.TurnEvent.TheVariants.{AllocationCreateFailed}
-use Rattle.turn_client_proto_poll.specs.Core.Ending.{HasFailed, ended}
-use Rattle.turn_client_proto_poll.specs.Core.Waiting.{Queued, is_answer}
-use Rattle.turn_client_proto_poll.specs.Core.declared.protocol.Phase.{Phase}
-use Rattle.turn_client_proto_poll.specs.Core.declared.protocol.Protocol.{Protocol}
-use Rattle.turn_client_proto_poll.specs.Drawing.{IsAnswerSent, IsBegun, IsDrawn, IsNextSent, IsQueuedSent, IsStill, Sent, after_sending, is_resting}
-use Rattle.turn_client_proto_poll.specs.Polling.{IsPolled, cadence}
+use Rattle.turn_client_proto_receipt.specs.Api.declared.answer.TurnPollRet.{TurnPollRet}
+use Rattle.turn_client_proto_receipt.specs.Api.declared.answer.TurnPollRet.TheVariants as answer
+use Rattle.turn_client_proto_receipt.specs.Api.declared.event.TurnEvent.{TurnEvent}
+use Rattle.turn_client_proto_receipt.specs.Api.declared.event.TurnEvent.TheVariants.{AllocationCreateFailed}
+use Rattle.turn_client_proto_receipt.specs.Core.Ending.{HasFailed, ended}
+use Rattle.turn_client_proto_receipt.specs.Core.Waiting.{Queued, is_answer}
+use Rattle.turn_client_proto_receipt.specs.Core.declared.protocol.Phase.{Phase}
+use Rattle.turn_client_proto_receipt.specs.Core.declared.protocol.Protocol.{Protocol}
+use Rattle.turn_client_proto_receipt.specs.Drawing.{IsAnswerSent, IsBegun, IsDrawn, IsNextSent, IsQueuedSent, IsStill, Sent, after_sending, is_resting}
+use Rattle.turn_client_proto_receipt.specs.Polling.{IsPolled, cadence}
 use Rattle.turn_client_proto_stages.specs.Asked.{IsDue, IsOnlyAsked, IsPatient, IsQuiet, end_of, transaction_of}
 use Rattle.turn_client_proto_stages.specs.Choosing.{Choice, signed_asked, signed_sent}
 use Rattle.turn_client_proto_stages.specs.Stages.{HasChosen, HasEnded, HasSigned, IsSigning, failures, signed_queued}

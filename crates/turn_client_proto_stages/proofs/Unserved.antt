@@ -3,10 +3,10 @@ use Rattle.std.proofs.Common.{ℕ, List, ap, ◌≡◌, None, refl}
 use Rattle.std.specs.declared.net.socket_addr.SocketAddr.{SocketAddr}
 use Rattle.turn_client_proto_receipt.specs.SocketPieces.{raw_waiting}
 use Rattle.stun_proto_agent.specs.State as agents
-use Rattle.turn_client_proto_poll.specs.Api.declared.event.TurnEvent.{TurnEvent}
-use Rattle.turn_client_proto_poll.specs.Core.Deleting.{is_authenticated}
-use Rattle.turn_client_proto_poll.specs.Core.Waiting.{Queued}
-use Rattle.turn_client_proto_poll.specs.Core.declared.protocol.Protocol.{Protocol}
+use Rattle.turn_client_proto_receipt.specs.Api.declared.event.TurnEvent.{TurnEvent}
+use Rattle.turn_client_proto_receipt.specs.Core.Deleting.{is_authenticated}
+use Rattle.turn_client_proto_receipt.specs.Core.Waiting.{Queued}
+use Rattle.turn_client_proto_receipt.specs.Core.declared.protocol.Protocol.{Protocol}
 use Rattle.turn_client_proto_stages.specs.Choosing.{Choice}
 use Rattle.turn_client_proto_stages.specs.Coming.{IsUnserved}
 use Rattle.turn_client_proto_stages.specs.Stages.{HasEnded, Holds, IsAsking, IsSigning}

@@ -5,10 +5,10 @@ use Rattle.stun_proto_agent.specs.Agents.{Transaction}
 use Rattle.stun_proto_agent.specs.Schedule.{end_at, slot_at, transmissions}
 use Rattle.stun_proto_agent.specs.State.{Agent, is_tcp}
 use Rattle.stun_proto_transaction.specs.declared.transaction.Cancelled.TheVariants.{Nothing}
-use Rattle.turn_client_proto_poll.specs.Api.declared.answer.TurnPollRet.{TurnPollRet}
-use Rattle.turn_client_proto_poll.specs.Api.declared.answer.TurnPollRet.TheVariants.{WaitUntil}
-use Rattle.turn_client_proto_poll.specs.Core.declared.protocol.Protocol.{Protocol}
-use Rattle.turn_client_proto_poll.specs.Drawing.{Sent}
+use Rattle.turn_client_proto_receipt.specs.Api.declared.answer.TurnPollRet.{TurnPollRet}
+use Rattle.turn_client_proto_receipt.specs.Api.declared.answer.TurnPollRet.TheVariants.{WaitUntil}
+use Rattle.turn_client_proto_receipt.specs.Core.declared.protocol.Protocol.{Protocol}
+use Rattle.turn_client_proto_receipt.specs.Drawing.{Sent}
 use Rattle.turn_client_proto_unanswered.specs.Driving.{client_end}
 use Rattle.turn_client_proto_unanswered.specs.Sent.{Beginning}
 

@@ -9,16 +9,16 @@ use Rattle.stun_proto.specs.Client.{Client, Standing, standing_key}
 use Rattle.stun_proto.specs.ClientValidation.{IsAnswerable, IsUnanswerable, keeping}
 use Rattle.stun_proto.specs.Digests.{IsRight}
 use Rattle.stun_proto_agent.specs.Sending.{is_request}
-use Rattle.turn_client_proto_poll.specs.Api.Config.{Config}
-use Rattle.turn_client_proto_poll.specs.Request.Judging.{signer_of}
-use Rattle.turn_client_proto_poll.specs.Request.OwnClaims.{own_claim}
-use Rattle.turn_client_proto_poll.specs.Request.Requests.{request_text}
-use Rattle.turn_client_proto_poll.specs.Request.ToldRequests.{told_request}
-use Rattle.turn_client_proto_poll.specs.Request.declared.request.TurnRequest.{TurnRequest}
-use Rattle.turn_client_proto_poll.specs.Request.declared.request.TurnRequest.TheVariants.{Allocate}
-use Rattle.turn_client_proto_poll.specs.StunWire.{told_by}
+use Rattle.turn_client_proto_receipt.specs.Api.Config.{Config}
+use Rattle.turn_client_proto_receipt.specs.Core.Request.Judging.{signer_of}
+use Rattle.turn_client_proto_receipt.specs.Core.Request.OwnClaims.{own_claim}
+use Rattle.turn_client_proto_receipt.specs.Core.Request.Requests.{request_text}
+use Rattle.turn_client_proto_receipt.specs.Core.Request.ToldRequests.{told_request}
+use Rattle.turn_client_proto_receipt.specs.Core.Request.declared.request.TurnRequest.{TurnRequest}
+use Rattle.turn_client_proto_receipt.specs.Core.Request.declared.request.TurnRequest.TheVariants.{Allocate}
+use Rattle.turn_client_proto_receipt.specs.Core.StunWire.{told_by}
 use Rattle.turn_client_proto_stages.specs.Asked.{Asked, sent_of}
-use Rattle.turn_client_proto_poll.specs.Drawing.{Sent}
+use Rattle.turn_client_proto_receipt.specs.Drawing.{Sent}
 use Rattle.turn_client_proto_unanswered.specs.Sent.{Beginning, first_number}
 
 -- a message is this challenge, and answers the first request

@@ -11,20 +11,20 @@ use Rattle.stun_types.specs.Types.{class_of}
 use Rattle.stun_proto.specs.Client.{standing_key}
 use Rattle.stun_proto.specs.ClientValidation.{going_by}
 use Rattle.stun_proto.specs.Digests.{IsRight}
-use Rattle.turn_client_proto_poll.specs.Allocation.Listed.{relayed_shown}
-use Rattle.turn_client_proto_poll.specs.Allocation.Refreshing.{granted}
-use Rattle.turn_client_proto_poll.specs.Api.declared.answer.TurnPollRet.{TurnPollRet}
-use Rattle.turn_client_proto_poll.specs.Api.declared.answer.TurnPollRet.TheVariants as answer
-use Rattle.turn_client_proto_poll.specs.Api.declared.event.TurnEvent.{TurnEvent}
-use Rattle.turn_client_proto_poll.specs.Api.declared.event.TurnEvent.TheVariants.{AllocationCreated}
-use Rattle.turn_client_proto_poll.specs.Api.declared.event.TurnEvent.TheVariants.{AllocationCreateFailed}
-use Rattle.turn_client_proto_poll.specs.Core.Asking.{queued_request}
-use Rattle.turn_client_proto_poll.specs.Core.Waiting.{Queued}
-use Rattle.turn_client_proto_poll.specs.Core.declared.protocol.Phase.TheVariants.{InitialSent, Authenticating}
-use Rattle.turn_client_proto_poll.specs.Core.declared.protocol.Phase.TheVariants.{Authenticated, Ended}
-use Rattle.turn_client_proto_poll.specs.Core.declared.protocol.Protocol.{Protocol}
-use Rattle.turn_client_proto_poll.specs.Request.Judging.{signer_of}
-use Rattle.turn_client_proto_poll.specs.Response.Told.{lifetime_told, relayed_told}
+use Rattle.turn_client_proto_receipt.specs.Allocation.Listed.{relayed_shown}
+use Rattle.turn_client_proto_receipt.specs.Allocation.Refreshing.{granted}
+use Rattle.turn_client_proto_receipt.specs.Api.declared.answer.TurnPollRet.{TurnPollRet}
+use Rattle.turn_client_proto_receipt.specs.Api.declared.answer.TurnPollRet.TheVariants as answer
+use Rattle.turn_client_proto_receipt.specs.Api.declared.event.TurnEvent.{TurnEvent}
+use Rattle.turn_client_proto_receipt.specs.Api.declared.event.TurnEvent.TheVariants.{AllocationCreated}
+use Rattle.turn_client_proto_receipt.specs.Api.declared.event.TurnEvent.TheVariants.{AllocationCreateFailed}
+use Rattle.turn_client_proto_receipt.specs.Core.Asking.{queued_request}
+use Rattle.turn_client_proto_receipt.specs.Core.Waiting.{Queued}
+use Rattle.turn_client_proto_receipt.specs.Core.declared.protocol.Phase.TheVariants.{InitialSent, Authenticating}
+use Rattle.turn_client_proto_receipt.specs.Core.declared.protocol.Phase.TheVariants.{Authenticated, Ended}
+use Rattle.turn_client_proto_receipt.specs.Core.declared.protocol.Protocol.{Protocol}
+use Rattle.turn_client_proto_receipt.specs.Core.Request.Judging.{signer_of}
+use Rattle.turn_client_proto_receipt.specs.Core.Response.Told.{lifetime_told, relayed_told}
 use Rattle.turn_client_proto_stages.specs.Asked.{Asked, IsOnlyAsked}
 use Rattle.turn_client_proto_stages.specs.Choosing.{Choice, IsChoice, signed_asked, signed_request}
 use Rattle.turn_client_proto_stages.specs.Choosing.{signer_by, standing_by}

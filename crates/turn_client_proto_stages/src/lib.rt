@@ -24,19 +24,19 @@ ghost use Rattle.stun_proto.specs.Challenges.{Told};
 ghost use Rattle.stun_proto.specs.Client.{standing_of};
 ghost use Rattle.stun_proto_agent.specs.Moments.{moment_after};
 ghost use Rattle.turn_types.specs.Streams.{alive};
-ghost use Rattle.turn_client_proto_poll.specs.Api.declared.answer.TurnPollRet.{TurnPollRet};
-ghost use Rattle.turn_client_proto_poll.specs.Api.declared.answer.TurnPollRet.TheVariants.{Closed, NoMemory};
-ghost use Rattle.turn_client_proto_poll.specs.Api.declared.answer.TurnPollRet.TheVariants.{WaitUntil};
-ghost use Rattle.turn_client_proto_poll.specs.Api.declared.event.TurnEvent.{TurnEvent};
-ghost use Rattle.turn_client_proto_poll.specs.Core.Ending.{HasFailed};
-ghost use Rattle.turn_client_proto_poll.specs.Core.Receiving.{IsHeard};
-ghost use Rattle.turn_client_proto_poll.specs.Core.Waiting.{Queued};
-ghost use Rattle.turn_client_proto_poll.specs.Core.declared.protocol.Protocol.{Protocol};
-ghost use Rattle.turn_client_proto_poll.specs.Drawing.{IsDrawn, Sent};
-ghost use Rattle.turn_client_proto_poll.specs.Polling.{IsPolled, cadence};
-ghost use Rattle.turn_client_proto_poll.specs.Request.Judging.{signer_of};
-ghost use Rattle.turn_client_proto_poll.specs.Request.ReadTexts.{HasReadTexts};
-ghost use Rattle.turn_client_proto_poll.specs.Request.ShortTexts.{HasShortTexts};
+ghost use Rattle.turn_client_proto_receipt.specs.Api.declared.answer.TurnPollRet.{TurnPollRet};
+ghost use Rattle.turn_client_proto_receipt.specs.Api.declared.answer.TurnPollRet.TheVariants.{Closed, NoMemory};
+ghost use Rattle.turn_client_proto_receipt.specs.Api.declared.answer.TurnPollRet.TheVariants.{WaitUntil};
+ghost use Rattle.turn_client_proto_receipt.specs.Api.declared.event.TurnEvent.{TurnEvent};
+ghost use Rattle.turn_client_proto_receipt.specs.Core.Ending.{HasFailed};
+ghost use Rattle.turn_client_proto_receipt.specs.Core.Receiving.{IsHeard};
+ghost use Rattle.turn_client_proto_receipt.specs.Core.Waiting.{Queued};
+ghost use Rattle.turn_client_proto_receipt.specs.Core.declared.protocol.Protocol.{Protocol};
+ghost use Rattle.turn_client_proto_receipt.specs.Drawing.{IsDrawn, Sent};
+ghost use Rattle.turn_client_proto_receipt.specs.Polling.{IsPolled, cadence};
+ghost use Rattle.turn_client_proto_receipt.specs.Core.Request.Judging.{signer_of};
+ghost use Rattle.turn_client_proto_receipt.specs.Core.Request.ReadTexts.{HasReadTexts};
+ghost use Rattle.turn_client_proto_receipt.specs.Core.Request.ShortTexts.{HasShortTexts};
 ghost use Rattle.turn_client_proto_receipt.specs.Api.Payloads.{PeerPayload};
 ghost use Rattle.turn_client_proto_receipt.specs.Api.declared.answer.TurnRecvRet.{TurnRecvRet};
 ghost use Rattle.turn_client_proto_receipt.specs.Api.declared.answer.TurnRecvRet.TheVariants.{Handled};
@@ -58,7 +58,10 @@ ghost use Rattle.turn_client_proto_unanswered.specs.Sent.{Beginning, Begins, Has
 ghost use Rattle.turn_client_proto_unanswered.specs.Sent.{first_number, first_request};
 
 use std::convert::AsSlice;
-use turn_client_proto_poll::request::laws::{
+// What stands above this crate has these through it.
+pub use turn_client_proto_receipt::step_laws;
+pub use turn_client_proto_request::laws as request_laws;
+use turn_client_proto_request::laws::{
     requests_are_read, signed_requests_claim, texts_stay_read, texts_stay_short,
 };
 

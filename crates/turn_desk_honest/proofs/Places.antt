@@ -6,8 +6,8 @@ use Rattle.std.specs.declared.net.socket_addr.SocketAddr.{SocketAddr}
 use Rattle.rand_core.specs.Stream.{Stream}
 use Rattle.stun_types.specs.Grammar.{refusal}
 use Rattle.turn_desk_event.specs.declared.decision.Decision.{Decision}
-use Rattle.turn_desk_steps.specs.State.{State}
-use Rattle.turn_desk_steps.specs.Steps.{IsAnswer}
+use Rattle.turn_desk_world.specs.State.{State}
+use Rattle.turn_desk_world.specs.Steps.{IsAnswer}
 use Rattle.turn_client_proto.specs.Api.declared.event.TurnEvent.{TurnEvent}
 use Rattle.turn_client_proto.specs.Drawing.{Sent}
 use Rattle.turn_desk_event.specs.declared.answer.Answer.{Answer}

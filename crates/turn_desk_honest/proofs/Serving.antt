@@ -14,7 +14,7 @@ use Rattle.turn_client_proto.specs.Kept.{Protocol}
 use Rattle.turn_client_proto_stages.specs.Choosing.{Choice, IsAnsweredBy, IsChoice, standing_by}
 use Rattle.turn_client_proto_stages.specs.Stages.{IsOf}
 use Rattle.turn_desk_handshake.specs.Handshakes.{IsOfServer, list_given}
-use Rattle.turn_desk_steps.specs.State.{State}
+use Rattle.turn_desk_world.specs.State.{State}
 use Rattle.turn_desk_honest.specs.Scripts.{Plan}
 use Rattle.turn_desk_honest.specs.Standing.{HasDrawn, IsFirstReply, IsOfSettings, IsUnder}
 

@@ -7,9 +7,9 @@ use Rattle.stun_proto.specs.Client.{Client}
 use Rattle.stun_proto.specs.ClientAuthErrors.{LongTermClientAuthError}
 use Rattle.stun_proto.specs.ClientValidation.{IsTaken, IsTurnedDown}
 use Rattle.stun_proto.specs.ClientValidations.{LongTermClientValidation, ResendRequest}
-use Rattle.turn_client_proto_request.specs.Judging.{signer_of}
-use Rattle.turn_client_proto_request.specs.ReadTexts.{HasReadTexts}
-use Rattle.turn_client_proto_request.specs.ShortTexts.{HasShortTexts}
+use Rattle.turn_client_proto_stages.specs.Request.Judging.{signer_of}
+use Rattle.turn_client_proto_stages.specs.Request.ReadTexts.{HasReadTexts}
+use Rattle.turn_client_proto_stages.specs.Request.ShortTexts.{HasShortTexts}
 use Rattle.turn_client_proto.specs.Sent.{Beginning, HasRoom, first_number}
 use Rattle.turn_client_proto_stages.specs.Choosing.{Choice, HasTextName, IsChoice, signer_by}
 

@@ -27,7 +27,7 @@ use Rattle.turn_desk_event.specs.declared.event.ClientCall.TheVariants as call
 use Rattle.turn_desk_event.specs.declared.event.Event.{Event}
 use Rattle.turn_desk_event.specs.declared.event.Event.TheVariants.{Call, Draw}
 use Rattle.turn_desk_event.specs.declared.grant.Grant.{Grant}
-use Rattle.turn_desk_steps.specs.Verdicts.{bare_grant}
+use Rattle.turn_desk_world.specs.Verdicts.{bare_grant}
 use Rattle.turn_desk_world.specs.Model.{World}
 use Rattle.turn_desk_world.specs.Runs.{IsStep}
 use Rattle.turn_desk_honest.specs.Scripts.{Plan, Place, Start, Asked, Challenged, Came, Signed, Granted, Done, Barred, Silent}

@@ -11,12 +11,12 @@ use Rattle.stun_proto.specs.Nonce.{features_told, takes_anonymous_username}
 use Rattle.stun_proto.specs.Server.{Server}
 use Rattle.turn_client_proto.specs.Api.declared.event.TurnEvent.{TurnEvent}
 use Rattle.turn_client_proto.specs.Kept.{Protocol}
-use Rattle.turn_client_proto_request.specs.Waiting.{Queued}
+use Rattle.turn_client_proto_stages.specs.Request.Waiting.{Queued}
 use Rattle.turn_client_proto.specs.Sent.{Begins, first_request}
 use Rattle.turn_client_proto_stages.specs.Choosing.{Choice, IsAnsweredBy, IsBarring, signed_request, standing_by}
 use Rattle.turn_client_proto_stages.specs.Stages.{AsksForOne, HasChosen, HasEnded, HasSigned, Holds, IsAsking, IsGrant, created, failures}
-use Rattle.turn_desk_steps.specs.Challenged.{IsFirstChallenge}
-use Rattle.turn_desk_steps.specs.State.{State}
+use Rattle.turn_desk_handshake.specs.Challenged.{IsFirstChallenge}
+use Rattle.turn_desk_world.specs.State.{State}
 use Rattle.turn_desk_world.specs.Model.{World}
 use Rattle.turn_desk_honest.specs.Promises.{HasClient, allocation_granted}
 use Rattle.turn_desk_honest.specs.Scripts.{Plan, Place, Start, Asked, Challenged, Came, Signed, Granted, Done, Barred, Silent}

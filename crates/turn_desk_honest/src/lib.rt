@@ -23,12 +23,14 @@ ghost use Rattle.turn_desk_honest.specs.Scripts.{Asked, Came, Challenged, Done, 
 ghost use Rattle.turn_desk_honest.specs.Scripts.{Barred, IsLook, IsScript, IsPolledAt, drawn_first, drawn_second, replied_first, replied_second};
 ghost use Rattle.turn_desk_honest.specs.Standing.{IsOver, Stands};
 
-use turn_client_proto_request::laws::{requests_are_read, texts_stay_read, texts_stay_short};
+use turn_client_proto_stages::request_laws::{
+    requests_are_read, texts_stay_read, texts_stay_short,
+};
+use turn_client_proto_stages::step_laws::told::messages_are_told_alike;
 use turn_client_proto_stages::{
     asking_clients_wait, challenges_are_answered, chosen_clients_sign, ended_clients_rest,
     granted_clients_hold, new_clients_ask, signed_clients_wait, stages_are_told,
 };
-use turn_client_proto_steps::told::messages_are_told_alike;
 use turn_desk_handshake::handshakes::{
     first_requests_are_challenged as desk_challenges, signed_allocates_are_granted,
     successes_are_right,

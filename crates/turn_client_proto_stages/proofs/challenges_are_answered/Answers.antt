@@ -1,7 +1,7 @@
 use Rattle.std.proofs.Common.{◌≡◌, ℕ, Bool, true, List, subst, ◌⊎◌, inl, inr}
 use Rattle.stun_types.specs.IntegrityAlgorithms.{IntegrityAlgorithm}
 use Rattle.stun_proto.specs.Challenges.{Told}
-use Rattle.turn_client_proto_poll.specs.Core.declared.protocol.Protocol.{Protocol}
+use Rattle.turn_client_proto_receipt.specs.Core.declared.protocol.Protocol.{Protocol}
 use Rattle.turn_client_proto_stages.specs.Choosing.{IsAnsweredBy, IsChallenge}
 use Rattle.turn_client_proto_stages.specs.Stages.{HasChosen, IsAsking}
 use Rattle.turn_client_proto_stages.proofs.Challenged.{HasAnswered, IsOver, challenge_heard, chooses, is_over, none_barred, one_choice}

@@ -2,12 +2,12 @@ use Rattle.std.proofs.Common.{◌≡◌, ◌++◌, ℕ, List, [], None, ap, refl
 use Rattle.stun_types.specs.Grammar.{refusal}
 use Rattle.turn_client_proto.specs.Api.declared.event.TurnEvent.{TurnEvent}
 use Rattle.turn_client_proto.specs.Sent.{first_number}
-use Rattle.turn_client_proto_request.specs.Judging.{signer_of}
-use Rattle.turn_client_proto_request.specs.declared.request.TurnRequest.TheVariants.{FirstAllocate}
+use Rattle.turn_client_proto_stages.specs.Request.Judging.{signer_of}
+use Rattle.turn_client_proto_stages.specs.Request.declared.request.TurnRequest.TheVariants.{FirstAllocate}
 use Rattle.turn_client_proto_stages.specs.Choosing.{IsChallenge}
 use Rattle.turn_client_proto_stages.specs.Stages.{failures}
 use Rattle.turn_desk_event.specs.declared.answer.Answer.{Answer}
-use Rattle.turn_desk_steps.specs.State.{State}
+use Rattle.turn_desk_world.specs.State.{State}
 use Rattle.turn_desk_world.specs.Model.{World}
 use Rattle.turn_desk_honest.specs.Promises.{IsFresh, event_in}
 use Rattle.turn_desk_honest.specs.Scripts.{Came, Plan}

@@ -1,13 +1,13 @@
 use Rattle.std.proofs.Common.{◌≡◌, ◌++◌, ℕ, List, [], ap, refl, ◌∙◌, subst}
 use Rattle.turn_client_proto.specs.Api.declared.event.TurnEvent.{TurnEvent}
 use Rattle.turn_client_proto.specs.Sent.{first_number, first_request}
-use Rattle.turn_client_proto_request.specs.Judging.{signer_of}
-use Rattle.turn_client_proto_request.specs.declared.request.TurnRequest.TheVariants.{FirstAllocate}
+use Rattle.turn_client_proto_stages.specs.Request.Judging.{signer_of}
+use Rattle.turn_client_proto_stages.specs.Request.declared.request.TurnRequest.TheVariants.{FirstAllocate}
 use Rattle.turn_desk_event.specs.declared.answer.Answer.{Answer}
 use Rattle.turn_desk_event.specs.declared.answer.Answer.TheVariants as answer
 use Rattle.turn_desk_event.specs.declared.decision.Decision.{Decision}
 use Rattle.turn_desk_handshake.proofs.Requesting.{is_served_first}
-use Rattle.turn_desk_steps.specs.State.{State}
+use Rattle.turn_desk_world.specs.State.{State}
 use Rattle.turn_desk_world.specs.Desks.{IsDeskAnswered, IsReply, words_of}
 use Rattle.turn_desk_world.specs.Model.{World}
 use Rattle.turn_desk_honest.specs.Promises.{IsFresh, event_in}

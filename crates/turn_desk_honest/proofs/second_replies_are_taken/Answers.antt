@@ -4,13 +4,13 @@ use Rattle.stun_types.specs.Grammar.{refusal}
 use Rattle.turn_client_proto.specs.Api.declared.event.TurnEvent.{TurnEvent}
 use Rattle.turn_client_proto_stages.specs.Stages.{IsSigning, created, signed_queued}
 use Rattle.turn_desk_event.specs.declared.answer.Answer.{Answer}
-use Rattle.turn_desk_steps.specs.State.{State}
+use Rattle.turn_desk_world.specs.State.{State}
 use Rattle.turn_desk_world.specs.Model.{World}
 use Rattle.turn_desk_honest.specs.Promises.{event_in}
 use Rattle.turn_desk_honest.specs.Scripts.{Done, Plan}
 use Rattle.turn_desk_honest.specs.Standing.{IsReplied, Stands}
 use Rattle.turn_desk_honest.proofs.Datagrams.{IsHeardOn, hears}
-use Rattle.turn_client_proto_request.specs.Waiting.{Queued}
+use Rattle.turn_client_proto_stages.specs.Request.Waiting.{Queued}
 use Rattle.turn_desk_honest.proofs.Serving.{allocations_of, settings_of}
 use Rattle.turn_desk_honest.proofs.Places.{untold}
 use Rattle.turn_desk_honest.proofs.second_replies_are_taken.Goals as goal

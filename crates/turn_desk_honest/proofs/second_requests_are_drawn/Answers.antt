@@ -7,7 +7,7 @@ use Rattle.turn_client_proto.specs.Kept.{Protocol, over_udp}
 use Rattle.turn_client_proto_stages.specs.Choosing.{signed_asked, signed_sent}
 use Rattle.turn_desk_event.specs.declared.answer.Answer.{Answer}
 use Rattle.turn_desk_event.specs.declared.answer.Answer.TheVariants as answer
-use Rattle.turn_desk_steps.specs.State.{State}
+use Rattle.turn_desk_world.specs.State.{State}
 use Rattle.turn_desk_world.specs.Calls.{IsDrawnAs}
 use Rattle.turn_desk_event.specs.declared.event.Event.TheVariants.{Draw}
 use Rattle.turn_desk_world.specs.Model.{World}

@@ -4,8 +4,8 @@ use Rattle.stun_proto.specs.Client.{standing_key}
 use Rattle.stun_proto.specs.Digests.{IsRight}
 use Rattle.turn_client_proto.specs.Api.declared.event.TurnEvent.{TurnEvent}
 use Rattle.turn_client_proto.specs.Sound.{IsWhole}
-use Rattle.turn_client_proto_request.specs.ReadTexts.{HasReadTexts}
-use Rattle.turn_client_proto_request.specs.ShortTexts.{HasShortTexts}
+use Rattle.turn_client_proto_stages.specs.Request.ReadTexts.{HasReadTexts}
+use Rattle.turn_client_proto_stages.specs.Request.ShortTexts.{HasShortTexts}
 use Rattle.turn_client_proto_stages.specs.Choosing.{IsChoice, allocate_of, signed_request, signer_by, standing_by}
 use Rattle.turn_client_proto_stages.specs.Stages.{AsksForOne}
 use Rattle.turn_desk_event.specs.declared.answer.Answer.{Answer}

@@ -9,7 +9,7 @@ use Rattle.turn_desk_event.specs.declared.answer.Answer.{Answer}
 use Rattle.turn_desk_event.specs.declared.event.ClientCall.{ClientCall}
 use Rattle.turn_desk_event.specs.declared.event.ClientCall.TheVariants.{Poll}
 use Rattle.turn_desk_event.specs.declared.event.Event.TheVariants.{Call}
-use Rattle.turn_desk_steps.specs.State.{State}
+use Rattle.turn_desk_world.specs.State.{State}
 use Rattle.turn_desk_world.specs.Model.{World}
 use Rattle.turn_desk_world.specs.Runs.{IsStep}
 use Rattle.turn_desk_honest.specs.Promises.{HasClient, event_in}
