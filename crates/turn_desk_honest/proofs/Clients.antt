@@ -1,4 +1,4 @@
--- What an event of a world is for its client over UDP.
+-- What an event of a world is for its client, over either transport.
 use Rattle.std.proofs.Common.{◌≡◌, ℕ, ◌≤◌, ◌^◌, Bool, true, false, List, [], Option, Some, None, refl, sym, ap, ◌∙◌, subst, ◌⊎◌, inl, inr}
 use Rattle.std.specs.Prelude.{option_to_list}
 use Rattle.std.specs.Bool.{MatchBool}
@@ -6,56 +6,56 @@ use Rattle.std.proofs.lemmas.Bool.{le-leb}
 use Rattle.turn_client_proto.specs.Api.declared.answer.TurnPollRet.{TurnPollRet}
 use Rattle.turn_client_proto.specs.Api.declared.answer.TurnPollRet.TheVariants as poll
 use Rattle.turn_client_proto.specs.Api.declared.event.TurnEvent.{TurnEvent}
-use Rattle.turn_client_proto.specs.Control.{Control, Datagrams}
+use Rattle.turn_client_proto.specs.Control.{Control}
 use Rattle.turn_client_proto.specs.Drawing.{IsDrawn, Sent, sent_of}
 use Rattle.turn_client_proto.specs.Driving.{IsEventTaken}
-use Rattle.turn_client_proto.specs.Kept.{Kept, Protocol, over_udp}
+use Rattle.turn_client_proto.specs.Kept.{Kept, Protocol}
 use Rattle.turn_client_proto.specs.Polling.{IsPolled}
-use Rattle.turn_desk_event.specs.declared.answer.Answer.{Answer}
-use Rattle.turn_desk_event.specs.declared.answer.Answer.TheVariants as answer
-use Rattle.turn_desk_event.specs.declared.event.ClientCall.{ClientCall}
-use Rattle.turn_desk_event.specs.declared.event.ClientCall.TheVariants as call
-use Rattle.turn_desk_event.specs.declared.event.Event.TheVariants.{Call, Draw}
+use Rattle.turn_desk_world.specs.declared.answer.Answer.{Answer}
+use Rattle.turn_desk_world.specs.declared.answer.Answer.TheVariants as answer
+use Rattle.turn_desk_world.specs.declared.event.ClientCall.{ClientCall}
+use Rattle.turn_desk_world.specs.declared.event.ClientCall.TheVariants as call
+use Rattle.turn_desk_world.specs.declared.event.Event.TheVariants.{Call, Draw}
 use Rattle.turn_desk_world.specs.Calls.{IsCallTold, IsCalled, IsDrawnAs, IsEventTold, IsPolledAs}
 use Rattle.turn_desk_world.specs.Model.{World}
 use Rattle.turn_desk_world.specs.Runs.{IsAtClient, IsInRange, IsOfClient, IsStep, is_in_range}
-use Rattle.turn_desk_honest.specs.Promises.{event_in}
+use Rattle.turn_desk_honest.specs.Promises.{event_in, over}
 use Rattle.turn_desk_honest.specs.Scripts.{IsLook}
 
 -- ---- where something happens to the client, and where nothing does
 
 -- something did, or the moment is out of range
-pub record IsDone (now : ℕ) (Does : Kept → Kept → Type 0) (p : Protocol) (ret : Answer) (new : Option Kept) : Type 0 where
+pub record IsDone (c : Control) (now : ℕ) (Does : Kept → Kept → Type 0) (p : Protocol) (ret : Answer) (new : Option Kept) : Type 0 where
   pub after : Kept
   pub there : new ≡ Some after
-  pub outcome : ((is_in_range now ≡ true) × Does (over_udp p) after) ⊎ ((ret ≡ answer.OutOfRange) × (after ≡ over_udp p) × (is_in_range now ≡ false))
+  pub outcome : ((is_in_range now ≡ true) × Does (over c p) after) ⊎ ((ret ≡ answer.OutOfRange) × (after ≡ over c p) × (is_in_range now ≡ false))
 
 in_range : (now : ℕ) (Does : Kept → Kept → Type 0) (p q : Kept) (ret : Answer) (within : Bool) → is_in_range now ≡ within → MatchBool within (Does p q) ((ret ≡ answer.OutOfRange) × (q ≡ p))
     → ((is_in_range now ≡ true) × Does p q) ⊎ ((ret ≡ answer.OutOfRange) × (q ≡ p) × (is_in_range now ≡ false))
 in_range now Does p q ret true so is = inl (so, is)
 in_range now Does p q ret false so is = inr (is.0, is.1, so)
 
-pub done : (now : ℕ) (Does : Kept → Kept → Type 0) (p : Protocol) (old new : Option Kept) (ret : Answer) → old ≡ Some (over_udp p) → IsAtClient now Does old ret new → IsDone now Does p ret new
+pub done : (c : Control) (now : ℕ) (Does : Kept → Kept → Type 0) (p : Protocol) (old new : Option Kept) (ret : Answer) → old ≡ Some (over c p) → IsAtClient now Does old ret new → IsDone c now Does p ret new
 unfolding IsAtClient IsInRange
-done now Does p old new ret at is = by new (subst (λ (o : Option Kept). IsAtClient now Does o ret new) at is)
+done c now Does p old new ret at is = by new (subst (λ (o : Option Kept). IsAtClient now Does o ret new) at is)
   where
-    by : (new : Option Kept) → IsAtClient now Does (Some (over_udp p)) ret new → IsDone now Does p ret new
+    by : (new : Option Kept) → IsAtClient now Does (Some (over c p)) ret new → IsDone c now Does p ret new
     by None is = absurd is
-    by (Some q) is = record { after = q; there = refl; outcome = in_range now Does (over_udp p) q ret (is_in_range now) refl is }
+    by (Some q) is = record { after = q; there = refl; outcome = in_range now Does (over c p) q ret (is_in_range now) refl is }
 
 within : (now : ℕ) → now ≤ 2 ^ 62 → is_in_range now ≡ true
 within now early = le-leb now (2 ^ 62) early
 
 -- it did, where the moment is in range
-pub done_so : (now : ℕ) (Does : Kept → Kept → Type 0) (p : Protocol) (ret : Answer) (new : Option Kept) → now ≤ 2 ^ 62 → (is : IsDone now Does p ret new) → Does (over_udp p) is.after
-done_so now Does p ret new early is = elim is.outcome [
+pub done_so : (c : Control) (now : ℕ) (Does : Kept → Kept → Type 0) (p : Protocol) (ret : Answer) (new : Option Kept) → now ≤ 2 ^ 62 → (is : IsDone c now Does p ret new) → Does (over c p) is.after
+done_so c now Does p ret new early is = elim is.outcome [
   | inl does ↦ does.1
   | inr out ↦ absurd (Prim.cc (sym (within now early) ∙ out.2))
 ]
 
--- a client over UDP stays one
-pub stays_udp : (q : Kept) → q.control ≡ Datagrams → q ≡ over_udp q.core
-stays_udp q at = ap (λ (c : Control). record { core = q.core; control = c }) at
+-- a client whose control stays so
+pub stays : (c : Control) (q : Kept) → q.control ≡ c → q ≡ over c q.core
+stays c q at = ap (λ (k : Control). record { core = q.core; control = k }) at
 
 -- a world of which nothing but the client may have changed
 pub same_desk : (w v : World) → IsOfClient w v → v.desk ≡ w.desk
@@ -67,17 +67,17 @@ same_world w v is same = is ∙ ap (λ (o : Option Kept). record w { client = o 
 
 -- ---- a draw
 
-pub record IsDrawnOn (p : Protocol) (now : ℕ) (ret : Answer) (w v : World) : Type 0 where
+pub record IsDrawnOn (c : Control) (p : Protocol) (now : ℕ) (ret : Answer) (w v : World) : Type 0 where
   pub core : Protocol
-  pub there : v.client ≡ Some (over_udp core)
+  pub there : v.client ≡ Some (over c core)
   pub drawn : IsDrawnAs ret p now core
   pub desk : v.desk ≡ w.desk
 
-pub draws : (w v : World) (p : Protocol) (now : ℕ) (ret : Answer) → w.client ≡ Some (over_udp p) → now ≤ 2 ^ 62 → IsStep (Draw now) w ret v → IsDrawnOn p now ret w v
-draws w v p now ret at early step =
-    let d = done now _ p w.client v.client ret at step.0 in
-    let is = done_so now _ p ret v.client early d in
-    record { core = d.after.core; there = d.there ∙ ap Some (stays_udp d.after is.1); drawn = is.0; desk = same_desk w v step.1 }
+pub draws : (c : Control) (w v : World) (p : Protocol) (now : ℕ) (ret : Answer) → w.client ≡ Some (over c p) → now ≤ 2 ^ 62 → IsStep (Draw now) w ret v → IsDrawnOn c p now ret w v
+draws c w v p now ret at early step =
+    let d = done c now _ p w.client v.client ret at step.0 in
+    let is = done_so c now _ p ret v.client early d in
+    record { core = d.after.core; there = d.there ∙ ap Some (stays c d.after is.1); drawn = is.0; desk = same_desk w v step.1 }
 
 -- where nothing is drawn, nothing is answered
 pub nothing_drawn : (p q : Protocol) (now : ℕ) (ret : Answer) → ((sent : Option Sent) (q : Protocol) → IsDrawn p now sent q → (sent ≡ None) × (q ≡ p)) → IsDrawnAs ret p now q → (ret ≡ answer.Nothing) × (q ≡ p)
@@ -113,28 +113,28 @@ looked call.Connections p q now _ look is = absurd is
 looked call.RelayedAddresses p q now _ look is = absurd is
 looked _ p q now ret look is = absurd look
 
-look_told : (what : ClientCall) (p : Protocol) (q : Kept) (now : ℕ) (ret : Answer) → IsLook what → IsCallTold what ret (over_udp p) now q → IsLooked p ret q.core × (q.control ≡ Datagrams)
+look_told : (c : Control) (what : ClientCall) (p : Protocol) (q : Kept) (now : ℕ) (ret : Answer) → IsLook what → IsCallTold what ret (over c p) now q → IsLooked p ret q.core × (q.control ≡ c)
 unfolding IsCallTold
-look_told call.PollEvent p q now ret look is = (looked call.PollEvent p q.core now ret look is.0, is.1)
-look_told (call.HavePermission transport ip) p q now ret look is = (looked (call.HavePermission transport ip) p q.core now ret look is.0, is.1)
-look_told (call.Permissions transport relayed) p q now ret look is = (looked (call.Permissions transport relayed) p q.core now ret look is.0, is.1)
-look_told call.Channels p q now ret look is = (looked call.Channels p q.core now ret look is.0, is.1)
-look_told call.Connections p q now ret look is = (looked call.Connections p q.core now ret look is.0, is.1)
-look_told call.RelayedAddresses p q now ret look is = (looked call.RelayedAddresses p q.core now ret look is.0, is.1)
-look_told _ p q now ret look is = absurd look
+look_told c call.PollEvent p q now ret look is = (looked call.PollEvent p q.core now ret look is.0, is.1)
+look_told c (call.HavePermission transport ip) p q now ret look is = (looked (call.HavePermission transport ip) p q.core now ret look is.0, is.1)
+look_told c (call.Permissions transport relayed) p q now ret look is = (looked (call.Permissions transport relayed) p q.core now ret look is.0, is.1)
+look_told c call.Channels p q now ret look is = (looked call.Channels p q.core now ret look is.0, is.1)
+look_told c call.Connections p q now ret look is = (looked call.Connections p q.core now ret look is.0, is.1)
+look_told c call.RelayedAddresses p q now ret look is = (looked call.RelayedAddresses p q.core now ret look is.0, is.1)
+look_told c _ p q now ret look is = absurd look
 
-pub record IsLookedOn (p : Protocol) (ret : Answer) (w v : World) : Type 0 where
+pub record IsLookedOn (c : Control) (p : Protocol) (ret : Answer) (w v : World) : Type 0 where
   pub core : Protocol
-  pub there : v.client ≡ Some (over_udp core)
+  pub there : v.client ≡ Some (over c core)
   pub looked : IsLooked p ret core
   pub of : IsOfClient w v
 
-pub looks : (w v : World) (p : Protocol) (what : ClientCall) (now : ℕ) (ret : Answer) → w.client ≡ Some (over_udp p) → IsLook what → IsStep (Call what now) w ret v → IsLookedOn p ret w v
-looks w v p what now ret at look step =
-    let d = done now _ p w.client v.client ret at step.0 in
+pub looks : (c : Control) (w v : World) (p : Protocol) (what : ClientCall) (now : ℕ) (ret : Answer) → w.client ≡ Some (over c p) → IsLook what → IsStep (Call what now) w ret v → IsLookedOn c p ret w v
+looks c w v p what now ret at look step =
+    let d = done c now _ p w.client v.client ret at step.0 in
     elim d.outcome [
-      | inl does ↦ (let is = look_told what p d.after now ret look does.1 in
-          record { core = d.after.core; there = d.there ∙ ap Some (stays_udp d.after is.1); looked = is.0; of = step.1 })
+      | inl does ↦ (let is = look_told c what p d.after now ret look does.1 in
+          record { core = d.after.core; there = d.there ∙ ap Some (stays c d.after is.1); looked = is.0; of = step.1 })
       | inr out ↦ record { core = p; there = d.there ∙ ap Some out.1; looked = Still refl (ap event_in out.0); of = step.1 }
     ]
 
@@ -152,31 +152,31 @@ polled_as p q now (answer.Close local remote) is = (Polled (poll.TcpClose local 
 polled_as p q now answer.Closed is = (Polled poll.Closed is, refl)
 polled_as p q now _ is = absurd is
 
-pub record IsPolledOn (p : Protocol) (now : ℕ) (ret : Answer) (w v : World) : Type 0 where
+pub record IsPolledOn (c : Control) (p : Protocol) (now : ℕ) (ret : Answer) (w v : World) : Type 0 where
   pub core : Protocol
-  pub there : v.client ≡ Some (over_udp core)
+  pub there : v.client ≡ Some (over c core)
   pub polled : IsPolledOr p now ret core
   pub silent : event_in ret ≡ []
   pub of : IsOfClient w v
 
-poll_told : (p : Protocol) (q : Kept) (now : ℕ) (ret : Answer) → IsCallTold call.Poll ret (over_udp p) now q → IsPolledAs ret p now q.core × (q.control ≡ Datagrams)
+poll_told : (c : Control) (p : Protocol) (q : Kept) (now : ℕ) (ret : Answer) → IsCallTold call.Poll ret (over c p) now q → IsPolledAs ret p now q.core × (q.control ≡ c)
 unfolding IsCallTold IsCalled
-poll_told p q now ret is = is
+poll_told c p q now ret is = is
 
-pub polls : (w v : World) (p : Protocol) (now : ℕ) (ret : Answer) → w.client ≡ Some (over_udp p) → IsStep (Call call.Poll now) w ret v → IsPolledOn p now ret w v
-polls w v p now ret at step =
-    let d = done now _ p w.client v.client ret at step.0 in
+pub polls : (c : Control) (w v : World) (p : Protocol) (now : ℕ) (ret : Answer) → w.client ≡ Some (over c p) → IsStep (Call call.Poll now) w ret v → IsPolledOn c p now ret w v
+polls c w v p now ret at step =
+    let d = done c now _ p w.client v.client ret at step.0 in
     elim d.outcome [
-      | inl does ↦ (let is = poll_told p d.after now ret does.1 in let so = polled_as p d.after.core now ret is.0 in
-          record { core = d.after.core; there = d.there ∙ ap Some (stays_udp d.after is.1); polled = so.0; silent = so.1; of = step.1 })
+      | inl does ↦ (let is = poll_told c p d.after now ret does.1 in let so = polled_as p d.after.core now ret is.0 in
+          record { core = d.after.core; there = d.there ∙ ap Some (stays c d.after is.1); polled = so.0; silent = so.1; of = step.1 })
       | inr out ↦ record { core = p; there = d.there ∙ ap Some out.1; polled = OutOf refl; silent = ap event_in out.0; of = step.1 }
     ]
 
 -- polled in range, as it is answered
-pub polled_so : (w v : World) (p : Protocol) (now : ℕ) (ret : Answer) → w.client ≡ Some (over_udp p) → now ≤ 2 ^ 62 → IsStep (Call call.Poll now) w ret v → (q : Protocol) × IsPolledAs ret p now q
-polled_so w v p now ret at early step =
-    let d = done now _ p w.client v.client ret at step.0 in
-    (d.after.core, (poll_told p d.after now ret (done_so now _ p ret v.client early d)).0)
+pub polled_so : (c : Control) (w v : World) (p : Protocol) (now : ℕ) (ret : Answer) → w.client ≡ Some (over c p) → now ≤ 2 ^ 62 → IsStep (Call call.Poll now) w ret v → (q : Protocol) × IsPolledAs ret p now q
+polled_so c w v p now ret at early step =
+    let d = done c now _ p w.client v.client ret at step.0 in
+    (d.after.core, (poll_told c p d.after now ret (done_so c now _ p ret v.client early d)).0)
 
 -- ---- where nothing has changed
 
@@ -185,35 +185,35 @@ pub record Rests (ret : Answer) (w v : World) : Type 0 where
   pub silent : event_in ret ≡ []
 
 -- a look at a client of which no event waits
-pub look_rests : (w v : World) (p : Protocol) (what : ClientCall) (now : ℕ) (ret : Answer) → w.client ≡ Some (over_udp p)
+pub look_rests : (c : Control) (w v : World) (p : Protocol) (what : ClientCall) (now : ℕ) (ret : Answer) → w.client ≡ Some (over c p)
     → ((event : Option TurnEvent) (q : Protocol) → IsEventTaken p event q → (event ≡ None) × (q ≡ p)) → IsLook what → IsStep (Call what now) w ret v → Rests ret w v
-look_rests w v p what now ret at none look step =
-    let l = looks w v p what now ret at look step in
+look_rests c w v p what now ret at none look step =
+    let l = looks c w v p what now ret at look step in
     by l l.looked
   where
-    by : (l : IsLookedOn p ret w v) → IsLooked p ret l.core → Rests ret w v
+    by : (l : IsLookedOn c p ret w v) → IsLooked p ret l.core → Rests ret w v
     by l (Took event taken told) =
         let n = none event l.core taken in
-        record { same = same_world w v l.of (l.there ∙ ap (λ (x : Protocol). Some (over_udp x)) n.1 ∙ sym at); silent = told ∙ ap option_to_list n.0 }
-    by l (Still same told) = record { same = same_world w v l.of (l.there ∙ ap (λ (x : Protocol). Some (over_udp x)) same ∙ sym at); silent = told }
+        record { same = same_world w v l.of (l.there ∙ ap (λ (x : Protocol). Some (over c x)) n.1 ∙ sym at); silent = told ∙ ap option_to_list n.0 }
+    by l (Still same told) = record { same = same_world w v l.of (l.there ∙ ap (λ (x : Protocol). Some (over c x)) same ∙ sym at); silent = told }
 
 -- a poll that changes nothing
-pub poll_rests : (w v : World) (p : Protocol) (now : ℕ) (ret : Answer) → w.client ≡ Some (over_udp p)
+pub poll_rests : (c : Control) (w v : World) (p : Protocol) (now : ℕ) (ret : Answer) → w.client ≡ Some (over c p)
     → ((r : TurnPollRet) (q : Protocol) → IsPolled p now r q → q ≡ p) → IsStep (Call call.Poll now) w ret v → Rests ret w v
-poll_rests w v p now ret at none step =
-    let l = polls w v p now ret at step in
+poll_rests c w v p now ret at none step =
+    let l = polls c w v p now ret at step in
     by l l.polled
   where
-    by : (l : IsPolledOn p now ret w v) → IsPolledOr p now ret l.core → Rests ret w v
-    by l (Polled r is) = record { same = same_world w v l.of (l.there ∙ ap (λ (x : Protocol). Some (over_udp x)) (none r l.core is) ∙ sym at); silent = l.silent }
-    by l (OutOf same) = record { same = same_world w v l.of (l.there ∙ ap (λ (x : Protocol). Some (over_udp x)) same ∙ sym at); silent = l.silent }
+    by : (l : IsPolledOn c p now ret w v) → IsPolledOr p now ret l.core → Rests ret w v
+    by l (Polled r is) = record { same = same_world w v l.of (l.there ∙ ap (λ (x : Protocol). Some (over c x)) (none r l.core is) ∙ sym at); silent = l.silent }
+    by l (OutOf same) = record { same = same_world w v l.of (l.there ∙ ap (λ (x : Protocol). Some (over c x)) same ∙ sym at); silent = l.silent }
 
 -- a draw that gives nothing, and changes nothing
-pub draw_rests : (w v : World) (p : Protocol) (now : ℕ) (ret : Answer) → w.client ≡ Some (over_udp p)
+pub draw_rests : (c : Control) (w v : World) (p : Protocol) (now : ℕ) (ret : Answer) → w.client ≡ Some (over c p)
     → ((sent : Option Sent) (q : Protocol) → IsDrawn p now sent q → (sent ≡ None) × (q ≡ p)) → IsStep (Draw now) w ret v → Rests ret w v
-draw_rests w v p now ret at none step =
-    let d = done now _ p w.client v.client ret at step.0 in
+draw_rests c w v p now ret at none step =
+    let d = done c now _ p w.client v.client ret at step.0 in
     elim d.outcome [
-      | inl does ↦ (let n = nothing_drawn p d.after.core now ret none does.1.0 in record { same = same_world w v step.1 (d.there ∙ ap Some (stays_udp d.after does.1.1) ∙ ap (λ (x : Protocol). Some (over_udp x)) n.1 ∙ sym at); silent = ap event_in n.0 })
+      | inl does ↦ (let n = nothing_drawn p d.after.core now ret none does.1.0 in record { same = same_world w v step.1 (d.there ∙ ap Some (stays c d.after does.1.1) ∙ ap (λ (x : Protocol). Some (over c x)) n.1 ∙ sym at); silent = ap event_in n.0 })
       | inr out ↦ record { same = same_world w v step.1 (d.there ∙ ap Some out.1 ∙ sym at); silent = ap event_in out.0 }
     ]

@@ -1,6 +1,5 @@
 pub mod Clients
-pub mod Datagrams
+pub mod Coming
 pub mod Meeting
 pub mod Places
 pub mod Serving
-pub mod Texts

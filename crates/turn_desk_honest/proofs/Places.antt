@@ -1,30 +1,35 @@
 -- What goes from one place of an honest network to another.
-use Rattle.std.proofs.Common.{◌≡◌, ℕ, ◌≤◌, ◌^◌, arith, List, [], ◌∷◌, ◌++◌, Option, Some, None, sym, ap, ◌∙◌, subst, inl, inr, append_assoc}
+use Rattle.std.proofs.Common.{◌<◌, ◌≡◌, ℕ, ◌≤◌, ◌^◌, arith, List, [], ◌∷◌, ◌++◌, Option, Some, None, sym, ap, ◌∙◌, subst, inl, inr, append_assoc}
 use Rattle.std.specs.Prelude.{option_to_list}
 use Rattle.std.proofs.lemmas.List.{append-nil}
 use Rattle.std.specs.declared.net.socket_addr.SocketAddr.{SocketAddr}
-use Rattle.rand_core.specs.Stream.{Stream}
 use Rattle.stun_types.specs.Grammar.{refusal}
-use Rattle.turn_desk_event.specs.declared.decision.Decision.{Decision}
+use Rattle.turn_desk_world.specs.declared.decision.Decision.{Decision}
 use Rattle.turn_desk_world.specs.State.{State}
 use Rattle.turn_desk_world.specs.Steps.{IsAnswer}
 use Rattle.turn_client_proto.specs.Api.declared.event.TurnEvent.{TurnEvent}
 use Rattle.turn_client_proto.specs.Drawing.{Sent}
-use Rattle.turn_desk_event.specs.declared.answer.Answer.{Answer}
+use Rattle.turn_desk_world.specs.declared.answer.Answer.{Answer}
+use Rattle.turn_client_proto.specs.Sent.{Beginning, first_number}
+use Rattle.turn_desk_world.specs.Desks.{words_of}
 use Rattle.turn_desk_world.specs.Model.{World}
 use Rattle.turn_desk_honest.specs.Promises.{IsTimely, event_in}
 use Rattle.turn_desk_honest.specs.Scripts.{Plan, Place}
 use Rattle.turn_desk_honest.specs.Standing.{Stands}
 use Rattle.turn_desk_honest.proofs.Clients.{Rests}
 
--- the bytes of what is sent, where something is
-bytes_of : Option Sent → List ℕ
-bytes_of None = []
-bytes_of (Some sent) = sent.bytes
+-- what is sent, where something is
+sent_or : Sent → Option Sent → Sent
+sent_or other None = other
+sent_or other (Some sent) = sent
 
-pub same_bytes : (a b : Sent) → Some a ≡ Some b → a.bytes ≡ b.bytes
-unfolding bytes_of
-same_bytes a b is = ap bytes_of is
+pub same_sent : (a b : Sent) → Some a ≡ Some b → a ≡ b
+unfolding sent_or
+same_sent a b is = ap (sent_or a) is
+
+-- the number of the first request is one of 96 bits
+pub first_fits : (b : Beginning) → first_number b < 2 ^ 96
+first_fits b = omega arith
 
 -- no event is told
 pub untold : (told events : List TurnEvent) → told ≡ [] → events ≡ [] → told ++ events ≡ []
@@ -52,9 +57,9 @@ pub tells_still : (told : List TurnEvent) (ret : Answer) (left : List TurnEvent)
 tells_still told ret left silent = ap (λ (l : List TurnEvent). l ++ left) (ap (λ (e : List TurnEvent). told ++ e) silent ∙ append-nil told)
 
 -- a reply of a desk is a message
-pub is_message : (old new : State) (from : SocketAddr) (bytes reply : List ℕ) (now : ℕ) (stream : Stream) (decision : Decision) → IsAnswer old from bytes now stream decision reply new → refusal reply ≡ None
-is_message old new from bytes reply now stream decision (inl is) = is.read.message
-is_message old new from bytes reply now stream decision (inr is) = is.read.message
+pub is_message : (old new : State) (from : SocketAddr) (bytes reply : List ℕ) (now : ℕ) (seed : List ℕ) (decision : Decision) → IsAnswer old from bytes now (words_of seed) decision reply new → refusal reply ≡ None
+is_message old new from bytes reply now seed decision (inl is) = is.read.message
+is_message old new from bytes reply now seed decision (inr is) = is.read.message
 
 -- what makes a list no longer is empty
 rest_of : List TurnEvent → List TurnEvent

@@ -1,5 +1,5 @@
 -- What a desk that has challenged a client keeps of it.
-use Rattle.std.proofs.Common.{◌≡◌, inl, inr, [], ℕ, Bool, true, false, List, Some, None, refl, sym, ap, ◌∙◌, subst}
+use Rattle.std.proofs.Common.{◌≡◌, inl, inr, [], ◌∷◌, ℕ, Bool, true, false, List, Some, None, refl, sym, ap, ◌∙◌, subst}
 use Rattle.std.specs.Prelude.{◌&&◌, if◌then◌else◌, IsSome}
 use Rattle.std.specs.FinMap as map
 use Rattle.std.specs.Option.{option_map}
@@ -10,13 +10,19 @@ use Rattle.stun_proto.specs.Choice.{supports, takes}
 use Rattle.stun_proto.specs.Server.{Client}
 use Rattle.stun_proto.specs.SupportedAlgorithms.{list_of}
 use Rattle.stun_proto.specs.Users.{HashesDiffer}
+use Rattle.std.specs.declared.net.socket_addr.SocketAddr.{SocketAddr}
+use Rattle.turn_client_proto.specs.Drawing.{Sent}
 use Rattle.turn_client_proto.specs.Kept.{Protocol}
+use Rattle.turn_client_proto.specs.Sent.{Beginning}
+use Rattle.turn_client_proto_stages.specs.Request.Waiting.{Queued}
+use Rattle.turn_client_proto_stages.specs.Coming.{IsUnserved}
+use Rattle.turn_client_proto_stages.specs.Stages.{IsSigning, signed_queued}
+use Rattle.turn_desk_world.specs.Model.{World}
 use Rattle.turn_client_proto_stages.specs.Choosing.{Choice, IsAnsweredBy, IsChoice, standing_by}
-use Rattle.turn_client_proto_stages.specs.Stages.{IsOf}
 use Rattle.turn_desk_handshake.specs.Handshakes.{IsOfServer, list_given}
 use Rattle.turn_desk_world.specs.State.{State}
 use Rattle.turn_desk_honest.specs.Scripts.{Plan}
-use Rattle.turn_desk_honest.specs.Standing.{HasDrawn, IsFirstReply, IsOfSettings, IsUnder}
+use Rattle.turn_desk_honest.specs.Standing.{HasDrawn, IsFirstReply, IsGranting, IsOfSettings, IsUnder}
 
 pub second_true : (a b : Bool) → (a && b) ≡ true → b ≡ true
 second_true true b is = is
@@ -66,21 +72,31 @@ module _ (plan : Plan) (old desk : State) where
 
 -- ---- the client, once its signed request was drawn
 
-module _ (plan : Plan) (c : Choice) (p : Protocol) (d : HasDrawn plan c p) where
-  pub choice_of : IsChoice plan.client c
-  choice_of = elim d.is [
-    | inl w ↦ w.choice
-    | inr w ↦ w.choice
-  ]
+pub choice_of : (plan : Plan) (c : Choice) (p : Protocol) → HasDrawn plan c p → IsChoice plan.client c
+choice_of plan c p d = elim d.is [
+  | inl w ↦ w.choice
+  | inr w ↦ w.choice
+]
 
-  pub settings_of : IsOf plan.client p
-  settings_of = elim d.is [
-    | inl w ↦ w.settings
-    | inr w ↦ w.settings
-  ]
+-- nothing is allocated to it
+pub unserved_of : (plan : Plan) (c : Choice) (p : Protocol) (d : HasDrawn plan c p)
+    → ((b : Beginning) (c : Choice) (many last : ℕ) (queue : List Queued) (p : Protocol) → IsSigning b c many last queue p → IsUnserved b p) → IsUnserved plan.client p
+unserved_of plan c p d so = elim d.is [
+  | inl w ↦ so plan.client c d.used plan.second (signed_queued plan.client c ∷ []) p w
+  | inr w ↦ so plan.client c d.used plan.second [] p w
+]
 
-  pub allocations_of : p.allocations ≡ []
-  allocations_of = elim d.is [
-    | inl w ↦ w.allocations
-    | inr w ↦ w.allocations
-  ]
+-- what a desk has granted stays so, where the desk does
+pub granting_on : (plan : Plan) (old w v : World) (c : Choice) (request : Sent) (address : SocketAddr) (lifetime : ℕ) (reply : List ℕ) → v.desk ≡ w.desk
+    → IsGranting plan old c request address lifetime reply w → IsGranting plan old c request address lifetime reply v
+granting_on plan old w v c request address lifetime reply same is = record {
+  request_is = is.request_is;
+  made = is.made;
+  answered = is.answered;
+  of = is.of;
+  asks = is.asks;
+  request_right = is.request_right;
+  message = is.message;
+  grant = is.grant;
+  granted = ap (λ (d : State). d.grants) same ∙ is.granted;
+}

@@ -1,11 +1,13 @@
--- What an honest run over UDP comes to (RFC 8489, section 9.2; RFC 8656, sections 7.1 to 7.4).
+-- What an honest run comes to, over UDP or TCP (RFC 8489, section 9.2; RFC 8656, sections 7.1 to 7.4).
 use Rattle.std.specs.Prelude.{◌≡◌, ◌≤◌, ◌<◌, ◌^◌, ◌⊎◌, ◌++◌, ℕ, true, false, List, [], ◌∷◌, Some, None}
 use Rattle.std.specs.FinMap as map
 use Rattle.std.specs.List.{flat_map}
 use Rattle.std.specs.declared.net.socket_addr.SocketAddr.{SocketAddr}
+use Rattle.stun_types.specs.Credentials.{Key}
 use Rattle.stun_types.specs.IntegrityAlgorithms.{IntegrityAlgorithm}
 use Rattle.stun_types.specs.Strength.{is_stronger}
-use Rattle.stun_types.specs.declared.transport.TransportType.TheVariants.{Udp}
+use Rattle.stun_types.specs.declared.transport.TransportType.{TransportType}
+use Rattle.stun_types.specs.declared.transport.TransportType.TheVariants.{Udp, Tcp}
 use Rattle.stun_proto.specs.Choice.{supports}
 use Rattle.stun_proto.specs.Client.{account_key}
 use Rattle.stun_proto.specs.Digests.{IsRight}
@@ -14,23 +16,27 @@ use Rattle.stun_proto.specs.Moments.{moment_after}
 use Rattle.stun_proto.specs.Server.{Server}
 use Rattle.stun_proto.specs.Users.{HashesDiffer}
 use Rattle.turn_client_proto.specs.Api.declared.event.TurnEvent.{TurnEvent}
+use Rattle.turn_client_proto.specs.Allocation.Streams.{alive}
 use Rattle.turn_client_proto.specs.Config.{Config}
+use Rattle.turn_client_proto.specs.Control.{Control, Datagrams, Open}
+use Rattle.turn_client_proto.specs.Drawing.{Sent}
 use Rattle.turn_client_proto.specs.Getters.{relayed_of}
-use Rattle.turn_client_proto.specs.Kept.{Protocol, over_udp}
+use Rattle.turn_client_proto.specs.Kept.{Kept, Protocol}
 use Rattle.turn_client_proto.specs.Polling.{cadence}
 use Rattle.turn_client_proto.specs.Sent.{Begins, HasRoom}
 use Rattle.turn_client_proto_stages.specs.Choosing.{HasTextName}
 use Rattle.turn_client_proto_stages.specs.Stages.{created, failures}
-use Rattle.turn_desk_event.specs.declared.answer.Answer.{Answer}
-use Rattle.turn_desk_event.specs.declared.answer.Answer.TheVariants as answer
-use Rattle.turn_desk_event.specs.declared.event.ClientCall.TheVariants as call
-use Rattle.turn_desk_event.specs.declared.event.Event.{Event}
-use Rattle.turn_desk_event.specs.declared.event.Event.TheVariants.{Call, Draw}
-use Rattle.turn_desk_event.specs.declared.grant.Grant.{Grant}
+use Rattle.turn_desk_world.specs.declared.answer.Answer.{Answer}
+use Rattle.turn_desk_world.specs.declared.answer.Answer.TheVariants as answer
+use Rattle.turn_desk_world.specs.declared.event.ClientCall.TheVariants as call
+use Rattle.turn_desk_world.specs.declared.event.Event.{Event}
+use Rattle.turn_desk_world.specs.declared.event.Event.TheVariants.{Call, Draw}
+use Rattle.turn_desk_world.specs.declared.grant.Grant.{Grant}
 use Rattle.turn_desk_world.specs.Verdicts.{bare_grant}
 use Rattle.turn_desk_world.specs.Model.{World}
 use Rattle.turn_desk_world.specs.Runs.{IsStep}
-use Rattle.turn_desk_honest.specs.Scripts.{Plan, Place, Start, Asked, Challenged, Came, Signed, Granted, Done, Barred, Silent}
+use Rattle.turn_desk_honest.specs.Scripts.{Plan, Place, Start, Asked, Challenged, Came}
+use Rattle.turn_desk_honest.specs.Scripts.{Signed, Granted, Done, Barred, Silent}
 
 -- ---- where it begins
 
@@ -39,17 +45,26 @@ pub record IsTimely (plan : Plan) : Type 0 where
   pub apart : moment_after plan.client.made cadence ≤ plan.second
   pub in_range : plan.second ≤ 2 ^ 62
 
--- a world has a client over UDP, of which this is so
-pub record HasClient (w : World) (Is : Protocol → Type 0) : Type 0 where
+-- how bytes come to a client from its server: over UDP each datagram by itself; over TCP in a stream, of which this
+-- front of a message has come
+abbrev pub control_at : TransportType → (front : List ℕ) → Control
+control_at Udp front = Datagrams
+control_at Tcp front = Open (alive front)
+
+-- a client to which bytes come so
+abbrev pub over : Control → Protocol → Kept
+over control core = record { core = core; control = control }
+
+-- a world has the client that began, to which this front of a message has come; and of it this is so
+pub record HasClient (plan : Plan) (front : List ℕ) (w : World) (Is : Protocol → Type 0) : Type 0 where
   pub core : Protocol
-  pub there : w.client ≡ Some (over_udp core)
+  pub there : w.client ≡ Some (over (control_at plan.client.transport front) core)
   pub is : Is core
 
--- a client of which nothing was asked yet, and a desk that has its user and keeps nothing for its address; the nonce of
--- the first reply stands at the second draw
+-- a client of which nothing was asked yet, and to which nothing has come; a desk that has its user and keeps nothing for
+-- its address; and the nonce of the first reply stands at the second draw
 pub record IsFresh (plan : Plan) (w : World) : Type 0 where
-  pub udp : plan.client.transport ≡ Udp
-  pub client : HasClient w (λ p. Begins plan.client p)
+  pub client : HasClient plan [] w (λ p. Begins plan.client p)
   pub room : HasRoom plan.client.config
   pub text : HasTextName plan.client.config
   pub unknown : map.get w.desk.auth.clients plan.client.here ≡ None
@@ -70,7 +85,8 @@ pub record IsStrongestOf (own others : List IntegrityAlgorithm) (chosen : Integr
 
 -- they have none in common
 abbrev pub HaveNone : (own others : List IntegrityAlgorithm) → Type 0
-HaveNone own others = (algorithm : IntegrityAlgorithm) → supports own algorithm ≡ true → supports others algorithm ≡ true → ⊥
+HaveNone own others =
+    (algorithm : IntegrityAlgorithm) → supports own algorithm ≡ true → supports others algorithm ≡ true → ⊥
 
 -- the client insists that its name is hidden, and the desk takes no hash of one
 abbrev pub MustShowName : (own other : Feature) → Type 0
@@ -83,6 +99,7 @@ AreApart config server =
 
 -- ---- what was told
 
+-- the event that an answer is, where it is one
 abbrev pub event_in : Answer → List TurnEvent
 event_in (answer.Event event) = event ∷ []
 event_in _ = []
@@ -97,6 +114,16 @@ TellsWhole told whole p = told ++ p.events ≡ whole
 
 -- ---- both cases
 
+-- a request is sent by the client's transport, from its own address to the server's
+pub record IsOwnSent (plan : Plan) (request : Sent) : Type 0 where
+  pub transport : request.transport ≡ plan.client.transport
+  pub from : request.from ≡ plan.client.here
+  pub to : request.to ≡ plan.client.server
+
+-- the key of the client's user in the desk's realm
+abbrev pub key_in_realm : Plan → World → IntegrityAlgorithm → Key
+key_in_realm plan w algorithm = account_key plan.client.config.credentials w.desk.auth.realm algorithm
+
 -- the one grant of that request
 abbrev pub allocation_granted : Plan → (request : List ℕ) → SocketAddr → (lifetime : ℕ) → Grant
 allocation_granted plan request address lifetime = record (bare_grant request plan.client.here) {
@@ -105,39 +132,46 @@ allocation_granted plan request address lifetime = record (bare_grant request pl
   lifetime = Some lifetime;
 }
 
--- the client holds exactly that allocation, and tells of it once; the desk has granted it in answer to that request, and
--- nothing else; request and reply are right under the user's key in the desk's realm, by the strongest common algorithm
-pub record IsAllocated (plan : Plan) (old : World) (told : List TurnEvent) (request : List ℕ) (address : SocketAddr)
+-- the client holds exactly that allocation, and tells of it once; the desk has granted it in answer to that request,
+-- and nothing else; request and reply are right under the user's key in the desk's realm, by the strongest common
+-- algorithm
+pub record IsAllocated (plan : Plan) (old : World) (told : List TurnEvent) (request : Sent) (address : SocketAddr)
     (lifetime : ℕ) (reply : List ℕ) (new : World) : Type 0 where
   pub together : AreApart plan.client.config old.desk.auth → ⊥
   pub algorithm : IntegrityAlgorithm
   pub strongest : IsStrongestOf plan.client.config.algorithms old.desk.auth.algorithms algorithm
-  pub request_is_right : IsRight request (account_key plan.client.config.credentials old.desk.auth.realm algorithm)
-  pub reply_is_right : IsRight reply (account_key plan.client.config.credentials old.desk.auth.realm algorithm)
-  pub held : HasClient new (λ p. (relayed_of p ≡ (plan.client.config.transport, address) ∷ [])
+  pub is_own : IsOwnSent plan request
+  pub request_is_right : IsRight request.bytes (key_in_realm plan old algorithm)
+  pub reply_is_right : IsRight reply (key_in_realm plan old algorithm)
+  pub held : HasClient plan [] new (λ p. (relayed_of p ≡ (plan.client.config.transport, address) ∷ [])
       × TellsWhole told (created plan.client address) p)
-  pub granted : new.desk.grants ≡ old.desk.grants ++ allocation_granted plan request address lifetime ∷ []
+  pub granted : new.desk.grants ≡ old.desk.grants ++ allocation_granted plan request.bytes address lifetime ∷ []
 
--- they can't come together: the client holds nothing, and tells of the failure; the desk has granted nothing; nothing is
--- drawn any more, and once the events are taken the client is closed
+-- they can't come together: the client holds nothing, and tells of the failure; the desk has granted nothing; nothing
+-- is drawn any more, and once the events are taken the client is closed
 pub record IsTurnedAway (plan : Plan) (old : World) (told : List TurnEvent) (new : World) : Type 0 where
   pub apart : AreApart plan.client.config old.desk.auth
-  pub held : HasClient new (λ p. (relayed_of p ≡ []) × TellsWhole told (failures plan.client) p)
+  pub held : HasClient plan [] new (λ p. (relayed_of p ≡ []) × TellsWhole told (failures plan.client) p)
   pub granted : new.desk.grants ≡ old.desk.grants
-  pub quiet : (now : ℕ) (ret : Answer) (next : World) → now ≤ 2 ^ 62 → IsStep (Draw now) new ret next → ret ≡ answer.Nothing
+  pub quiet : (now : ℕ) (ret : Answer) (next : World) → now ≤ 2 ^ 62 → IsStep (Draw now) new ret next
+      → ret ≡ answer.Nothing
   pub closed : (now : ℕ) (ret : Answer) (next : World) → now ≤ 2 ^ 62 → told ≡ failures plan.client
       → IsStep (Call call.Poll now) new ret next → ret ≡ answer.Closed
 
--- what holds where a script has come to a place. Behind the first reply it is either case, by whether the two can come
--- together; and the second request is drawn if and only if they can
+-- what holds where a script has come to a place: until the first reply has come no event is told; behind it, it is
+-- either case, by whether the two can come together; the second request is drawn if and only if they can; and each
+-- request that is drawn is sent from the client's own address to the server's
 abbrev pub HasCome : Plan → World → List TurnEvent → Place → World → Type 0
-HasCome plan old told (Signed request) new = AreApart plan.client.config old.desk.auth → ⊥
-HasCome plan old told (Granted request address lifetime reply) new = AreApart plan.client.config old.desk.auth → ⊥
-HasCome plan old told (Done request address lifetime reply) new = IsAllocated plan old told request address lifetime reply new
-HasCome plan old told Barred new = IsTurnedAway plan old told new
-HasCome plan old told Silent new = ⊥
 HasCome plan old told Start new = told ≡ []
-HasCome plan old told (Asked request) new = told ≡ []
-HasCome plan old told (Challenged reply) new = told ≡ []
+HasCome plan old told (Asked request) new = (told ≡ []) × IsOwnSent plan request
+HasCome plan old told (Challenged request reply front) new = told ≡ []
 HasCome plan old told Came new = (AreApart plan.client.config old.desk.auth → IsTurnedAway plan old told new)
     × ((AreApart plan.client.config old.desk.auth → ⊥) → told ≡ [])
+HasCome plan old told (Signed request) new =
+    (AreApart plan.client.config old.desk.auth → ⊥) × (told ≡ []) × IsOwnSent plan request
+HasCome plan old told (Granted request address lifetime reply front) new =
+    (AreApart plan.client.config old.desk.auth → ⊥) × (told ≡ [])
+HasCome plan old told (Done request address lifetime reply) new =
+    IsAllocated plan old told request address lifetime reply new
+HasCome plan old told Barred new = IsTurnedAway plan old told new
+HasCome plan old told Silent new = ⊥

@@ -10,16 +10,21 @@ use Rattle.stun_proto.specs.Digests.{IsRight}
 use Rattle.stun_proto.specs.Nonce.{features_told, takes_anonymous_username}
 use Rattle.stun_proto.specs.Server.{Server}
 use Rattle.turn_client_proto.specs.Api.declared.event.TurnEvent.{TurnEvent}
+use Rattle.turn_client_proto.specs.Drawing.{Sent}
 use Rattle.turn_client_proto.specs.Kept.{Protocol}
 use Rattle.turn_client_proto_stages.specs.Request.Waiting.{Queued}
 use Rattle.turn_client_proto.specs.Sent.{Begins, first_request}
-use Rattle.turn_client_proto_stages.specs.Choosing.{Choice, IsAnsweredBy, IsBarring, signed_request, standing_by}
-use Rattle.turn_client_proto_stages.specs.Stages.{AsksForOne, HasChosen, HasEnded, HasSigned, Holds, IsAsking, IsGrant, created, failures}
+use Rattle.turn_client_proto_stages.specs.Asked.{sent_of}
+use Rattle.turn_client_proto_stages.specs.Choosing.{Choice, IsAnsweredBy, IsBarring, signed_sent, standing_by}
+use Rattle.turn_client_proto_stages.specs.Stages.{AsksForOne, HasChosen, HasEnded, HasSigned, Holds}
+use Rattle.turn_client_proto_stages.specs.Coming.{IsPartOf}
+use Rattle.turn_client_proto_stages.specs.Stages.{IsAsking, IsGrant, created, failures, first_asked}
 use Rattle.turn_desk_handshake.specs.Challenged.{IsFirstChallenge}
 use Rattle.turn_desk_world.specs.State.{State}
 use Rattle.turn_desk_world.specs.Model.{World}
 use Rattle.turn_desk_honest.specs.Promises.{HasClient, allocation_granted}
-use Rattle.turn_desk_honest.specs.Scripts.{Plan, Place, Start, Asked, Challenged, Came, Signed, Granted, Done, Barred, Silent}
+use Rattle.turn_desk_honest.specs.Scripts.{Plan, Place, Start, Asked, Challenged, Came}
+use Rattle.turn_desk_honest.specs.Scripts.{Signed, Granted, Done, Barred, Silent}
 
 -- a challenge tells a server's realm, and what the server takes
 pub record IsOfSettings (server : Server) (told : Told) : Type 0 where
@@ -29,13 +34,13 @@ pub record IsOfSettings (server : Server) (told : Told) : Type 0 where
 
 -- nothing was asked of the client, and the desk is as it was
 pub record IsAtStart (plan : Plan) (old w : World) : Type 0 where
-  pub client : HasClient w (λ p. Begins plan.client p)
+  pub client : HasClient plan [] w (λ p. Begins plan.client p)
   pub desk_is : w.desk ≡ old.desk
 
 -- the client sent its first request, and awaits the reply
-pub record IsAsked (plan : Plan) (old : World) (request : List ℕ) (w : World) : Type 0 where
-  pub request_is : request ≡ first_request plan.client
-  pub client : HasClient w (λ p. IsAsking plan.client 1 plan.client.made p)
+pub record IsAsked (plan : Plan) (old : World) (request : Sent) (w : World) : Type 0 where
+  pub request_is : request ≡ sent_of plan.client (first_asked plan.client)
+  pub client : HasClient plan [] w (λ p. IsAsking plan.client 1 plan.client.made p)
   pub desk_is : w.desk ≡ old.desk
 
 -- the desk replied to it by a challenge
@@ -43,9 +48,11 @@ abbrev pub IsFirstReply : Plan → (old : State) → (reply : List ℕ) → (new
 IsFirstReply plan old reply new =
     IsFirstChallenge old plan.client.here (first_request plan.client) plan.client.made reply new
 
-pub record IsChallenged (plan : Plan) (old : World) (reply : List ℕ) (w : World) : Type 0 where
-  pub client : HasClient w (λ p. IsAsking plan.client 1 plan.client.made p)
-  pub message : refusal reply ≡ None
+-- of that reply this front has come
+pub record IsChallenged (plan : Plan) (old : World) (request : Sent) (reply front : List ℕ) (w : World) : Type 0 where
+  pub request_is : request ≡ sent_of plan.client (first_asked plan.client)
+  pub client : HasClient plan front w (λ p. IsAsking plan.client 1 plan.client.made p)
+  pub part : IsPartOf front reply
   pub challenge : IsFirstReply plan old.desk reply w.desk
 
 -- a desk keeps this challenge for the client
@@ -59,7 +66,7 @@ pub record IsChosen (plan : Plan) (old : World) (c : Choice) (Is : Protocol → 
   pub under : IsUnder plan old.desk c.told w.desk
   pub made : c.made ≡ plan.client.made
   pub answered : IsAnsweredBy plan.client.config c.told c.algorithm
-  pub client : HasClient w Is
+  pub client : HasClient plan [] w Is
 
 -- it can't be answered, and the client has ended
 pub record IsOver (plan : Plan) (old : World) (told : List TurnEvent) (w : World) : Type 0 where
@@ -68,7 +75,7 @@ pub record IsOver (plan : Plan) (old : World) (told : List TurnEvent) (w : World
   pub barring : IsBarring plan.client.config challenge
   pub left : List TurnEvent
   pub tells : told ++ left ≡ failures plan.client
-  pub client : HasClient w (λ p. HasEnded plan.client left p)
+  pub client : HasClient plan [] w (λ p. HasEnded plan.client left p)
 
 -- the signed request waits to be drawn
 abbrev pub Chooses : Plan → Choice → Protocol → Type 0
@@ -84,39 +91,41 @@ pub record HasDrawn (plan : Plan) (c : Choice) (p : Protocol) : Type 0 where
   pub used : ℕ
   pub is : HasChosen plan.client c used plan.second p ⊎ HasSigned plan.client c used plan.second p
 
-pub record IsSigned (plan : Plan) (old : World) (request : List ℕ) (w : World) : Type 0 where
+pub record IsSigned (plan : Plan) (old : World) (request : Sent) (w : World) : Type 0 where
   pub choice : Choice
-  pub request_is : request ≡ signed_request plan.client choice
+  pub request_is : request ≡ signed_sent plan.client choice
   pub chosen : IsChosen plan old choice (HasDrawn plan choice) w
 
 -- the desk has granted what the client asked for
-pub record IsGranting (plan : Plan) (old : World) (choice : Choice) (request : List ℕ) (address : SocketAddr) (lifetime : ℕ)
-    (reply : List ℕ) (w : World) : Type 0 where
-  pub request_is : request ≡ signed_request plan.client choice
+pub record IsGranting (plan : Plan) (old : World) (choice : Choice) (request : Sent) (address : SocketAddr)
+    (lifetime : ℕ) (reply : List ℕ) (w : World) : Type 0 where
+  pub request_is : request ≡ signed_sent plan.client choice
   pub made : choice.made ≡ plan.client.made
   pub answered : IsAnsweredBy plan.client.config choice.told choice.algorithm
   pub of : IsOfSettings old.desk.auth choice.told
   pub asks : AsksForOne plan.client address
-  pub request_right : IsRight request (standing_key (standing_by plan.client choice))
+  pub request_right : IsRight request.bytes (standing_key (standing_by plan.client choice))
   pub message : refusal reply ≡ None
   pub grant : IsGrant plan.client choice address lifetime reply
-  pub granted : w.desk.grants ≡ old.desk.grants ++ allocation_granted plan request address lifetime ∷ []
+  pub granted : w.desk.grants ≡ old.desk.grants ++ allocation_granted plan request.bytes address lifetime ∷ []
 
-pub record IsReplied (plan : Plan) (old : World) (request : List ℕ) (address : SocketAddr) (lifetime : ℕ) (reply : List ℕ)
-    (w : World) : Type 0 where
+-- of its reply this front has come
+pub record IsReplied (plan : Plan) (old : World) (request : Sent) (address : SocketAddr) (lifetime : ℕ)
+    (reply front : List ℕ) (w : World) : Type 0 where
   pub choice : Choice
   pub is : IsGranting plan old choice request address lifetime reply w
-  pub client : HasClient w (HasDrawn plan choice)
+  pub part : IsPartOf front reply
+  pub client : HasClient plan front w (HasDrawn plan choice)
 
 -- the client holds it
-pub record IsHeld (plan : Plan) (old : World) (told : List TurnEvent) (request : List ℕ) (address : SocketAddr) (lifetime : ℕ)
-    (reply : List ℕ) (w : World) : Type 0 where
+pub record IsHeld (plan : Plan) (old : World) (told : List TurnEvent) (request : Sent) (address : SocketAddr)
+    (lifetime : ℕ) (reply : List ℕ) (w : World) : Type 0 where
   pub choice : Choice
   pub is : IsGranting plan old choice request address lifetime reply w
   pub queue : List Queued
   pub left : List TurnEvent
   pub tells : told ++ left ≡ created plan.client address
-  pub client : HasClient w (λ p. Holds plan.client choice address lifetime plan.second plan.second queue left p)
+  pub client : HasClient plan [] w (λ p. Holds plan.client choice address lifetime plan.second plan.second queue left p)
 
 -- no event was told so far
 abbrev pub Untold : List TurnEvent → Type 0 → Type 0
@@ -126,11 +135,11 @@ Untold told Is = (told ≡ []) × Is
 abbrev pub Stands : Plan → World → List TurnEvent → Place → World → Type 0
 Stands plan old told Start w = Untold told (IsAtStart plan old w)
 Stands plan old told (Asked request) w = Untold told (IsAsked plan old request w)
-Stands plan old told (Challenged reply) w = Untold told (IsChallenged plan old reply w)
+Stands plan old told (Challenged request reply front) w = Untold told (IsChallenged plan old request reply front w)
 Stands plan old told Came w = Untold told (HasChoice plan old w) ⊎ IsOver plan old told w
 Stands plan old told (Signed request) w = Untold told (IsSigned plan old request w)
-Stands plan old told (Granted request address lifetime reply) w =
-    Untold told (IsReplied plan old request address lifetime reply w)
+Stands plan old told (Granted request address lifetime reply front) w =
+    Untold told (IsReplied plan old request address lifetime reply front w)
 Stands plan old told (Done request address lifetime reply) w = IsHeld plan old told request address lifetime reply w
 Stands plan old told Barred w = IsOver plan old told w
 Stands plan old told Silent w = ⊥

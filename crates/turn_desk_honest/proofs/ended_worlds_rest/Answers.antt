@@ -5,10 +5,11 @@ use Rattle.turn_client_proto.specs.Api.declared.event.TurnEvent.{TurnEvent}
 use Rattle.turn_client_proto.specs.Kept.{Protocol}
 use Rattle.turn_client_proto.specs.Polling.{IsPolled}
 use Rattle.turn_client_proto_stages.specs.Stages.{answer_at_end}
-use Rattle.turn_desk_event.specs.declared.answer.Answer.{Answer}
-use Rattle.turn_desk_event.specs.declared.answer.Answer.TheVariants as answer
+use Rattle.turn_desk_world.specs.declared.answer.Answer.{Answer}
+use Rattle.turn_desk_world.specs.declared.answer.Answer.TheVariants as answer
 use Rattle.turn_desk_world.specs.Calls.{IsPolledAs}
 use Rattle.turn_desk_world.specs.Model.{World}
+use Rattle.turn_desk_honest.specs.Promises.{control_at}
 use Rattle.turn_desk_honest.specs.Scripts.{Barred, Plan}
 use Rattle.turn_desk_honest.specs.Standing.{IsOver}
 use Rattle.turn_desk_honest.proofs.Clients.{draw_rests, draws, nothing_drawn, polled_so}
@@ -17,11 +18,11 @@ use Rattle.turn_desk_honest.proofs.ended_worlds_rest.Goals as goal
 
 pub returns-clause-rests : goal.returns-clause-rests
 returns-clause-rests c = λ plan old w v told ret now is step.
-    rests plan old told Barred ret w v (draw_rests w v is.client.core now ret is.client.there (λ sent q drawn. c.ended_clients_rest.ensures.drawn plan.client is.left is.client.core q now sent is.client.is drawn) step) is
+    rests plan old told Barred ret w v (draw_rests (control_at plan.client.transport []) w v is.client.core now ret is.client.there (λ sent q drawn. c.ended_clients_rest.ensures.drawn plan.client is.left is.client.core q now sent is.client.is drawn) step) is
 
 pub returns-clause-quiet : goal.returns-clause-quiet
 returns-clause-quiet c = λ plan old w v told ret now is early step.
-    let d = draws w v is.client.core now ret is.client.there early step in
+    let d = draws (control_at plan.client.transport []) w v is.client.core now ret is.client.there early step in
     (nothing_drawn is.client.core d.core now ret (λ sent q drawn. c.ended_clients_rest.ensures.drawn plan.client is.left is.client.core q now sent is.client.is drawn) d.drawn).0
 
 closed_by : (c : goal.After-ended_clients_rest) (plan : Plan) (old w : World) (told : List TurnEvent) (now : ℕ) (is : IsOver plan old told w) → is.left ≡ [] → (ret : Answer) (q : Protocol) → IsPolledAs ret is.client.core now q → ret ≡ answer.Closed
@@ -39,5 +40,5 @@ closed_by c plan old w told now is none ret q polled = by ret polled
 
 pub returns-clause-closed : goal.returns-clause-closed
 returns-clause-closed c = λ plan old w v told ret now is early all step.
-    let p = polled_so w v is.client.core now ret is.client.there early step in
+    let p = polled_so (control_at plan.client.transport []) w v is.client.core now ret is.client.there early step in
     closed_by c plan old w told now is (nothing_left told is.left (is.tells ∙ sym all)) ret p.0 p.1

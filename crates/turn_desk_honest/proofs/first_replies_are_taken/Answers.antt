@@ -1,30 +1,26 @@
-use Rattle.std.proofs.Common.{◌≡◌, ◌++◌, ℕ, List, [], None, ap, refl, sym, ◌∙◌, subst, inl, inr}
-use Rattle.stun_types.specs.Grammar.{refusal}
+use Rattle.std.proofs.Common.{◌≡◌, ◌++◌, ℕ, List, [], ◌∷◌, ap, refl, sym, ◌∙◌, subst, inl, inr}
 use Rattle.turn_client_proto.specs.Api.declared.event.TurnEvent.{TurnEvent}
-use Rattle.turn_client_proto.specs.Sent.{first_number}
-use Rattle.turn_client_proto_stages.specs.Request.Judging.{signer_of}
-use Rattle.turn_client_proto_stages.specs.Request.declared.request.TurnRequest.TheVariants.{FirstAllocate}
+use Rattle.turn_client_proto.specs.Drawing.{Sent}
+use Rattle.turn_desk_world.specs.declared.event.Event.TheVariants.{ToClient}
+use Rattle.turn_desk_world.specs.Runs.{IsStep}
 use Rattle.turn_client_proto_stages.specs.Choosing.{IsChallenge}
 use Rattle.turn_client_proto_stages.specs.Stages.{failures}
-use Rattle.turn_desk_event.specs.declared.answer.Answer.{Answer}
+use Rattle.turn_desk_world.specs.declared.answer.Answer.{Answer}
 use Rattle.turn_desk_world.specs.State.{State}
 use Rattle.turn_desk_world.specs.Model.{World}
-use Rattle.turn_desk_honest.specs.Promises.{IsFresh, event_in}
-use Rattle.turn_desk_honest.specs.Scripts.{Came, Plan}
-use Rattle.turn_desk_honest.specs.Standing.{IsChallenged, IsUnder, Stands}
-use Rattle.turn_desk_honest.proofs.Datagrams.{IsHeardOn, hears}
+use Rattle.turn_desk_honest.specs.Promises.{IsFresh, control_at, event_in}
+use Rattle.turn_desk_honest.specs.Scripts.{Came, Plan, brought_first}
+use Rattle.turn_desk_honest.specs.Standing.{IsChallenged, IsFirstReply, IsUnder, Stands}
+use Rattle.turn_desk_honest.proofs.Coming.{IsBroughtOn, IsHeardOn, brings}
 use Rattle.turn_desk_honest.proofs.Places.{first_in_range, untold}
-use Rattle.turn_desk_honest.proofs.Texts.{first_fits, first_short}
 use Rattle.turn_desk_honest.proofs.first_replies_are_taken.Goals as goal
 
-module _ (c : goal.After-challenges_are_answered) (plan : Plan) (old w v : World) (told : List TurnEvent) (fresh : IsFresh plan old) (none : told ≡ []) (reply : List ℕ) (is : IsChallenged plan old reply w) (ret : Answer)
-    (h : IsHeardOn is.client.core reply plan.client.made ret w v) where
+module _ (c : goal.After-messages_reach_clients) (plan : Plan) (old w v : World) (told : List TurnEvent) (fresh : IsFresh plan old) (none : told ≡ []) (request : Sent) (reply front : List ℕ) (is : IsChallenged plan old request reply front w) (ret : Answer)
+    (h : IsHeardOn (control_at plan.client.transport []) is.client.core reply plan.client.made ret w v) where
   is_challenge : IsChallenge plan.client is.challenge.told reply
   is_challenge = record {
     shown = is.challenge.shown;
-    number = is.challenge.number
-        ∙ c.requests_are_read.ensures.number (signer_of plan.client.config) (FirstAllocate plan.client.config.transport plan.client.config.families) (first_number plan.client)
-        (first_short plan.client fresh.room c.texts_stay_short.ensures.fresh) fresh.room.1 (first_fits plan.client);
+    number = is.challenge.number ∙ c.new_clients_ask.ensures.number plan.client fresh.room;
   }
 
   under : IsUnder plan old.desk is.challenge.told v.desk
@@ -53,8 +49,24 @@ module _ (c : goal.After-challenges_are_answered) (plan : Plan) (old w v : World
         }))
   ]
 
+module _ (c : goal.After-messages_reach_clients) (plan : Plan) (old w v : World) (told : List TurnEvent) (fresh : IsFresh plan old) (none : told ≡ []) (request : Sent) (reply front : List ℕ)
+    (is : IsChallenged plan old request reply front w) (ret : Answer) where
+  by_rest : (next rest : List ℕ) → IsBroughtOn plan.client.transport is.client.core reply next rest plan.client.made ret w v → Stands plan old (told ++ event_in ret) (brought_first request reply next rest) v
+  by_rest next [] h = so c plan old w v told fresh none request reply front is ret h
+  by_rest next (byte ∷ rest) h = (
+    untold told (event_in ret) none h.0.silent_is,
+    record {
+      request_is = is.request_is;
+      client = record { core = is.client.core; there = h.0.there; is = is.client.is };
+      part = h.1;
+      challenge = subst (λ (d : State). IsFirstReply plan old.desk reply d) (sym h.0.desk) is.challenge;
+    },
+  )
+
 pub returns : goal.returns
-returns c = λ plan old w v told ret reply bytes fresh is same step.
-    let message = subst (λ (l : List ℕ). refusal l ≡ None) (sym same) is.1.message in
-    let h = hears w v plan.client is.1.client.core bytes plan.client.made ret is.1.client.there is.1.client.is.settings is.1.client.is.allocations message (first_in_range plan fresh.timely) step in
-    so c plan old w v told fresh is.0 reply is.1 ret (subst (λ (l : List ℕ). IsHeardOn is.1.client.core l plan.client.made ret w v) same h)
+returns c = λ plan old w v told ret request reply front rest bytes fresh is on step.
+    let own = subst (λ (r : Sent). IsStep (ToClient bytes r.to r.from plan.client.made) w ret v) is.1.request_is step in
+    let unserved = c.stages_are_unserved.ensures.asking plan.client 1 plan.client.made is.1.client.core is.1.client.is in
+    by_rest c plan old w v told fresh is.0 request reply front is.1 ret (front ++ bytes.items) rest
+    (brings (record { datagram = c.messages_reach_clients.ensures.datagram; piece = c.messages_reach_clients.ensures.piece; whole = c.messages_reach_clients.ensures.whole }) plan.client w v
+    is.1.client.core reply front rest bytes plan.client.made ret is.1.client.there unserved is.1.part.is_message on (first_in_range plan fresh.timely) own)

@@ -5,14 +5,18 @@ use Rattle.stun_proto.specs.Client.{account_key}
 use Rattle.stun_proto.specs.Digests.{IsRight}
 use Rattle.turn_client_proto.specs.Allocation.Listed.{relayed_shown}
 use Rattle.turn_client_proto.specs.Api.declared.event.TurnEvent.{TurnEvent}
+use Rattle.turn_client_proto.specs.Drawing.{Sent}
 use Rattle.turn_client_proto.specs.Kept.{Protocol}
-use Rattle.turn_client_proto_stages.specs.Choosing.{Choice}
-use Rattle.turn_desk_event.specs.declared.answer.Answer.{Answer}
-use Rattle.turn_desk_event.specs.declared.event.Event.{Event}
+use Rattle.turn_client_proto_stages.specs.Asked as asks
+use Rattle.turn_client_proto_stages.specs.Asked.{sent_of}
+use Rattle.turn_client_proto_stages.specs.Choosing.{Choice, signed_asked}
+use Rattle.turn_client_proto_stages.specs.Stages.{first_asked}
+use Rattle.turn_desk_world.specs.declared.answer.Answer.{Answer}
+use Rattle.turn_desk_world.specs.declared.event.Event.{Event}
 use Rattle.turn_desk_world.specs.Model.{World}
 use Rattle.turn_desk_world.specs.Runs.{IsRun, IsStep}
-use Rattle.turn_desk_honest.specs.Promises.{AreApart, HasCome, IsAllocated, IsFresh, IsTurnedAway, event_in, events_in}
-use Rattle.turn_desk_honest.specs.Scripts.{AskFirst, AskSecond, Asked, Barred, Came, Challenged, Done, DrawFirst, DrawSecond, DrawsOn, Follows, GiveFirst, GiveSecond, Granted, IsScript, Looks, Place, Plan, Polls, Signed, Silent, Start}
+use Rattle.turn_desk_honest.specs.Promises.{IsOwnSent, AreApart, HasCome, IsAllocated, IsFresh, IsTurnedAway, event_in, events_in}
+use Rattle.turn_desk_honest.specs.Scripts.{AskFirst, AskSecond, Asked, Barred, Came, Challenged, Done, DrawFirst, DrawSecond, DrawsOn, Follows, GiveFirst, GiveSecond, Granted, IsScript, Looks, Place, Plan, Polls, Receives, Signed, Silent, Start}
 use Rattle.turn_desk_honest.specs.Standing.{IsChosen, IsHeld, IsOver, Stands}
 use Rattle.turn_desk_honest.proofs.Meeting.{are_apart, strongest_of_both, together}
 use Rattle.turn_desk_honest.proofs.Serving.{of_settings}
@@ -35,14 +39,16 @@ module _ (c : goal.After-ended_worlds_rest) (plan : Plan) (old : World) (fresh :
     one (DrawFirst at is to) = as_said _ _ _ at is to (λ stands step. c.first_requests_are_drawn.ensures plan old w v told ret fresh stands step)
     one (AskFirst request bytes decision seed at same is to) =
         as_said _ _ _ at is to (λ stands step. c.first_requests_are_challenged.ensures plan old w v told ret request bytes decision seed fresh stands same step)
-    one (GiveFirst reply bytes at same is to) = as_said _ _ _ at is to (λ stands step. c.first_replies_are_taken.ensures plan old w v told ret reply bytes fresh stands same step)
+    one (GiveFirst request reply front rest bytes at on is to) =
+        as_said _ _ _ at is to (λ stands step. c.first_replies_are_taken.ensures plan old w v told ret request reply front rest bytes fresh stands on step)
     one (DrawSecond at is to) = as_said _ _ _ at is to (λ stands step. c.second_requests_are_drawn.ensures plan old w v told ret fresh stands step)
     one (AskSecond request bytes address lifetime seed at same asks whole is to) =
         as_said _ _ _ at is to (λ stands step. c.second_requests_are_granted.ensures plan old w v told ret request bytes address lifetime seed fresh stands same asks whole step)
-    one (GiveSecond request address lifetime reply bytes at same is to) =
-        as_said _ _ _ at is to (λ stands step. c.second_replies_are_taken.ensures plan old w v told ret request address lifetime reply bytes fresh stands same step)
+    one (GiveSecond request address lifetime reply front rest bytes at on is to) =
+        as_said _ _ _ at is to (λ stands step. c.second_replies_are_taken.ensures plan old w v told ret request address lifetime reply front rest bytes fresh stands on step)
     one (Looks what now look is to) = as_said _ _ _ refl is to (λ stands step. c.worlds_stand_still.ensures.looks plan old w v told ret place what now stands look step)
     one (Polls now at before is to) = as_said _ _ _ refl is to (λ stands step. c.worlds_stand_still.ensures.polls plan old w v told ret place now stands at before step)
+    one (Receives now is to) = as_said _ _ _ refl is to (λ stands step. c.worlds_give_nothing.ensures plan old w v told ret place now fresh stands step)
     one (DrawsOn now at is to) = as_said _ _ _ at is to (λ stands step. c.ended_worlds_rest.ensures.rests plan old w v told ret now stands step)
 
   -- ---- all of them
@@ -75,16 +81,24 @@ module _ (c : goal.After-ended_worlds_rest) (plan : Plan) (old : World) (fresh :
   not_apart : (choice : Choice) (w : World) (Is : Protocol → Type 0) → IsChosen plan old choice Is w → AreApart plan.client.config old.desk.auth → ⊥
   not_apart choice w Is is = together plan.client.config old.desk.auth choice.told (of_settings plan old.desk w.desk choice.told is.under) choice.algorithm is.answered
 
+  own_sent : (request : Sent) (a : asks.Asked) → request ≡ sent_of plan.client a → IsOwnSent plan request
+  own_sent request a is = record {
+    transport = ap (λ (r : Sent). r.transport) is;
+    from = ap (λ (r : Sent). r.from) is;
+    to = ap (λ (r : Sent). r.to) is;
+  }
+
   in_realm : (choice : Choice) (bytes realm : List ℕ) → choice.told.realm ≡ realm → IsRight bytes (account_key plan.client.config.credentials choice.told.realm choice.algorithm)
       → IsRight bytes (account_key plan.client.config.credentials realm choice.algorithm)
   in_realm choice bytes realm same right = subst (λ (r : List ℕ). IsRight bytes (account_key plan.client.config.credentials r choice.algorithm)) same right
 
-  allocated : (told : List TurnEvent) (request : List ℕ) (address : SocketAddr) (lifetime : ℕ) (reply : List ℕ) (w : World) → IsHeld plan old told request address lifetime reply w → IsAllocated plan old told request address lifetime reply w
+  allocated : (told : List TurnEvent) (request : Sent) (address : SocketAddr) (lifetime : ℕ) (reply : List ℕ) (w : World) → IsHeld plan old told request address lifetime reply w → IsAllocated plan old told request address lifetime reply w
   allocated told request address lifetime reply w is = record {
     together = together plan.client.config old.desk.auth is.choice.told is.is.of is.choice.algorithm is.is.answered;
     algorithm = is.choice.algorithm;
+    is_own = own_sent request (signed_asked plan.client is.choice) is.is.request_is;
     strongest = strongest_of_both plan.client.config old.desk.auth is.choice.told is.is.of is.choice.algorithm is.is.answered;
-    request_is_right = in_realm is.choice request old.desk.auth.realm is.is.of.realm is.is.request_right;
+    request_is_right = in_realm is.choice request.bytes old.desk.auth.realm is.is.of.realm is.is.request_right;
     reply_is_right = in_realm is.choice reply old.desk.auth.realm is.is.of.realm is.is.grant.right;
     held = record {
       core = is.client.core;
@@ -96,17 +110,21 @@ module _ (c : goal.After-ended_worlds_rest) (plan : Plan) (old : World) (fresh :
 
   come : (told : List TurnEvent) (w : World) (place : Place) → Stands plan old told place w → HasCome plan old told place w
   come told w Start is = is.0
-  come told w (Asked request) is = is.0
-  come told w (Challenged reply) is = is.0
+  come told w (Asked request) is = (is.0, own_sent request (first_asked plan.client) is.1.request_is)
+  come told w (Challenged request reply front) is = is.0
   come told w Came (inl is) = (λ apart. absurd (not_apart is.1.choice w _ is.1.chosen apart), λ other. is.0)
   come told w Came (inr is) = (λ apart. turned_away told w is, λ other. absurd (other (turned_away told w is).apart))
-  come told w (Signed request) is = not_apart is.1.choice w _ is.1.chosen
-  come told w (Granted request address lifetime reply) is = together plan.client.config old.desk.auth is.1.choice.told is.1.is.of is.1.choice.algorithm is.1.is.answered
+  come told w (Signed request) is = (not_apart is.1.choice w _ is.1.chosen, is.0, own_sent request (signed_asked plan.client is.1.choice) is.1.request_is)
+  come told w (Granted request address lifetime reply front) is = (together plan.client.config old.desk.auth is.1.choice.told is.1.is.of is.1.choice.algorithm is.1.is.answered, is.0)
   come told w (Done request address lifetime reply) is = allocated told request address lifetime reply w is
   come told w Barred is = turned_away told w is
   come told w Silent is = is
 
-pub returns : goal.returns
-returns c = λ plan old new pairs place fresh run is.
-    come c plan old fresh (events_in pairs) new place
-    (all c plan old fresh old new [] Start place pairs (refl, record { client = fresh.client; desk_is = refl }) run is)
+  pub stands : (new : World) (pairs : List (Event × Answer)) (place : Place) → IsRun old pairs new → IsScript plan Start pairs place → Stands plan old (events_in pairs) place new
+  stands new pairs place run is = all old new [] Start place pairs (refl, record { client = fresh.client; desk_is = refl }) run is
+
+pub returns-clause-promised : goal.returns-clause-promised
+returns-clause-promised c = λ plan old new pairs place fresh run is. come c plan old fresh (events_in pairs) new place (stands c plan old fresh new pairs place run is)
+
+pub returns-clause-stands : goal.returns-clause-stands
+returns-clause-stands c = λ plan old new pairs place fresh run is. stands c plan old fresh new pairs place run is

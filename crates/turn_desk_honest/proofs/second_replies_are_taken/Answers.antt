@@ -1,38 +1,29 @@
-use Rattle.std.proofs.Common.{◌∷◌, inl, inr, ◌≡◌, ◌++◌, ℕ, List, [], None, ap, sym, ◌∙◌, subst}
+use Rattle.std.proofs.Common.{◌∷◌, inl, inr, ◌≡◌, ◌++◌, ℕ, List, [], ap, subst}
 use Rattle.std.specs.declared.net.socket_addr.SocketAddr.{SocketAddr}
-use Rattle.stun_types.specs.Grammar.{refusal}
 use Rattle.turn_client_proto.specs.Api.declared.event.TurnEvent.{TurnEvent}
 use Rattle.turn_client_proto_stages.specs.Stages.{IsSigning, created, signed_queued}
-use Rattle.turn_desk_event.specs.declared.answer.Answer.{Answer}
-use Rattle.turn_desk_world.specs.State.{State}
+use Rattle.turn_desk_world.specs.declared.answer.Answer.{Answer}
 use Rattle.turn_desk_world.specs.Model.{World}
-use Rattle.turn_desk_honest.specs.Promises.{event_in}
-use Rattle.turn_desk_honest.specs.Scripts.{Done, Plan}
+use Rattle.turn_desk_honest.specs.Promises.{control_at, event_in}
+use Rattle.turn_desk_honest.specs.Scripts.{Done, Plan, brought_second}
 use Rattle.turn_desk_honest.specs.Standing.{IsReplied, Stands}
-use Rattle.turn_desk_honest.proofs.Datagrams.{IsHeardOn, hears}
+use Rattle.turn_desk_honest.proofs.Coming.{IsBroughtOn, IsHeardOn, brings}
+use Rattle.turn_client_proto.specs.Drawing.{Sent}
+use Rattle.turn_desk_world.specs.declared.event.Event.TheVariants.{ToClient}
+use Rattle.turn_desk_world.specs.Runs.{IsStep}
 use Rattle.turn_client_proto_stages.specs.Request.Waiting.{Queued}
-use Rattle.turn_desk_honest.proofs.Serving.{allocations_of, settings_of}
+use Rattle.turn_desk_honest.proofs.Serving.{granting_on, unserved_of}
 use Rattle.turn_desk_honest.proofs.Places.{untold}
 use Rattle.turn_desk_honest.proofs.second_replies_are_taken.Goals as goal
 
-module _ (c : goal.After-granted_clients_hold) (plan : Plan) (old w v : World) (told : List TurnEvent) (none : told ≡ []) (request : List ℕ) (address : SocketAddr) (lifetime : ℕ) (reply : List ℕ)
-    (is : IsReplied plan old request address lifetime reply w) (ret : Answer) (h : IsHeardOn is.client.core reply plan.second ret w v) where
+module _ (c : goal.After-messages_reach_clients) (plan : Plan) (old w v : World) (told : List TurnEvent) (none : told ≡ []) (request : Sent) (address : SocketAddr) (lifetime : ℕ) (reply front : List ℕ)
+    (is : IsReplied plan old request address lifetime reply front w) (ret : Answer) (h : IsHeardOn (control_at plan.client.transport []) is.client.core reply plan.second ret w v) where
   holds : (used : ℕ) (queue : List Queued) → IsSigning plan.client is.choice used plan.second queue is.client.core → Stands plan old (told ++ event_in ret) (Done request address lifetime reply) v
   holds used queue signing =
       let s = c.granted_clients_hold.ensures.holds plan.client is.choice used plan.second queue is.client.core h.core address lifetime reply plan.second h.handled signing is.is.asks is.is.grant h.heard in
       record {
         choice = is.choice;
-        is = record {
-          request_is = is.is.request_is;
-          made = is.is.made;
-          answered = is.is.answered;
-          of = is.is.of;
-          asks = is.is.asks;
-          request_right = is.is.request_right;
-          message = is.is.message;
-          grant = is.is.grant;
-          granted = ap (λ (d : State). d.grants) h.desk ∙ is.is.granted;
-        };
+        is = granting_on plan old w v is.choice request address lifetime reply h.desk is.is;
         queue = queue;
         left = created plan.client address;
         tells = ap (λ (l : List TurnEvent). l ++ created plan.client address) (untold told (event_in ret) none h.silent_is);
@@ -45,8 +36,24 @@ module _ (c : goal.After-granted_clients_hold) (plan : Plan) (old w v : World) (
     | inr w ↦ holds is.client.is.used [] w
   ]
 
+module _ (c : goal.After-messages_reach_clients) (plan : Plan) (old w v : World) (told : List TurnEvent) (none : told ≡ []) (request : Sent) (address : SocketAddr) (lifetime : ℕ) (reply front : List ℕ)
+    (is : IsReplied plan old request address lifetime reply front w) (ret : Answer) where
+  by_rest : (next rest : List ℕ) → IsBroughtOn plan.client.transport is.client.core reply next rest plan.second ret w v → Stands plan old (told ++ event_in ret) (brought_second request address lifetime reply next rest) v
+  by_rest next [] h = so c plan old w v told none request address lifetime reply front is ret h
+  by_rest next (byte ∷ rest) h = (
+    untold told (event_in ret) none h.0.silent_is,
+    record {
+      choice = is.choice;
+      is = granting_on plan old w v is.choice request address lifetime reply h.0.desk is.is;
+      part = h.1;
+      client = record { core = is.client.core; there = h.0.there; is = is.client.is };
+    },
+  )
+
 pub returns : goal.returns
-returns c = λ plan old w v told ret request address lifetime reply bytes fresh is same step.
-    let message = subst (λ (l : List ℕ). refusal l ≡ None) (sym same) is.1.is.message in
-    let h = hears w v plan.client is.1.client.core bytes plan.second ret is.1.client.there (settings_of plan is.1.choice is.1.client.core is.1.client.is) (allocations_of plan is.1.choice is.1.client.core is.1.client.is) message fresh.timely.in_range step in
-    so c plan old w v told is.0 request address lifetime reply is.1 ret (subst (λ (l : List ℕ). IsHeardOn is.1.client.core l plan.second ret w v) same h)
+returns c = λ plan old w v told ret request address lifetime reply front rest bytes fresh is on step.
+    let own = subst (λ (r : Sent). IsStep (ToClient bytes r.to r.from plan.second) w ret v) is.1.is.request_is step in
+    let unserved = unserved_of plan is.1.choice is.1.client.core is.1.client.is c.stages_are_unserved.ensures.signing in
+    by_rest c plan old w v told is.0 request address lifetime reply front is.1 ret (front ++ bytes.items) rest
+    (brings (record { datagram = c.messages_reach_clients.ensures.datagram; piece = c.messages_reach_clients.ensures.piece; whole = c.messages_reach_clients.ensures.whole }) plan.client w v
+    is.1.client.core reply front rest bytes plan.second ret is.1.client.there unserved is.1.is.message on fresh.timely.in_range own)

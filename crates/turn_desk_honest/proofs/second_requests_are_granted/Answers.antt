@@ -3,15 +3,16 @@ use Rattle.std.specs.declared.net.socket_addr.SocketAddr.{SocketAddr}
 use Rattle.stun_proto.specs.Client.{standing_key}
 use Rattle.stun_proto.specs.Digests.{IsRight}
 use Rattle.turn_client_proto.specs.Api.declared.event.TurnEvent.{TurnEvent}
+use Rattle.turn_client_proto.specs.Drawing.{Sent}
 use Rattle.turn_client_proto.specs.Sound.{IsWhole}
 use Rattle.turn_client_proto_stages.specs.Request.ReadTexts.{HasReadTexts}
 use Rattle.turn_client_proto_stages.specs.Request.ShortTexts.{HasShortTexts}
-use Rattle.turn_client_proto_stages.specs.Choosing.{IsChoice, allocate_of, signed_request, signer_by, standing_by}
+use Rattle.turn_client_proto_stages.specs.Choosing.{IsChoice, IsSignedAllocate, allocate_of, signed_request, signer_by, standing_by}
 use Rattle.turn_client_proto_stages.specs.Stages.{AsksForOne}
-use Rattle.turn_desk_event.specs.declared.answer.Answer.{Answer}
-use Rattle.turn_desk_event.specs.declared.answer.Answer.TheVariants as answer
-use Rattle.turn_desk_event.specs.declared.decision.Decision.TheVariants as by
-use Rattle.turn_desk_event.specs.declared.grant.Grant.{Grant}
+use Rattle.turn_desk_world.specs.declared.answer.Answer.{Answer}
+use Rattle.turn_desk_world.specs.declared.answer.Answer.TheVariants as answer
+use Rattle.turn_desk_world.specs.declared.decision.Decision.TheVariants as by
+use Rattle.turn_desk_world.specs.declared.grant.Grant.{Grant}
 use Rattle.turn_desk_handshake.proofs.Requesting.{is_served}
 use Rattle.turn_desk_handshake.specs.Handshakes.{IsOfServer}
 use Rattle.turn_desk_world.specs.Desks.{IsDeskAnswered, IsReply, words_of}
@@ -19,37 +20,40 @@ use Rattle.turn_desk_world.specs.Model.{World}
 use Rattle.turn_desk_honest.specs.Promises.{IsFresh, allocation_granted, event_in}
 use Rattle.turn_desk_honest.specs.Scripts.{Plan, replied_second}
 use Rattle.turn_desk_honest.specs.Standing.{IsSigned, Stands}
+use Rattle.turn_desk_honest.proofs.Coming.{none_yet}
 use Rattle.turn_desk_honest.proofs.Places.{untold}
 use Rattle.turn_desk_honest.proofs.Serving.{choice_of, differ_still, is_user, of_settings}
-use Rattle.turn_desk_honest.proofs.Texts.{signed_read, signed_short}
 use Rattle.turn_desk_honest.proofs.second_requests_are_granted.Goals as goal
 
-module _ (c : goal.After-messages_are_told_alike) (plan : Plan) (old w v : World) (told : List TurnEvent) (fresh : IsFresh plan old) (none : told ≡ []) (request : List ℕ) (is : IsSigned plan old request w)
+module _ (c : goal.After-messages_are_told_alike) (plan : Plan) (old w v : World) (told : List TurnEvent) (fresh : IsFresh plan old) (none : told ≡ []) (request : Sent) (is : IsSigned plan old request w)
     (address : SocketAddr) (lifetime : ℕ) (seed : List ℕ) (asks : AsksForOne plan.client address) (whole : IsWhole address) (four : lifetime < 2 ^ 32) (client : v.client ≡ w.client) where
   choice_is : IsChoice plan.client is.choice
   choice_is = choice_of plan is.choice is.chosen.client.core is.chosen.client.is
 
   short : HasShortTexts (signer_by plan.client is.choice)
-  short = signed_short plan.client is.choice choice_is fresh.room c.texts_stay_short.ensures.fresh c.texts_stay_short.ensures.stay
+  short = c.signed_allocates_answer.ensures.short plan.client is.choice fresh.room choice_is
 
   reads : HasReadTexts (signer_by plan.client is.choice)
-  reads = signed_read plan.client is.choice choice_is fresh.text c.texts_stay_read.ensures.fresh c.texts_stay_read.ensures.stay
+  reads = c.signed_allocates_answer.ensures.read plan.client is.choice fresh.text choice_is
 
   own : IsOfServer w.desk.auth plan.client.here (standing_by plan.client is.choice)
   own = is_user plan old.desk w.desk is.choice is.chosen.under is.chosen.answered fresh.user
 
+  signed : IsSignedAllocate plan.client is.choice
+  signed = c.signed_allocates_answer.ensures.request plan.client is.choice fresh.room fresh.text choice_is
+
   abbrev bytes : List ℕ
   bytes = signed_request plan.client is.choice
 
-  granted_grants : (grants : List Grant) → grants ≡ w.desk.grants ++ allocation_granted plan bytes address lifetime ∷ [] → grants ≡ old.desk.grants ++ allocation_granted plan request address lifetime ∷ []
+  granted_grants : (grants : List Grant) → grants ≡ w.desk.grants ++ allocation_granted plan bytes address lifetime ∷ [] → grants ≡ old.desk.grants ++ allocation_granted plan request.bytes address lifetime ∷ []
   granted_grants grants all =
       all ∙ ap (λ (l : List Grant). l ++ allocation_granted plan bytes address lifetime ∷ []) is.chosen.under.challenge.granted
-      ∙ ap (λ (r : List ℕ). old.desk.grants ++ allocation_granted plan r address lifetime ∷ []) (sym is.request_is)
+      ∙ ap (λ (r : Sent). old.desk.grants ++ allocation_granted plan r.bytes address lifetime ∷ []) (sym is.request_is)
 
   by_reply : (ret : Answer) → IsReply ret w.desk bytes plan.client.here plan.second (by.Allocate (address ∷ []) lifetime) seed v.desk → Stands plan old (told ++ event_in ret) (replied_second request address lifetime ret) v
   by_reply (answer.Reply reply) replied =
       let g = c.signed_allocates_are_granted.ensures w.desk v.desk plan.client.here (signer_by plan.client is.choice) plan.client.config.transport plan.client.config.families is.choice.number plan.second
-      (words_of seed) (standing_by plan.client is.choice) (address ∷ []) lifetime reply.items short reads fresh.room.1 choice_is.fits refl own
+      (words_of seed) (standing_by plan.client is.choice) (address ∷ []) lifetime reply.items short reads fresh.room.1 choice_is.fits (c.signed_allocates_answer.ensures.stands plan.client is.choice) own
       (differ_still plan old.desk w.desk is.choice.told is.chosen.under fresh.hashes) (is.chosen.under.challenge.stands plan.second fresh.stands) refl
       (c.relayed_addresses_are_told.ensures.relayed is.choice.number (address ∷ []) (whole, tt)) four replied.answer in (
         untold told [] none refl,
@@ -61,11 +65,11 @@ module _ (c : goal.After-messages_are_told_alike) (plan : Plan) (old w v : World
             answered = is.chosen.answered;
             of = of_settings plan old.desk w.desk is.choice.told is.chosen.under;
             asks = asks;
-            request_right = subst (λ (r : List ℕ). IsRight r (standing_key (standing_by plan.client is.choice))) (sym is.request_is)
-                (c.requests_are_read.ensures.valid (signer_by plan.client is.choice) (allocate_of plan.client) is.choice.number (standing_by plan.client is.choice) short fresh.room.1 choice_is.fits refl refl);
+            request_right = subst (λ (r : Sent). IsRight r.bytes (standing_key (standing_by plan.client is.choice))) (sym is.request_is)
+                signed.valid;
             message = g.message;
             grant = record {
-              number = g.number ∙ c.requests_are_read.ensures.number (signer_by plan.client is.choice) (allocate_of plan.client) is.choice.number short fresh.room.1 choice_is.fits;
+              number = g.number ∙ signed.number;
               success = g.success;
               right = (c.successes_are_right.ensures w.desk v.desk plan.client.here bytes reply.items plan.client.config.transport (address ∷ []) lifetime (standing_by plan.client is.choice) own g).0;
               relayed = c.messages_are_told_alike.ensures.relayed reply.items g.each ∙ g.shows;
@@ -73,6 +77,7 @@ module _ (c : goal.After-messages_are_told_alike) (plan : Plan) (old w v : World
             };
             granted = granted_grants v.desk.grants g.granted;
           };
+          part = none_yet reply.items g.message;
           client = record { core = is.chosen.client.core; there = client ∙ is.chosen.client.there; is = is.chosen.client.is };
         },
       )
@@ -83,5 +88,6 @@ module _ (c : goal.After-messages_are_told_alike) (plan : Plan) (old w v : World
 
 pub returns : goal.returns
 returns c = λ plan old w v told ret request bytes address lifetime seed fresh is same asks whole step.
-    let of = subst (λ (b : List ℕ). IsDeskAnswered ret w.desk b plan.client.here plan.second (by.Allocate (address ∷ []) lifetime) seed v.desk) (same ∙ is.1.request_is) step.0 in
+    let at = subst (λ (b : List ℕ). IsDeskAnswered ret w.desk b request.from plan.second (by.Allocate (address ∷ []) lifetime) seed v.desk) same step.0 in
+    let of = subst (λ (r : Sent). IsDeskAnswered ret w.desk r.bytes r.from plan.second (by.Allocate (address ∷ []) lifetime) seed v.desk) is.1.request_is at in
     by_reply c plan old w v told fresh is.0 request is.1 address lifetime seed asks whole of.four_bytes (ap (λ (x : World). x.client) step.1) ret of.reply
