@@ -3,14 +3,14 @@ use Rattle.std.proofs.Common.{◌≡◌, ℕ, ◌≤◌, ◌^◌, Bool, true, fa
 use Rattle.std.specs.Prelude.{option_to_list}
 use Rattle.std.specs.Bool.{MatchBool}
 use Rattle.std.proofs.lemmas.Bool.{le-leb}
-use Rattle.turn_client_proto.specs.Api.declared.answer.TurnPollRet.{TurnPollRet}
-use Rattle.turn_client_proto.specs.Api.declared.answer.TurnPollRet.TheVariants as poll
-use Rattle.turn_client_proto.specs.Api.declared.event.TurnEvent.{TurnEvent}
-use Rattle.turn_client_proto.specs.Control.{Control}
-use Rattle.turn_client_proto.specs.Drawing.{IsDrawn, Sent, sent_of}
-use Rattle.turn_client_proto.specs.Driving.{IsEventTaken}
-use Rattle.turn_client_proto.specs.Kept.{Kept, Protocol}
-use Rattle.turn_client_proto.specs.Polling.{IsPolled}
+use Rattle.turn_client_proto_stages.specs.Api.declared.answer.TurnPollRet.{TurnPollRet}
+use Rattle.turn_client_proto_stages.specs.Api.declared.answer.TurnPollRet.TheVariants as poll
+use Rattle.turn_client_proto_stages.specs.Api.declared.event.TurnEvent.{TurnEvent}
+use Rattle.turn_desk_world.specs.Control.{Control}
+use Rattle.turn_client_proto_stages.specs.Drawing.{IsDrawn, Sent, sent_of}
+use Rattle.turn_client_proto_stages.specs.Driving.{IsEventTaken}
+use Rattle.turn_desk_world.specs.Kept.{Kept, Protocol}
+use Rattle.turn_client_proto_stages.specs.Polling.{IsPolled}
 use Rattle.turn_desk_world.specs.declared.answer.Answer.{Answer}
 use Rattle.turn_desk_world.specs.declared.answer.Answer.TheVariants as answer
 use Rattle.turn_desk_world.specs.declared.event.ClientCall.{ClientCall}

@@ -7,16 +7,16 @@ use Rattle.stun_types.specs.Grammar.{header_refusal, refusal}
 use Rattle.stun_types.specs.declared.transmit.Transmit.{Transmit}
 use Rattle.stun_types.specs.declared.transport.TransportType.{TransportType}
 use Rattle.stun_types.specs.declared.transport.TransportType.TheVariants.{Udp, Tcp}
-use Rattle.turn_client_proto.specs.Allocation.Streams.{alive}
-use Rattle.turn_client_proto.specs.Api.Payloads.{PeerPayload}
-use Rattle.turn_client_proto.specs.Api.declared.answer.TurnRecvRet.{TurnRecvRet}
-use Rattle.turn_client_proto.specs.Api.declared.answer.TurnRecvRet.TheVariants as recv
-use Rattle.turn_client_proto.specs.Control.{Control, Datagrams, Open}
-use Rattle.turn_client_proto.specs.Kept.{Kept, Protocol}
-use Rattle.turn_client_proto.specs.Receipts.{IsReceived, IsWaitingGiven}
-use Rattle.turn_client_proto.specs.Receiving.{IsHeard}
-use Rattle.turn_client_proto.specs.Sent.{Beginning}
-use Rattle.turn_client_proto.specs.SocketPieces.{raw_waiting}
+use Rattle.turn_client_proto_stages.specs.Allocation.Streams.{alive}
+use Rattle.turn_client_proto_stages.specs.Api.Payloads.{PeerPayload}
+use Rattle.turn_client_proto_stages.specs.Api.declared.answer.TurnRecvRet.{TurnRecvRet}
+use Rattle.turn_client_proto_stages.specs.Api.declared.answer.TurnRecvRet.TheVariants as recv
+use Rattle.turn_desk_world.specs.Control.{Control, Datagrams, Open}
+use Rattle.turn_desk_world.specs.Kept.{Kept, Protocol}
+use Rattle.turn_client_proto_stages.specs.Receipts.{IsReceived, IsWaitingGiven}
+use Rattle.turn_client_proto_stages.specs.Receiving.{IsHeard}
+use Rattle.turn_client_proto_stages.specs.Sent.{Beginning}
+use Rattle.turn_client_proto_stages.specs.SocketPieces.{raw_waiting}
 use Rattle.turn_client_proto_stages.specs.Coming.{HasCome, IsFromServer, IsHeardAs, IsLost, IsPartOf, IsUnserved}
 use Rattle.turn_desk_world.specs.declared.answer.Answer.{Answer}
 use Rattle.turn_desk_world.specs.declared.answer.Answer.TheVariants as answer

@@ -7,7 +7,7 @@ use Rattle.stun_proto.specs.Choice.{supports, takes}
 use Rattle.stun_proto.specs.Features.{Feature, Auto, Required, Disabled}
 use Rattle.stun_proto.specs.Nonce.{features_told, takes_anonymous_username}
 use Rattle.stun_proto.specs.Server.{Server}
-use Rattle.turn_client_proto.specs.Config.{Config}
+use Rattle.turn_desk_world.specs.Config.{Config}
 use Rattle.turn_client_proto_stages.specs.Choosing.{IsAnsweredBy, IsBarring}
 use Rattle.turn_desk_honest.specs.Promises.{AreApart, IsStrongestOf, MustShowName}
 use Rattle.turn_desk_honest.specs.Standing.{IsOfSettings}

@@ -7,10 +7,10 @@ use Rattle.stun_types.specs.Grammar.{refusal}
 use Rattle.turn_desk_world.specs.declared.decision.Decision.{Decision}
 use Rattle.turn_desk_world.specs.State.{State}
 use Rattle.turn_desk_world.specs.Steps.{IsAnswer}
-use Rattle.turn_client_proto.specs.Api.declared.event.TurnEvent.{TurnEvent}
-use Rattle.turn_client_proto.specs.Drawing.{Sent}
+use Rattle.turn_client_proto_stages.specs.Api.declared.event.TurnEvent.{TurnEvent}
+use Rattle.turn_client_proto_stages.specs.Drawing.{Sent}
 use Rattle.turn_desk_world.specs.declared.answer.Answer.{Answer}
-use Rattle.turn_client_proto.specs.Sent.{Beginning, first_number}
+use Rattle.turn_client_proto_stages.specs.Sent.{Beginning, first_number}
 use Rattle.turn_desk_world.specs.Desks.{words_of}
 use Rattle.turn_desk_world.specs.Model.{World}
 use Rattle.turn_desk_honest.specs.Promises.{IsTimely, event_in}

@@ -11,9 +11,9 @@ use Rattle.stun_proto.specs.Server.{Client}
 use Rattle.stun_proto.specs.SupportedAlgorithms.{list_of}
 use Rattle.stun_proto.specs.Users.{HashesDiffer}
 use Rattle.std.specs.declared.net.socket_addr.SocketAddr.{SocketAddr}
-use Rattle.turn_client_proto.specs.Drawing.{Sent}
-use Rattle.turn_client_proto.specs.Kept.{Protocol}
-use Rattle.turn_client_proto.specs.Sent.{Beginning}
+use Rattle.turn_client_proto_stages.specs.Drawing.{Sent}
+use Rattle.turn_desk_world.specs.Kept.{Protocol}
+use Rattle.turn_client_proto_stages.specs.Sent.{Beginning}
 use Rattle.turn_client_proto_stages.specs.Request.Waiting.{Queued}
 use Rattle.turn_client_proto_stages.specs.Coming.{IsUnserved}
 use Rattle.turn_client_proto_stages.specs.Stages.{IsSigning, signed_queued}

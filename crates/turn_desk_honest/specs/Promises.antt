@@ -15,15 +15,15 @@ use Rattle.stun_proto.specs.Features.{Feature, Required, Disabled}
 use Rattle.stun_proto.specs.Moments.{moment_after}
 use Rattle.stun_proto.specs.Server.{Server}
 use Rattle.stun_proto.specs.Users.{HashesDiffer}
-use Rattle.turn_client_proto.specs.Api.declared.event.TurnEvent.{TurnEvent}
-use Rattle.turn_client_proto.specs.Allocation.Streams.{alive}
-use Rattle.turn_client_proto.specs.Config.{Config}
-use Rattle.turn_client_proto.specs.Control.{Control, Datagrams, Open}
-use Rattle.turn_client_proto.specs.Drawing.{Sent}
-use Rattle.turn_client_proto.specs.Getters.{relayed_of}
-use Rattle.turn_client_proto.specs.Kept.{Kept, Protocol}
-use Rattle.turn_client_proto.specs.Polling.{cadence}
-use Rattle.turn_client_proto.specs.Sent.{Begins, HasRoom}
+use Rattle.turn_client_proto_stages.specs.Api.declared.event.TurnEvent.{TurnEvent}
+use Rattle.turn_client_proto_stages.specs.Allocation.Streams.{alive}
+use Rattle.turn_desk_world.specs.Config.{Config}
+use Rattle.turn_desk_world.specs.Control.{Control, Datagrams, Open}
+use Rattle.turn_client_proto_stages.specs.Drawing.{Sent}
+use Rattle.turn_client_proto_stages.specs.Allocation.Listed.{relayed_shown}
+use Rattle.turn_desk_world.specs.Kept.{Kept, Protocol}
+use Rattle.turn_client_proto_stages.specs.Polling.{cadence}
+use Rattle.turn_client_proto_stages.specs.Sent.{Begins, HasRoom}
 use Rattle.turn_client_proto_stages.specs.Choosing.{HasTextName}
 use Rattle.turn_client_proto_stages.specs.Stages.{created, failures}
 use Rattle.turn_desk_world.specs.declared.answer.Answer.{Answer}
@@ -61,8 +61,8 @@ pub record HasClient (plan : Plan) (front : List ℕ) (w : World) (Is : Protocol
   pub there : w.client ≡ Some (over (control_at plan.client.transport front) core)
   pub is : Is core
 
--- a client of which nothing was asked yet, and to which nothing has come; a desk that has its user and keeps nothing for
--- its address; and the nonce of the first reply stands at the second draw
+-- a client of which nothing was asked yet, and to which nothing has come; a desk that has its user and keeps nothing
+-- for its address; and the nonce of the first reply stands at the second draw
 pub record IsFresh (plan : Plan) (w : World) : Type 0 where
   pub client : HasClient plan [] w (λ p. Begins plan.client p)
   pub room : HasRoom plan.client.config
@@ -143,7 +143,7 @@ pub record IsAllocated (plan : Plan) (old : World) (told : List TurnEvent) (requ
   pub is_own : IsOwnSent plan request
   pub request_is_right : IsRight request.bytes (key_in_realm plan old algorithm)
   pub reply_is_right : IsRight reply (key_in_realm plan old algorithm)
-  pub held : HasClient plan [] new (λ p. (relayed_of p ≡ (plan.client.config.transport, address) ∷ [])
+  pub held : HasClient plan [] new (λ p. (relayed_shown p.allocations ≡ (plan.client.config.transport, address) ∷ [])
       × TellsWhole told (created plan.client address) p)
   pub granted : new.desk.grants ≡ old.desk.grants ++ allocation_granted plan request.bytes address lifetime ∷ []
 
@@ -151,7 +151,7 @@ pub record IsAllocated (plan : Plan) (old : World) (told : List TurnEvent) (requ
 -- is drawn any more, and once the events are taken the client is closed
 pub record IsTurnedAway (plan : Plan) (old : World) (told : List TurnEvent) (new : World) : Type 0 where
   pub apart : AreApart plan.client.config old.desk.auth
-  pub held : HasClient plan [] new (λ p. (relayed_of p ≡ []) × TellsWhole told (failures plan.client) p)
+  pub held : HasClient plan [] new (λ p. (relayed_shown p.allocations ≡ []) × TellsWhole told (failures plan.client) p)
   pub granted : new.desk.grants ≡ old.desk.grants
   pub quiet : (now : ℕ) (ret : Answer) (next : World) → now ≤ 2 ^ 62 → IsStep (Draw now) new ret next
       → ret ≡ answer.Nothing

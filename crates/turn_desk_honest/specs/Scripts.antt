@@ -6,10 +6,10 @@ use Rattle.std.specs.declared.net.socket_addr.SocketAddr.{SocketAddr}
 use Rattle.stun_types.specs.declared.transport.TransportType.{TransportType}
 use Rattle.stun_types.specs.declared.transport.TransportType.TheVariants.{Udp, Tcp}
 use Rattle.stun_proto.specs.Schedule.{end_at}
-use Rattle.turn_client_proto.specs.Config.{Config}
-use Rattle.turn_client_proto.specs.Drawing.{Sent, sent_of}
-use Rattle.turn_client_proto.specs.Sent.{Beginning}
-use Rattle.turn_client_proto.specs.Sound.{IsWhole}
+use Rattle.turn_desk_world.specs.Config.{Config}
+use Rattle.turn_client_proto_stages.specs.Drawing.{Sent, sent_of}
+use Rattle.turn_client_proto_stages.specs.Sent.{Beginning}
+use Rattle.turn_client_proto_stages.specs.Sound.{IsWhole}
 use Rattle.turn_client_proto_stages.specs.Stages.{AsksForOne}
 use Rattle.turn_desk_world.specs.declared.answer.Answer.{Answer}
 use Rattle.turn_desk_world.specs.declared.answer.Answer.TheVariants as answer

@@ -9,11 +9,11 @@ use Rattle.stun_proto.specs.Client.{standing_key}
 use Rattle.stun_proto.specs.Digests.{IsRight}
 use Rattle.stun_proto.specs.Nonce.{features_told, takes_anonymous_username}
 use Rattle.stun_proto.specs.Server.{Server}
-use Rattle.turn_client_proto.specs.Api.declared.event.TurnEvent.{TurnEvent}
-use Rattle.turn_client_proto.specs.Drawing.{Sent}
-use Rattle.turn_client_proto.specs.Kept.{Protocol}
+use Rattle.turn_client_proto_stages.specs.Api.declared.event.TurnEvent.{TurnEvent}
+use Rattle.turn_client_proto_stages.specs.Drawing.{Sent}
+use Rattle.turn_desk_world.specs.Kept.{Protocol}
 use Rattle.turn_client_proto_stages.specs.Request.Waiting.{Queued}
-use Rattle.turn_client_proto.specs.Sent.{Begins, first_request}
+use Rattle.turn_client_proto_stages.specs.Sent.{Begins, first_request}
 use Rattle.turn_client_proto_stages.specs.Asked.{sent_of}
 use Rattle.turn_client_proto_stages.specs.Choosing.{Choice, IsAnsweredBy, IsBarring, signed_sent, standing_by}
 use Rattle.turn_client_proto_stages.specs.Stages.{AsksForOne, HasChosen, HasEnded, HasSigned, Holds}

@@ -7,15 +7,15 @@ ghost use Rattle.stun_proto.specs.Moments.{moment_after};
 ghost use Rattle.stun_proto.specs.Users.{HashesDiffer};
 ghost use Rattle.stun_types.specs.Registry.{longest_username};
 ghost use Rattle.stun_types.specs.declared.transport.TransportType.{TransportType};
-ghost use Rattle.turn_client_proto.specs.Beginning.{IsNew};
-ghost use Rattle.turn_client_proto.specs.Kept.{Protocol};
+ghost use Rattle.turn_desk_world.specs.Beginning.{IsNew};
+ghost use Rattle.turn_desk_world.specs.Kept.{Protocol};
 ghost use Rattle.turn_desk_world.specs.Model.{World};
 ghost use Rattle.turn_desk_honest.specs.Promises.{IsFresh, IsTimely, control_at, over};
 ghost use Rattle.turn_desk_honest.specs.Scripts.{plan_over};
 
-use turn_client_proto::api::TurnConfig;
 use turn_client_proto_request::request::TurnRequest;
 use turn_client_proto_stages::request_laws::{names_are_texts, requests_are_lawful};
+use turn_desk_world::client::api::TurnConfig;
 
 /// An honest run begins in a world of a client as `TurnClientUdp::allocate`, or `TurnClientTcp::allocate`, makes
 /// it of these settings, with a name that has room in a request (RFC 8489, section 14.3), and of a desk that has

@@ -1,7 +1,7 @@
 //! A client and a desk over an honest network, by UDP or TCP: the client draws twice, and each message is
-//! delivered once, unaltered (RFC 8489, section 9.2; RFC 8656, sections 7.1 to 7.4). Then the client holds exactly the
-//! allocation that was decided, and the desk has granted it; or the two can't come together, and neither has
-//! ([`honest_runs_allocate`]). The functions do nothing; each contract is a law on a world of both.
+//! delivered once, unaltered (RFC 8489, section 9.2; RFC 8656, sections 7.1 to 7.4). Then the client holds
+//! exactly the allocation that was decided, and the desk has granted it; or the two can't come together, and
+//! neither has ([`honest_runs_allocate`]). The functions do nothing; each contract is a law on a world of both.
 //!
 //! `specs/Scripts.antt` has what an honest network does, by places that a run passes; no answer is taken for
 //! granted there, but that what is drawn and what is replied are bytes to deliver. `specs/Promises.antt` has
@@ -15,9 +15,9 @@ ghost use Rattle.std.specs.Prelude.{◌≡◌, ◌++◌, ◌<◌, ◌≤◌, ◌
 ghost use Rattle.std.specs.declared.alloc.Global.{Global};
 ghost use Rattle.std.specs.declared.net.socket_addr.SocketAddr.{SocketAddr};
 ghost use Rattle.stun_proto.specs.Schedule.{end_at};
-ghost use Rattle.turn_client_proto.specs.Api.declared.event.TurnEvent.{TurnEvent};
-ghost use Rattle.turn_client_proto.specs.Drawing.{Sent};
-ghost use Rattle.turn_client_proto.specs.Sound.{IsWhole};
+ghost use Rattle.turn_client_proto_stages.specs.Api.declared.event.TurnEvent.{TurnEvent};
+ghost use Rattle.turn_client_proto_stages.specs.Drawing.{Sent};
+ghost use Rattle.turn_client_proto_stages.specs.Sound.{IsWhole};
 ghost use Rattle.turn_client_proto_stages.specs.Stages.{AsksForOne, failures};
 ghost use Rattle.turn_desk_world.specs.declared.answer.Answer.{Answer};
 ghost use Rattle.turn_desk_world.specs.declared.answer.Answer.TheVariants.{Closed, Nothing};

@@ -1,9 +1,9 @@
 use Rattle.std.proofs.Common.{◌≡◌, ℕ, List, [], ap, refl, sym, ◌∙◌}
-use Rattle.turn_client_proto.specs.Api.declared.answer.TurnPollRet.{TurnPollRet}
-use Rattle.turn_client_proto.specs.Api.declared.answer.TurnPollRet.TheVariants as poll
-use Rattle.turn_client_proto.specs.Api.declared.event.TurnEvent.{TurnEvent}
-use Rattle.turn_client_proto.specs.Kept.{Protocol}
-use Rattle.turn_client_proto.specs.Polling.{IsPolled}
+use Rattle.turn_client_proto_stages.specs.Api.declared.answer.TurnPollRet.{TurnPollRet}
+use Rattle.turn_client_proto_stages.specs.Api.declared.answer.TurnPollRet.TheVariants as poll
+use Rattle.turn_client_proto_stages.specs.Api.declared.event.TurnEvent.{TurnEvent}
+use Rattle.turn_desk_world.specs.Kept.{Protocol}
+use Rattle.turn_client_proto_stages.specs.Polling.{IsPolled}
 use Rattle.turn_client_proto_stages.specs.Stages.{answer_at_end}
 use Rattle.turn_desk_world.specs.declared.answer.Answer.{Answer}
 use Rattle.turn_desk_world.specs.declared.answer.Answer.TheVariants as answer

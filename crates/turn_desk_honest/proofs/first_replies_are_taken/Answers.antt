@@ -1,6 +1,6 @@
 use Rattle.std.proofs.Common.{◌≡◌, ◌++◌, ℕ, List, [], ◌∷◌, ap, refl, sym, ◌∙◌, subst, inl, inr}
-use Rattle.turn_client_proto.specs.Api.declared.event.TurnEvent.{TurnEvent}
-use Rattle.turn_client_proto.specs.Drawing.{Sent}
+use Rattle.turn_client_proto_stages.specs.Api.declared.event.TurnEvent.{TurnEvent}
+use Rattle.turn_client_proto_stages.specs.Drawing.{Sent}
 use Rattle.turn_desk_world.specs.declared.event.Event.TheVariants.{ToClient}
 use Rattle.turn_desk_world.specs.Runs.{IsStep}
 use Rattle.turn_client_proto_stages.specs.Choosing.{IsChallenge}

@@ -1,7 +1,7 @@
 use Rattle.std.proofs.Common.{◌≡◌, ◌++◌, List, [], Some, None, refl, ◌∙◌}
-use Rattle.turn_client_proto.specs.Api.declared.event.TurnEvent.{TurnEvent}
-use Rattle.turn_client_proto.specs.Drawing.{sent_of}
-use Rattle.turn_client_proto.specs.Kept.{Protocol}
+use Rattle.turn_client_proto_stages.specs.Api.declared.event.TurnEvent.{TurnEvent}
+use Rattle.turn_client_proto_stages.specs.Drawing.{sent_of}
+use Rattle.turn_desk_world.specs.Kept.{Protocol}
 use Rattle.turn_client_proto_stages.specs.Asked.{sent_of as asked_sent}
 use Rattle.turn_client_proto_stages.specs.Stages.{first_asked}
 use Rattle.turn_desk_world.specs.declared.answer.Answer.{Answer}

@@ -3,10 +3,10 @@ use Rattle.std.proofs.lemmas.List.{append-nil}
 use Rattle.std.specs.declared.net.socket_addr.SocketAddr.{SocketAddr}
 use Rattle.stun_proto.specs.Client.{account_key}
 use Rattle.stun_proto.specs.Digests.{IsRight}
-use Rattle.turn_client_proto.specs.Allocation.Listed.{relayed_shown}
-use Rattle.turn_client_proto.specs.Api.declared.event.TurnEvent.{TurnEvent}
-use Rattle.turn_client_proto.specs.Drawing.{Sent}
-use Rattle.turn_client_proto.specs.Kept.{Protocol}
+use Rattle.turn_client_proto_stages.specs.Allocation.Listed.{relayed_shown}
+use Rattle.turn_client_proto_stages.specs.Api.declared.event.TurnEvent.{TurnEvent}
+use Rattle.turn_client_proto_stages.specs.Drawing.{Sent}
+use Rattle.turn_desk_world.specs.Kept.{Protocol}
 use Rattle.turn_client_proto_stages.specs.Asked as asks
 use Rattle.turn_client_proto_stages.specs.Asked.{sent_of}
 use Rattle.turn_client_proto_stages.specs.Choosing.{Choice, signed_asked}

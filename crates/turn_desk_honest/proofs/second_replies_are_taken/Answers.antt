@@ -1,6 +1,6 @@
 use Rattle.std.proofs.Common.{◌∷◌, inl, inr, ◌≡◌, ◌++◌, ℕ, List, [], ap, subst}
 use Rattle.std.specs.declared.net.socket_addr.SocketAddr.{SocketAddr}
-use Rattle.turn_client_proto.specs.Api.declared.event.TurnEvent.{TurnEvent}
+use Rattle.turn_client_proto_stages.specs.Api.declared.event.TurnEvent.{TurnEvent}
 use Rattle.turn_client_proto_stages.specs.Stages.{IsSigning, created, signed_queued}
 use Rattle.turn_desk_world.specs.declared.answer.Answer.{Answer}
 use Rattle.turn_desk_world.specs.Model.{World}
@@ -8,7 +8,7 @@ use Rattle.turn_desk_honest.specs.Promises.{control_at, event_in}
 use Rattle.turn_desk_honest.specs.Scripts.{Done, Plan, brought_second}
 use Rattle.turn_desk_honest.specs.Standing.{IsReplied, Stands}
 use Rattle.turn_desk_honest.proofs.Coming.{IsBroughtOn, IsHeardOn, brings}
-use Rattle.turn_client_proto.specs.Drawing.{Sent}
+use Rattle.turn_client_proto_stages.specs.Drawing.{Sent}
 use Rattle.turn_desk_world.specs.declared.event.Event.TheVariants.{ToClient}
 use Rattle.turn_desk_world.specs.Runs.{IsStep}
 use Rattle.turn_client_proto_stages.specs.Request.Waiting.{Queued}

@@ -1,9 +1,9 @@
 use Rattle.std.proofs.Common.{◌≡◌, ◌++◌, List, [], Option, Some, None, ap, refl, sym, ◌∙◌, subst, inl, inr}
 use Rattle.std.proofs.lemmas.List.{append-nil}
-use Rattle.turn_client_proto.specs.Api.declared.event.TurnEvent.{TurnEvent}
-use Rattle.turn_client_proto.specs.Drawing.{IsDrawn, Sent, sent_of}
-use Rattle.turn_client_proto.specs.Sent.{Beginning}
-use Rattle.turn_client_proto.specs.Kept.{Protocol}
+use Rattle.turn_client_proto_stages.specs.Api.declared.event.TurnEvent.{TurnEvent}
+use Rattle.turn_client_proto_stages.specs.Drawing.{IsDrawn, Sent, sent_of}
+use Rattle.turn_client_proto_stages.specs.Sent.{Beginning}
+use Rattle.turn_desk_world.specs.Kept.{Protocol}
 use Rattle.turn_client_proto_stages.specs.Choosing.{signed_asked, signed_sent}
 use Rattle.turn_desk_world.specs.declared.answer.Answer.{Answer}
 use Rattle.turn_desk_world.specs.declared.answer.Answer.TheVariants as answer

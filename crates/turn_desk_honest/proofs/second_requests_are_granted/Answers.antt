@@ -2,9 +2,9 @@ use Rattle.std.proofs.Common.{◌≡◌, ◌++◌, ◌<◌, ◌^◌, ℕ, List, 
 use Rattle.std.specs.declared.net.socket_addr.SocketAddr.{SocketAddr}
 use Rattle.stun_proto.specs.Client.{standing_key}
 use Rattle.stun_proto.specs.Digests.{IsRight}
-use Rattle.turn_client_proto.specs.Api.declared.event.TurnEvent.{TurnEvent}
-use Rattle.turn_client_proto.specs.Drawing.{Sent}
-use Rattle.turn_client_proto.specs.Sound.{IsWhole}
+use Rattle.turn_client_proto_stages.specs.Api.declared.event.TurnEvent.{TurnEvent}
+use Rattle.turn_client_proto_stages.specs.Drawing.{Sent}
+use Rattle.turn_client_proto_stages.specs.Sound.{IsWhole}
 use Rattle.turn_client_proto_stages.specs.Request.ReadTexts.{HasReadTexts}
 use Rattle.turn_client_proto_stages.specs.Request.ShortTexts.{HasShortTexts}
 use Rattle.turn_client_proto_stages.specs.Choosing.{IsChoice, IsSignedAllocate, allocate_of, signed_request, signer_by, standing_by}

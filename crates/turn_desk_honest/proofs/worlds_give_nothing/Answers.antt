@@ -1,7 +1,7 @@
 use Rattle.std.proofs.Common.{ℕ, List, [], ◌∷◌, inl, inr}
-use Rattle.turn_client_proto.specs.Api.declared.event.TurnEvent.{TurnEvent}
-use Rattle.turn_client_proto.specs.Kept.{Protocol}
-use Rattle.turn_client_proto.specs.Sent.{first_number, first_request}
+use Rattle.turn_client_proto_stages.specs.Api.declared.event.TurnEvent.{TurnEvent}
+use Rattle.turn_desk_world.specs.Kept.{Protocol}
+use Rattle.turn_client_proto_stages.specs.Sent.{first_number, first_request}
 use Rattle.turn_client_proto_stages.specs.Request.Judging.{signer_of}
 use Rattle.turn_client_proto_stages.specs.Request.declared.request.TurnRequest.TheVariants.{FirstAllocate}
 use Rattle.turn_client_proto_stages.specs.Choosing.{Choice}

@@ -1,9 +1,9 @@
 use Rattle.std.proofs.Common.{◌≡◌, ◌++◌, ◌<◌, ℕ, List, [], ◌∷◌, sym, ◌∙◌, subst, inl, inr}
 use Rattle.std.specs.declared.net.socket_addr.SocketAddr.{SocketAddr}
 use Rattle.stun_proto.specs.Schedule.{end_at}
-use Rattle.turn_client_proto.specs.Api.declared.event.TurnEvent.{TurnEvent}
-use Rattle.turn_client_proto.specs.Drawing.{Sent}
-use Rattle.turn_client_proto.specs.Kept.{Protocol}
+use Rattle.turn_client_proto_stages.specs.Api.declared.event.TurnEvent.{TurnEvent}
+use Rattle.turn_client_proto_stages.specs.Drawing.{Sent}
+use Rattle.turn_desk_world.specs.Kept.{Protocol}
 use Rattle.turn_client_proto_stages.specs.Choosing.{Choice}
 use Rattle.turn_client_proto_stages.specs.Stages.{HasEnded, Holds, IsAsking, signed_queued}
 use Rattle.turn_desk_world.specs.declared.answer.Answer.{Answer}
