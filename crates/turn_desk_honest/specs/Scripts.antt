@@ -1,6 +1,6 @@
 -- An honest network: a client draws twice, and each message is delivered once, unaltered, between the client's own
 -- address and the server's; a reply over UDP at once, over TCP in any pieces (RFC 8489, sections 6.2.1 and 6.2.2).
-use Rattle.std.specs.Prelude.{◌≡◌, ◌≢◌, ◌<◌, ◌++◌, ℕ, List, [], ◌∷◌, Vec}
+use Rattle.std.specs.Prelude.{◌≡◌, ◌≢◌, ◌<◌, ◌++◌, ℕ, List, [], ◌∷◌, map, Vec}
 use Rattle.std.specs.declared.alloc.Global.{Global}
 use Rattle.std.specs.declared.net.socket_addr.SocketAddr.{SocketAddr}
 use Rattle.stun_types.specs.declared.transport.TransportType.{TransportType}
@@ -140,6 +140,17 @@ pub data Follows (plan : Plan) (place : Place) (event : Event) (ret : Answer) (n
   Receives : (now : ℕ) → event ≡ Call call.PollRecv now → next ≡ place → Follows plan place event ret next
   -- where it drew nothing, it is drawn again
   DrawsOn : (now : ℕ) → place ≡ Barred → event ≡ Draw now → next ≡ Barred → Follows plan place event ret next
+
+-- pieces that make up these bytes, none of them empty; and what each of them was answered
+unfoldable pub IsCut : List ℕ → List (Vec ℕ Global × Answer) → Type 0
+IsCut bytes [] = bytes ≡ []
+IsCut bytes (piece ∷ pieces) =
+    (piece.0.items ≢ []) × (left : List ℕ) × (bytes ≡ piece.0.items ++ left) × IsCut left pieces
+
+-- they come to a client at a moment, in order, in reply to a request
+abbrev pub given : Sent → (now : ℕ) → List (Vec ℕ Global × Answer) → List (Event × Answer)
+given request now pieces =
+    map (λ (piece : Vec ℕ Global × Answer). (ToClient piece.0 request.to request.from now, piece.1)) pieces
 
 -- events and answers that lead from one place to another
 unfoldable pub IsScript : Plan → Place → List (Event × Answer) → Place → Type 0

@@ -11,10 +11,11 @@
 
 pub mod fresh;
 
-ghost use Rattle.std.specs.Prelude.{◌≡◌, ◌++◌, ◌<◌, ◌≤◌, ◌^◌, List, [], ◌∷◌, Vec, ℕ};
+ghost use Rattle.std.specs.Prelude.{◌≡◌, ◌≢◌, ◌++◌, ◌<◌, ◌≤◌, ◌^◌, List, [], ◌∷◌, Vec, ℕ};
 ghost use Rattle.std.specs.declared.alloc.Global.{Global};
 ghost use Rattle.std.specs.declared.net.socket_addr.SocketAddr.{SocketAddr};
 ghost use Rattle.stun_proto.specs.Schedule.{end_at};
+ghost use Rattle.stun_types.specs.declared.transport.TransportType.TheVariants.{Tcp};
 ghost use Rattle.turn_client_proto_stages.specs.Api.declared.event.TurnEvent.{TurnEvent};
 ghost use Rattle.turn_client_proto_stages.specs.Drawing.{Sent};
 ghost use Rattle.turn_client_proto_stages.specs.Sound.{IsWhole};
@@ -32,10 +33,10 @@ ghost use Rattle.turn_desk_world.specs.Model.{World};
 ghost use Rattle.turn_desk_world.specs.Runs.{IsRun, IsStep};
 ghost use Rattle.turn_desk_honest.specs.Promises.{HasCome, IsFresh, event_in, events_in};
 ghost use Rattle.turn_desk_honest.specs.Scripts.{Asked, Barred, BringsOn, Came, Challenged};
-ghost use Rattle.turn_desk_honest.specs.Scripts.{Done, Granted, IsLook, IsPolledAt, IsScript};
+ghost use Rattle.turn_desk_honest.specs.Scripts.{Done, Granted, IsCut, IsLook, IsPolledAt, IsScript};
 ghost use Rattle.turn_desk_honest.specs.Scripts.{Place, Plan, Signed, Start, brought_first};
 ghost use Rattle.turn_desk_honest.specs.Scripts.{brought_second, drawn_first, drawn_second};
-ghost use Rattle.turn_desk_honest.specs.Scripts.{replied_first, replied_second};
+ghost use Rattle.turn_desk_honest.specs.Scripts.{given, replied_first, replied_second};
 ghost use Rattle.turn_desk_honest.specs.Standing.{IsOver, Stands};
 
 use turn_client_proto_stages::request_laws::requests_are_read;
@@ -53,13 +54,13 @@ use turn_desk_world::laws::relayed_addresses_are_told;
 
 /// A new client, over UDP or TCP, whose user a desk has, at an address of which the desk keeps nothing, is
 /// drawn. What it sends reaches the desk unaltered from where it was sent, and the desk's reply reaches the
-/// client unaltered, all at that moment: over UDP in one datagram, over TCP in pieces, wherever it is cut (RFC
-/// 8489, section 6.2.2). At least 50 ms later, before the desk's nonce expires, the client is drawn again; what
-/// it sends and what the desk replies is delivered so, too, and the desk is told to allocate an address of the
-/// one family that the client asks for, without flow information and scope. All along, between the pieces of a
-/// reply, too, the client's events may be taken, and it may be asked what it holds and what has come of its
-/// peers; and until all of its second reply has come it may be polled, before its first request would be given
-/// up if it were not answered.
+/// client unaltered, all at that moment: over UDP in one datagram, over TCP in pieces, wherever it is cut
+/// ([`cuts_are_honest`]; RFC 8489, section 6.2.2). At least 50 ms later, before the desk's nonce expires, the
+/// client is drawn again; what it sends and what the desk replies is delivered so, too, and the desk is told to
+/// allocate an address of the one family that the client asks for, without flow information and scope. All
+/// along, between the pieces of a reply, too, the client's events may be taken, and it may be asked what it
+/// holds and what has come of its peers; and until all of its second reply has come it may be polled, before
+/// its first request would be given up if it were not answered.
 ///
 /// Then the client holds exactly that allocation, and one event tells so; the desk has granted it in answer to
 /// that request, and nothing else; and request and reply are right under the key of the user in the desk's
@@ -197,6 +198,24 @@ pub fn second_replies_are_taken()
     stages_are_unserved();
     messages_reach_clients::<&[u8]>();
 }
+
+/// Over TCP a reply may be cut anywhere: an honest network gives it in any pieces that aren't empty.
+pub fn cuts_are_honest()
+    ensures first { (plan : Plan) (request : Sent) (reply : List ℕ)
+        (pieces : List (Vec ℕ Global × Answer))
+        → plan.client.transport ≡ Tcp
+        → reply ≢ []
+        → IsCut reply pieces
+        → IsScript plan (Challenged request reply [])
+        (given request plan.client.made pieces) Came }
+    ensures second { (plan : Plan) (request : Sent) (address : SocketAddr) (lifetime : ℕ)
+        (reply : List ℕ) (pieces : List (Vec ℕ Global × Answer))
+        → plan.client.transport ≡ Tcp
+        → reply ≢ []
+        → IsCut reply pieces
+        → IsScript plan (Granted request address lifetime reply [])
+        (given request plan.second pieces) (Done request address lifetime reply) }
+{}
 
 /// Where the client's events are taken, where it is asked what it holds, and where it is polled before it holds
 /// an allocation, a world stands where it stood.
