@@ -1,5 +1,5 @@
 -- What an honest run comes to, over UDP or TCP (RFC 8489, section 9.2; RFC 8656, sections 7.1 to 7.4).
-use Rattle.std.specs.Prelude.{◌≡◌, ◌≤◌, ◌<◌, ◌^◌, ◌⊎◌, ◌++◌, ℕ, true, false, List, [], ◌∷◌, Some, None}
+use Rattle.std.specs.Prelude.{◌≡◌, ◌≤◌, ◌<◌, ◌⊎◌, ◌++◌, ℕ, true, false, List, [], ◌∷◌, Some, None}
 use Rattle.std.specs.FinMap as map
 use Rattle.std.specs.List.{flat_map}
 use Rattle.std.specs.declared.net.socket_addr.SocketAddr.{SocketAddr}
@@ -25,6 +25,7 @@ use Rattle.turn_desk_world.specs.Kept.{Kept, Protocol}
 use Rattle.turn_client_proto_stages.specs.Polling.{cadence}
 use Rattle.turn_client_proto_stages.specs.Sent.{Begins, HasRoom}
 use Rattle.turn_client_proto_stages.specs.Choosing.{HasTextName}
+use Rattle.turn_client_proto_stages.specs.Driving.{client_end}
 use Rattle.turn_client_proto_stages.specs.Stages.{created, failures}
 use Rattle.turn_desk_world.specs.declared.answer.Answer.{Answer}
 use Rattle.turn_desk_world.specs.declared.answer.Answer.TheVariants as answer
@@ -43,7 +44,7 @@ use Rattle.turn_desk_honest.specs.Scripts.{Signed, Granted, Done, Barred, Silent
 -- the second draw comes 50 ms after the first or later
 pub record IsTimely (plan : Plan) : Type 0 where
   pub apart : moment_after plan.client.made cadence ≤ plan.second
-  pub in_range : plan.second ≤ 2 ^ 62
+  pub in_range : plan.second ≤ client_end
 
 -- how bytes come to a client from its server: over UDP each datagram by itself; over TCP in a stream, of which this
 -- front of a message has come
@@ -153,9 +154,9 @@ pub record IsTurnedAway (plan : Plan) (old : World) (told : List TurnEvent) (new
   pub apart : AreApart plan.client.config old.desk.auth
   pub held : HasClient plan [] new (λ p. (relayed_shown p.allocations ≡ []) × TellsWhole told (failures plan.client) p)
   pub granted : new.desk.grants ≡ old.desk.grants
-  pub quiet : (now : ℕ) (ret : Answer) (next : World) → now ≤ 2 ^ 62 → IsStep (Draw now) new ret next
+  pub quiet : (now : ℕ) (ret : Answer) (next : World) → now ≤ client_end → IsStep (Draw now) new ret next
       → ret ≡ answer.Nothing
-  pub closed : (now : ℕ) (ret : Answer) (next : World) → now ≤ 2 ^ 62 → told ≡ failures plan.client
+  pub closed : (now : ℕ) (ret : Answer) (next : World) → now ≤ client_end → told ≡ failures plan.client
       → IsStep (Call call.Poll now) new ret next → ret ≡ answer.Closed
 
 -- what holds where a script has come to a place: until the first reply has come no event is told; behind it, it is

@@ -11,13 +11,14 @@
 
 pub mod fresh;
 
-ghost use Rattle.std.specs.Prelude.{◌≡◌, ◌≢◌, ◌++◌, ◌<◌, ◌≤◌, ◌^◌, List, [], ◌∷◌, Vec, ℕ};
+ghost use Rattle.std.specs.Prelude.{◌≡◌, ◌≢◌, ◌++◌, ◌<◌, ◌≤◌, List, [], ◌∷◌, Vec, ℕ};
 ghost use Rattle.std.specs.declared.alloc.Global.{Global};
 ghost use Rattle.std.specs.declared.net.socket_addr.SocketAddr.{SocketAddr};
 ghost use Rattle.stun_proto.specs.Schedule.{end_at};
 ghost use Rattle.stun_types.specs.declared.transport.TransportType.TheVariants.{Tcp};
 ghost use Rattle.turn_client_proto_stages.specs.Api.declared.event.TurnEvent.{TurnEvent};
 ghost use Rattle.turn_client_proto_stages.specs.Drawing.{Sent};
+ghost use Rattle.turn_client_proto_stages.specs.Driving.{client_end};
 ghost use Rattle.turn_client_proto_stages.specs.Sound.{IsWhole};
 ghost use Rattle.turn_client_proto_stages.specs.Stages.{AsksForOne, failures};
 ghost use Rattle.turn_desk_world.specs.declared.answer.Answer.{Answer};
@@ -267,13 +268,13 @@ pub fn ended_worlds_rest()
     ensures quiet { (plan : Plan) (old w v : World) (told : List TurnEvent) (ret : Answer)
         (now : ℕ)
         → IsOver plan old told w
-        → now ≤ 2 ^ 62
+        → now ≤ client_end
         → IsStep (Draw now) w ret v
         → ret ≡ Nothing }
     ensures closed { (plan : Plan) (old w v : World) (told : List TurnEvent) (ret : Answer)
         (now : ℕ)
         → IsOver plan old told w
-        → now ≤ 2 ^ 62
+        → now ≤ client_end
         → told ≡ failures plan.client
         → IsStep (Call Poll now) w ret v
         → ret ≡ Closed }
