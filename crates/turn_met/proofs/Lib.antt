@@ -1,1 +1,5 @@
-pub mod Meeting
+pub mod Beginning
+pub mod Carrying
+pub mod Leading
+pub mod Shaking
+pub mod Users

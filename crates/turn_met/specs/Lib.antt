@@ -1,1 +1,4 @@
+pub mod Exchanges
+pub mod Meetings
 pub mod Met
+pub mod Settings

@@ -1,4 +1,4 @@
-use Rattle.turn_met.proofs.Meeting.{met}
+use Rattle.turn_met.proofs.Users.{met}
 use Rattle.turn_met.proofs.standing.users_meet_their_servers.Goals as goal
 
 pub returns : goal.returns

@@ -1,0 +1,23 @@
+#!/usr/bin/env python3
+"""What `turn_met` prints: what each client and desk come to over an honest network, by RFC 8489. They come
+together if and only if they have an algorithm in common (section 9.2.5), and the client's name need not be
+hidden from a desk that takes no hash of a name (section 9.2.3)."""
+
+import itertools
+
+TRANSPORTS = ("UDP", "TCP")
+FAMILIES = ("IPV4", "IPV6")
+SUPPORTED = {"OnlySha1": {1}, "OnlySha256": {256}, "Both": {1, 256}}
+FEATURES = ("Auto", "Required", "Disabled")
+
+
+def main():
+    for row in itertools.product(TRANSPORTS, FAMILIES, SUPPORTED, SUPPORTED, FEATURES, FEATURES):
+        own, others, hides, takes = row[2:]
+        is_shown = hides == "Required" and takes == "Disabled"
+        come = SUPPORTED[own] & SUPPORTED[others] and not is_shown
+        print(f"{' '.join(row)}: {'Allocated' if come else 'TurnedAway'}")
+
+
+if __name__ == "__main__":
+    main()
