@@ -1,0 +1,20 @@
+pub mod Keeping
+pub mod Reaching
+pub mod Refreshed
+-- What stands above this crate has these through it.
+pub use Rattle.turn_client_proto_stages.specs.Allocation
+pub use Rattle.turn_client_proto_stages.specs.Api
+pub use Rattle.turn_client_proto_stages.specs.Asked
+pub use Rattle.turn_client_proto_stages.specs.Choosing
+pub use Rattle.turn_client_proto_stages.specs.Coming
+pub use Rattle.turn_client_proto_stages.specs.Drawing
+pub use Rattle.turn_client_proto_stages.specs.Driving
+pub use Rattle.turn_client_proto_stages.specs.Polling
+pub use Rattle.turn_client_proto_stages.specs.Receipts
+pub use Rattle.turn_client_proto_stages.specs.Receiving
+pub use Rattle.turn_client_proto_stages.specs.Request
+pub use Rattle.turn_client_proto_stages.specs.Sent
+pub use Rattle.turn_client_proto_stages.specs.SocketPieces
+pub use Rattle.turn_client_proto_stages.specs.Stages
+pub use Rattle.turn_types.specs.TurnRegistry
+pub use Rattle.turn_types.specs.TurnShows

@@ -1,0 +1,3 @@
+pub mod Renewals
+pub mod Turns
+pub mod Watched
