@@ -1,0 +1,24 @@
+pub mod Asking
+pub mod Holding
+pub mod Speaking
+-- What stands above this crate has these through it.
+pub use Rattle.turn_client_proto_receipt.specs.Allocation
+pub use Rattle.turn_client_proto_receipt.specs.Api
+pub use Rattle.turn_client_proto_receipt.specs.Connection
+pub use Rattle.turn_client_proto_receipt.specs.Core.Binding
+pub use Rattle.turn_client_proto_receipt.specs.Core.Permitting
+pub use Rattle.turn_client_proto_receipt.specs.Datagrams
+pub use Rattle.turn_client_proto_receipt.specs.Drawing
+pub use Rattle.turn_client_proto_receipt.specs.Indications
+pub use Rattle.turn_client_proto_receipt.specs.Members
+pub use Rattle.turn_client_proto_receipt.specs.Payload
+pub use Rattle.turn_client_proto_receipt.specs.Payloads
+pub use Rattle.turn_client_proto_receipt.specs.Permission
+pub use Rattle.turn_client_proto_receipt.specs.Polling
+pub use Rattle.turn_client_proto_receipt.specs.Receipts
+pub use Rattle.turn_client_proto_stages.specs.Coming
+pub use Rattle.turn_client_proto_stages.specs.Driving
+pub use Rattle.turn_client_proto_stages.specs.Receiving
+pub use Rattle.turn_client_proto_stages.specs.Request
+pub use Rattle.turn_client_proto_stages.specs.Sent
+pub use Rattle.turn_client_proto_stages.specs.Stages
