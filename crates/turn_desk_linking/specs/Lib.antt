@@ -1,0 +1,5 @@
+pub mod Alone
+pub mod Linked
+pub mod Links
+pub mod Joining
+pub mod Rebinding
