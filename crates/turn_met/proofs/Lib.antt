@@ -1,5 +1,16 @@
 pub mod Beginning
+pub mod Bringing
 pub mod Carrying
+pub mod Driving
+pub mod Going
+pub mod Hearing
+pub mod Indicating
+pub mod Joined
 pub mod Leading
+pub mod Passing
+pub mod Replied
 pub mod Shaking
+pub mod Streams
 pub mod Users
+pub mod Wished
+pub mod Wishing

@@ -5,30 +5,16 @@ use Rattle.std.specs.Cmp.{eq_by_cmp_equiv}
 use Rattle.std.specs.Cmp.Lexicographic.{nat_list_cmp_total, slice_cmp}
 use Rattle.std.specs.FinMap as map
 use Rattle.std.specs.FinMap.{nat_cmp-IsAntisymmetric, slice_cmp-IsAntisymmetric}
-use Rattle.std.specs.List.{list_any}
-use Rattle.std.specs.Option.{option_map}
 use Rattle.std.specs.Ordering.{is_eq, nat_cmp}
 use Rattle.std.specs.declared.cmp.Ordering.{Ordering}
 use Rattle.std.specs.declared.cmp.Ordering.TheVariants.{Less, Equal, Greater}
-use Rattle.std.specs.declared.net.socket_addr.SocketAddr.{SocketAddr}
-use Rattle.stun_types.specs.IntegrityAlgorithms.{IntegrityAlgorithm}
-use Rattle.stun_types.specs.SocketAddrs.{socket_addr_cmp, socket_addr_cmp_total}
-use Rattle.stun_proto.specs.Features.{Feature}
-use Rattle.stun_proto.specs.Server.{Client, Server}
-use Rattle.stun_proto.specs.SupportedAlgorithms.{is_same_algorithm}
+use Rattle.stun_proto.specs.Server.{Server}
 use Rattle.stun_proto.specs.Users.{HashesDiffer}
-use Rattle.turn_desk_handshake.specs.Handshakes.{IsOfServer}
-use Rattle.turn_met.specs.Met.{keeping, standing}
 
 -- ---- one user alone
 
 abbrev alone : (name password : List ℕ) → map.FinMap (slice_cmp nat_cmp) (List ℕ)
 alone name password = map.insert map.empty name password
-
-put_client : (from : SocketAddr) (kept : Client) → map.get {R = socket_addr_cmp} (map.insert map.empty from kept) from ≡ Some kept
-put_client from kept =
-    let same : is_eq (socket_addr_cmp from from) ≡ true = (eq_by_cmp_equiv socket_addr_cmp_total).refl from in
-    map.get-insert socket_addr_cmp_total map.empty from kept from ∙ ap (λ b. cond b (Some kept) (map.get {R = socket_addr_cmp} map.empty from)) same
 
 pub put_user : (name password : List ℕ) → map.get {R = slice_cmp nat_cmp} (map.insert map.empty name password) name ≡ Some password
 put_user name password =
@@ -57,15 +43,3 @@ pub differ : (server : Server) (name password : List ℕ) → server.users ≡ m
 differ server name password is = λ a b one two same.
     none_else name password a (subst (λ (m : map.FinMap (slice_cmp nat_cmp) (List ℕ)). IsSome (map.get m a)) is one)
     ∙ sym (none_else name password b (subst (λ (m : map.FinMap (slice_cmp nat_cmp) (List ℕ)). IsSome (map.get m b)) is two))
-
--- ---- a server that keeps a nonce for its user's address
-
-pub met : (name password realm nonce : List ℕ) (from : SocketAddr) (algorithms : List IntegrityAlgorithm) (choice : IntegrityAlgorithm) (anonymous : Feature) → list_any (is_same_algorithm choice) algorithms ≡ true
-    → IsOfServer (keeping name password realm nonce from algorithms anonymous) from (standing name password realm nonce algorithms choice)
-met name password realm nonce from algorithms choice anonymous among = record {
-  present = put_user name password;
-  realm = refl;
-  nonce = ap (option_map (λ (c : Client). c.nonce)) (put_client from (record { nonce = nonce; drawn = 0; outcome = None }));
-  offered = refl;
-  choice = among;
-}

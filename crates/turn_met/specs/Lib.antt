@@ -1,4 +1,8 @@
+pub mod Connections
+pub mod Courses
 pub mod Exchanges
 pub mod Meetings
-pub mod Met
+pub mod Payloads
+pub mod Replies
 pub mod Settings
+pub mod Wishes

@@ -70,7 +70,7 @@ pub(crate) fn meet(
 }
 
 /// Carries messages between the client and the desk of a world over an honest network: the client is drawn twice.
-fn shake(
+pub(crate) fn shake(
     alloc: Global,
     world: &mut World,
     made: Instant,
@@ -123,7 +123,7 @@ fn decision_for(alloc: Global, address: SocketAddr) -> Result<Decision, NoMemory
 }
 
 /// A new client and a new desk of these settings.
-fn world_of(alloc: Global, setting: &Setting<'_>) -> Result<World, NoMemory>
+pub(crate) fn world_of(alloc: Global, setting: &Setting<'_>) -> Result<World, NoMemory>
     requires name { length setting.now.name.now ≤ longest_username }
     requires realm { length setting.now.realm.now ≤ longest_text }
     ensures { IfOk result (λ world. IsFresh (plan_of setting.now) world) }
