@@ -21,9 +21,10 @@ use Rattle.turn_desk_world.specs.declared.event.Event.{Event}
 use Rattle.turn_desk_world.specs.declared.event.Event.TheVariants.{Call, Draw, ToClient, ToDesk}
 use Rattle.turn_desk_world.specs.Model.{World}
 use Rattle.turn_desk_world.specs.Runs.{IsRun}
-use Rattle.turn_met.specs.Courses.{HasGoneBy, HasKept, IsAnew, IsCourse, IsDrivenTo, IsLed, IsRefreshed, IsRest, IsShown, IsTaken, IsWait}
+use Rattle.turn_met.specs.Courses.{HasGoneBy, HasKept, IsAnew, IsCourse, IsDrivenTo, IsLed, IsRefreshed, IsRest, IsShown, IsWait}
 use Rattle.turn_met.specs.Exchanges.{Happened}
 use Rattle.turn_met.specs.Meetings.{HasMet}
+use Rattle.turn_met.specs.Replies.{IsTaken}
 use Rattle.turn_met.specs.declared.meeting.Outcome.TheVariants as outcome
 use Rattle.turn_met.specs.declared.meeting.TheConstants.{LIFETIME, SECOND}
 use Rattle.turn_met.specs.declared.renewing.Kept.{Kept}
@@ -84,12 +85,12 @@ module _ (plan : Plan) where
 
     takes : (w v : World) (now until : ℕ) → Watched w until → IsTaken now w v → Watched v until
     takes w v now until is taken = record {
-      s = record is.s { told = (looked is.s taken.0).0 };
+      s = record is.s { told = (looked is.s taken.ret).0 };
       from_is = is.from_is;
       lifetime_is = is.lifetime_is;
       awaited = is.awaited;
-      led = one_more start w v at (Watching is.s) (Watching (record is.s { told = (looked is.s taken.0).0 })) (Call call.PollEvent now) taken.0 is.led taken.1
-          (Looks call.PollEvent now tt refl (sym (looked is.s taken.0).1));
+      led = one_more start w v at (Watching is.s) (Watching (record is.s { told = (looked is.s taken.ret).0 })) (Call call.PollEvent now) taken.ret is.led taken.step
+          (Looks call.PollEvent now tt refl (sym (looked is.s taken.ret).1));
     }
 
     draws_nothing : (w v : World) (now : ℕ) → now ≤ client_end → Watched w now → Happened (Draw now) w answer.Nothing v → Watched v now

@@ -7,8 +7,9 @@ use Rattle.turn_desk_world.specs.declared.answer.Answer.TheVariants as answer
 use Rattle.turn_desk_world.specs.declared.decision.Decision.TheVariants as by
 use Rattle.turn_desk_world.specs.declared.event.Event.TheVariants.{Draw}
 use Rattle.turn_desk_world.specs.Model.{World}
-use Rattle.turn_met.specs.Courses.{IsCourse, IsGiven, IsGranted, IsRefreshed, IsRest, IsShown, IsStill, IsTaken, IsWait, Where}
+use Rattle.turn_met.specs.Courses.{IsCourse, IsGiven, IsGranted, IsRefreshed, IsRest, IsShown, IsStill, IsWait, Where}
 use Rattle.turn_met.specs.Exchanges.{Happened, IsAsked}
+use Rattle.turn_met.specs.Replies.{IsTaken}
 use Rattle.turn_met.specs.declared.meeting.TheConstants.{LIFETIME, SECOND}
 use Rattle.turn_met.specs.declared.renewing.TheConstants.{AGAIN, DUE}
 

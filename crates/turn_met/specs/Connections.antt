@@ -1,6 +1,6 @@
 -- A client that has met a desk over TCP is asked for a connection to a peer, and binds it (RFC 8656, section 10; RFC
 -- 6062, section 4.3).
-use Rattle.std.specs.Prelude.{◌≡◌, ℕ, List, [], Some, replicate}
+use Rattle.std.specs.Prelude.{ℕ, List, [], Some, replicate}
 use Rattle.std.specs.Net.Socket.{socket_ip}
 use Rattle.std.specs.declared.net.socket_addr.SocketAddr.{SocketAddr}
 use Rattle.stun_types.specs.declared.transport.TransportType.TheVariants.{Tcp}

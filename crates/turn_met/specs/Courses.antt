@@ -22,6 +22,7 @@ use Rattle.turn_desk_world.specs.Model.{World}
 use Rattle.turn_desk_world.specs.Runs.{IsRun}
 use Rattle.turn_met.specs.Exchanges.{Happened, IsAnswered}
 use Rattle.turn_met.specs.Meetings.{HasMet}
+use Rattle.turn_met.specs.Replies.{IsTaken}
 use Rattle.turn_met.specs.declared.meeting.Outcome.TheVariants as outcome
 use Rattle.turn_met.specs.declared.meeting.TheConstants.{LIFETIME, SECOND}
 use Rattle.turn_met.specs.declared.renewing.Kept.{Kept}
@@ -34,10 +35,6 @@ Where true A = A
 Where false A = Unit {0}
 
 -- ---- what happens
-
--- an event was taken, or none waited
-abbrev pub IsTaken : (now : ℕ) → (old new : World) → Type 0
-IsTaken now old new = (ret : Answer) × Happened (Call call.PollEvent now) old ret new
 
 -- the client was polled, and awaits a moment that isn't before this one
 pub record IsWait (now due : ℕ) (old new : World) : Type 0 where

@@ -1,6 +1,6 @@
 -- What a client is asked, and how a desk replies to what it sends: each message is delivered once, unaltered, at the
 -- moment at which the client was drawn.
-use Rattle.std.specs.Prelude.{◌≡◌, ℕ, List, [], ◌∷◌, IsSome, Vec}
+use Rattle.std.specs.Prelude.{◌≡◌, ℕ, List, IsSome, Vec}
 use Rattle.std.specs.declared.alloc.Global.{Global}
 use Rattle.std.specs.declared.net.socket_addr.SocketAddr.{SocketAddr}
 use Rattle.stun_proto.specs.Challenges.{challenge_shown}

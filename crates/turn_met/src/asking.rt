@@ -1,32 +1,26 @@
 //! A client that has met a desk over an honest network is asked for a permission or a channel, which the desk
 //! grants: and so all that the law on what is asked for takes for granted (RFC 8656, sections 10 to 12).
 
-ghost use Rattle.std.specs.Prelude.{◌≡◌, ◌≤◌, length, IfOk, IsTrue};
+ghost use Rattle.std.specs.Prelude.{◌≡◌, ◌≤◌, length, IfOk};
 ghost use Rattle.std.specs.Net.Socket.{socket_ip};
-ghost use Rattle.stun_types.specs.Attributes.{kind_at};
 ghost use Rattle.stun_types.specs.Family.{family_of_socket};
-ghost use Rattle.stun_types.specs.MessageClasses.{Success};
 ghost use Rattle.stun_types.specs.Registry.{longest_text, longest_username};
-ghost use Rattle.stun_types.specs.Types.{class_of};
 ghost use Rattle.stun_types.specs.declared.transport.TransportType.TheVariants.{Udp};
 ghost use Rattle.turn_client_proto_stages.specs.Sound.{IsWhole};
 ghost use Rattle.turn_desk_honest.specs.Promises.{IsFresh};
-ghost use Rattle.turn_desk_world.specs.declared.answer.Answer.TheVariants.{Done, Nothing};
-ghost use Rattle.turn_desk_world.specs.declared.event.Event.TheVariants.{Draw};
 ghost use Rattle.turn_desk_world.specs.Model.{World as WorldModel};
-ghost use Rattle.turn_met.specs.Exchanges.{Happened};
 ghost use Rattle.turn_met.specs.Meetings.{plan_of};
 ghost use Rattle.turn_met.specs.Payloads.{IsHeard, IsReceived, indication, peer};
 ghost use Rattle.turn_met.specs.Wishes.{IsBound, IsBrought, IsGiven, IsMet, IsPermitted, IsSent};
 
 use crate::exchange::happen;
 use crate::meeting::{Outcome, SECOND, shake, world_of};
+use crate::replying::{calls, draws_nothing, is_success};
 use crate::setting::Setting;
 use std::alloc::Global;
 use std::net::{IpAddr, Ipv4Addr, SocketAddr};
 use stun_proto::Instant;
 use stun_types::data::Data;
-use stun_types::message::{Message, MessageClass};
 use stun_types::{NoMemory, Transmit, TransportType};
 use turn_desk_asking::asked_things_are_held;
 use turn_desk_honest::honest_runs_allocate;
@@ -245,31 +239,10 @@ fn ask(
     ensures { IfOk result (λ wish. IsMet what here server world.old wish world.new) }
 {
     let called = Instant::from_nanos(CALLED);
-    if rests(world, called)? && is_done(world, Event::Call(what, called))? {
+    if draws_nothing(world, called)? && calls(world, what, called)? {
         send(alloc, world, here, server)
     } else {
         Ok(Wish::Unheld)
-    }
-}
-
-/// Whether the client is drawn and has nothing to send.
-fn rests(world: &mut World, now: Instant) -> Result<bool, NoMemory>
-    ensures { IfOk result (λ rests.
-        IsTrue rests → Happened (Draw now) world.old Nothing world.new) }
-{
-    match happen(world, Event::Draw(now))? {
-        Answer::Nothing => Ok(true),
-        _ => Ok(false),
-    }
-}
-
-/// Whether an event is answered by `Done`.
-fn is_done(world: &mut World, event: Event) -> Result<bool, NoMemory>
-    ensures { IfOk result (λ is_done. IsTrue is_done → Happened event world.old Done world.new) }
-{
-    match happen(world, event)? {
-        Answer::Done => Ok(true),
-        _ => Ok(false),
     }
 }
 
@@ -331,14 +304,4 @@ fn give(
     };
     happen(world, given)?;
     Ok(Wish::Held)
-}
-
-/// Whether bytes are a message that is a success.
-fn is_success(bytes: &[u8]) -> bool
-    ensures { IsTrue result → class_of (kind_at bytes.now) ≡ Success }
-{
-    match Message::from_bytes(bytes) {
-        Ok(message) => message.has_class(MessageClass::Success),
-        Err(_) => false,
-    }
 }

@@ -1,31 +1,25 @@
 //! A client that met a desk keeps the address that it was allocated: it renews it in time.
 
 ghost use Rattle.std.specs.Prelude.{◌≡◌, ◌≤◌, length, IfOk};
-ghost use Rattle.stun_types.specs.Attributes.{kind_at};
 ghost use Rattle.stun_types.specs.Family.{family_of_socket};
-ghost use Rattle.stun_types.specs.MessageClasses.{Success};
 ghost use Rattle.stun_types.specs.Registry.{longest_text, longest_username};
-ghost use Rattle.stun_types.specs.Types.{class_of};
 ghost use Rattle.turn_client_proto_stages.specs.Sound.{IsWhole};
 ghost use Rattle.turn_client_proto_stages.specs.Stages.{AsksForOne};
 ghost use Rattle.turn_desk_honest.specs.Promises.{IsFresh};
 ghost use Rattle.turn_desk_honest.specs.Scripts.{Plan};
-ghost use Rattle.turn_desk_world.specs.declared.answer.Answer.TheVariants.{Nothing};
-ghost use Rattle.turn_desk_world.specs.declared.event.Event.TheVariants.{Draw};
 ghost use Rattle.turn_desk_world.specs.Model.{World as WorldModel};
 ghost use Rattle.turn_met.specs.Courses.{HasGoneBy, HasKept, IsGiven, IsGranted, IsRefreshed};
-ghost use Rattle.turn_met.specs.Courses.{IsRest, IsShown, IsStill, IsTaken, IsWait, Where};
-ghost use Rattle.turn_met.specs.Exchanges.{Happened};
+ghost use Rattle.turn_met.specs.Courses.{IsRest, IsShown, IsStill, IsWait, Where};
 ghost use Rattle.turn_met.specs.Meetings.{plan_of};
 
 use crate::exchange::happen;
 use crate::meeting::{LIFETIME, Outcome, SECOND, shake, world_of};
+use crate::replying::{draws_nothing, is_success, takes};
 use crate::setting::Setting;
 use std::alloc::Global;
 use std::net::SocketAddr;
 use stun_proto::Instant;
 use stun_types::data::Data;
-use stun_types::message::{Message, MessageClass};
 use stun_types::{NoMemory, Transmit};
 use turn_desk_renewing::renewed_in_time;
 use turn_desk_world::answer::Answer;
@@ -110,30 +104,12 @@ fn wait_and_renew(alloc: Global, world: &mut World, address: SocketAddr) -> Resu
 fn rest(world: &mut World, now: Instant, due: Instant) -> Result<bool, NoMemory>
     ensures { IfOk result (λ rests. Where rests (IsRest now due world.old world.new)) }
 {
-    take(world, now)?;
-    take(world, now)?;
-    if draw_nothing(world, now)? {
+    takes(world, now)?;
+    takes(world, now)?;
+    if draws_nothing(world, now)? {
         wait(world, now, due)
     } else {
         Ok(false)
-    }
-}
-
-/// Takes an event, where one waits.
-fn take(world: &mut World, now: Instant) -> Result<(), NoMemory>
-    ensures { IfOk result (λ taken. IsTaken now world.old world.new) }
-{
-    happen(world, Event::Call(ClientCall::PollEvent, now))?;
-    Ok(())
-}
-
-/// Draws the client: whether it sends nothing.
-fn draw_nothing(world: &mut World, now: Instant) -> Result<bool, NoMemory>
-    ensures { IfOk result (λ none. Where none (Happened (Draw now) world.old Nothing world.new)) }
-{
-    match happen(world, Event::Draw(now))? {
-        Answer::Nothing => Ok(true),
-        _ => Ok(false),
     }
 }
 
@@ -200,16 +176,6 @@ fn give(
     };
     happen(world, given)?;
     Ok(true)
-}
-
-/// Whether a message is a success response.
-fn is_success(bytes: &[u8]) -> bool
-    ensures { Where result (class_of (kind_at bytes.now) ≡ Success) }
-{
-    match Message::from_bytes(bytes) {
-        Ok(message) => message.has_class(MessageClass::Success),
-        Err(_) => false,
-    }
 }
 
 /// Polls the client at a later moment, and asks it what it holds: whether it's this address.

@@ -1,7 +1,13 @@
 //! What a client is asked, and how a desk replies to what it sends.
 
 ghost use Rattle.std.specs.Prelude.{◌≡◌, IfOk, IsSome, IsTrue};
+ghost use Rattle.stun_types.specs.Attributes.{kind_at};
+ghost use Rattle.stun_types.specs.MessageClasses.{Success};
+ghost use Rattle.stun_types.specs.Types.{class_of};
 ghost use Rattle.stun_proto.specs.Challenges.{asks_again, challenge_shown};
+ghost use Rattle.turn_desk_world.specs.declared.answer.Answer.TheVariants.{Nothing};
+ghost use Rattle.turn_desk_world.specs.declared.event.Event.TheVariants.{Draw};
+ghost use Rattle.turn_met.specs.Exchanges.{Happened};
 ghost use Rattle.turn_met.specs.Replies.{IsBrought, IsCall, IsGiven, IsKind, IsPoll, IsReplied, IsTaken};
 
 use crate::exchange::happen;
@@ -44,6 +50,17 @@ pub(crate) fn takes(world: &mut World, now: Instant) -> Result<(), NoMemory>
 {
     happen(world, Event::Call(ClientCall::PollEvent, now))?;
     Ok(())
+}
+
+/// Draws a client: whether it has nothing to send.
+pub(crate) fn draws_nothing(world: &mut World, now: Instant) -> Result<bool, NoMemory>
+    ensures { IfOk result (λ none.
+        IsTrue none → Happened (Draw now) world.old Nothing world.new) }
+{
+    match happen(world, Event::Draw(now))? {
+        Answer::Nothing => Ok(true),
+        _ => Ok(false),
+    }
 }
 
 /// Polls a client: whether it asks for a socket.
@@ -113,6 +130,16 @@ fn give(
     };
     happen(world, given)?;
     Ok(kind)
+}
+
+/// Whether bytes are a message that is a success.
+pub(crate) fn is_success(bytes: &[u8]) -> bool
+    ensures { IsTrue result → class_of (kind_at bytes.now) ≡ Success }
+{
+    match Message::from_bytes(bytes) {
+        Ok(message) => message.has_class(MessageClass::Success),
+        Err(_) => false,
+    }
 }
 
 /// What bytes of a desk are.
