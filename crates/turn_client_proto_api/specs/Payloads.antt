@@ -1,5 +1,5 @@
 -- The payload of a peer, where it stands.
-use Rattle.std.specs.Prelude.{ℕ, List, Bool, true, false, take, drop}
+use Rattle.std.specs.Prelude.{ℕ, List, Option, Some, None, take, drop}
 use Rattle.std.specs.declared.net.socket_addr.SocketAddr.{SocketAddr}
 use Rattle.stun_types.specs.declared.transport.TransportType.{TransportType}
 use Rattle.turn_client_proto_api.specs.declared.data.DataRangeOrOwned.{DataRangeOrOwned}
@@ -14,14 +14,15 @@ abbrev pub held_bytes : {T : Type 0} → (T → List ℕ) → DataRangeOrOwned T
 held_bytes items (Range bytes range) = part_of (items bytes) range.start range.end
 held_bytes items (Owned bytes) = bytes.items
 
--- whether they are owned
-abbrev pub is_held_owned : {T : Type 0} → DataRangeOrOwned T → Bool
-is_held_owned (Range _ _) = false
-is_held_owned (Owned _) = true
+-- from which place of the owner's bytes up to which they stand; owned ones stand nowhere
+abbrev pub held_place : {T : Type 0} → DataRangeOrOwned T → Option (ℕ × ℕ)
+held_place (Range _ range) = Some (range.start, range.end)
+held_place (Owned _) = None
 
--- a payload, whether it is owned, and the peer that it came from, with the transport between the server and it
+-- a payload, from which place of the bytes that came up to which it stands, unless its bytes are owned, and the peer that
+-- it came from, with the transport between the server and it
 pub record PeerPayload : Type 0 where
   pub payload : List ℕ
-  pub is_owned : Bool
+  pub place : Option (ℕ × ℕ)
   pub transport : TransportType
   pub peer : SocketAddr

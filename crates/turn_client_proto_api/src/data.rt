@@ -1,8 +1,8 @@
 //! The payload of a peer, where it stands: in the bytes that came, or in a vector of its own.
 
-ghost use Rattle.std.specs.Prelude.{◌≡◌, IfOk, true};
+ghost use Rattle.std.specs.Prelude.{◌≡◌, IfOk, None};
 ghost use Rattle.std.specs.Result.{IsOk};
-ghost use Rattle.turn_client_proto_api.specs.Payloads.{held_bytes, is_held_owned, part_of};
+ghost use Rattle.turn_client_proto_api.specs.Payloads.{held_bytes, held_place, part_of};
 
 use std::alloc::Global;
 use std::convert::AsSlice;
@@ -60,13 +60,13 @@ pub struct TurnPeerData<T: AsSlice<u8>> {
 }
 
 impl<T: AsSlice<u8>> Model for TurnPeerData<T> {
-    ghost use Rattle.turn_client_proto_api.specs.Payloads.{PeerPayload, held_bytes, is_held_owned};
+    ghost use Rattle.turn_client_proto_api.specs.Payloads.{PeerPayload, held_bytes, held_place};
 
     ghost Value = { PeerPayload };
 
     ghost view = { λ d. record {
       payload = held_bytes T.items d.held;
-      is_owned = is_held_owned d.held;
+      place = held_place d.held;
       transport = d.transport;
       peer = d.peer;
     } };
@@ -81,7 +81,7 @@ impl<T: AsSlice<u8> + Debug + Drop> TurnPeerData<T> {
     ) -> TurnPeerData<T>
         ensures { result ≡ record {
           payload = held_bytes T.items held;
-          is_owned = is_held_owned held;
+          place = held_place held;
           transport = transport;
           peer = peer;
         } }
@@ -100,6 +100,14 @@ impl<T: AsSlice<u8> + Debug + Drop> TurnPeerData<T> {
         self.held.as_slice()
     }
 
+    /// The payload where it stands: in the bytes that came, or in a vector of its own.
+    pub fn into_data(self) -> DataRangeOrOwned<T>
+        ensures bytes { held_bytes T.items result ≡ self.payload }
+        ensures place { held_place result ≡ self.place }
+    {
+        self.held
+    }
+
     /// The payload, as `data`.
     pub fn as_slice(&self) -> &[u8]
         ensures { result.now ≡ self.now.payload }
@@ -113,8 +121,8 @@ impl<T: AsSlice<u8> + Debug + Drop> TurnPeerData<T> {
         self,
         alloc: Global,
     ) -> Result<TurnPeerData<R>, NoMemory>
-        ensures value { IfOk result (λ owned. owned ≡ record self { is_owned = true }) }
-        ensures stays { self.is_owned ≡ true → IsOk result }
+        ensures value { IfOk result (λ owned. owned ≡ record self { place = None }) }
+        ensures stays { self.place ≡ None → IsOk result }
     {
         let TurnPeerData {
             held,

@@ -51,17 +51,17 @@ abbrev TakenAs : Option Connection → Protocol → Option PeerPayload → Proto
 TakenAs o old given new = MatchOption o ((given ≡ None) × (new ≡ old)) (λ c. IsRawGiven c old given new)
 
 module _ (old new : Protocol) (is : new ≡ record old { allocations = emptied old.allocations }) where
-  pub some_taken : (peer : SocketAddr) (bytes : List ℕ) → Some (peer, bytes) ≡ option_map kept_of (raw_waiting old) → IsWaitingTaken old (Some (record { payload = bytes; is_owned = true; transport = Tcp; peer = peer })) new
+  pub some_taken : (peer : SocketAddr) (bytes : List ℕ) → Some (peer, bytes) ≡ option_map kept_of (raw_waiting old) → IsWaitingTaken old (Some (record { payload = bytes; place = None; transport = Tcp; peer = peer })) new
   some_taken peer bytes given = by (raw_waiting old) given
     where
       found : PeerPayload
-      found = record { payload = bytes; is_owned = true; transport = Tcp; peer = peer }
+      found = record { payload = bytes; place = None; transport = Tcp; peer = peer }
 
       by : (o : Option Connection) → Some (peer, bytes) ≡ option_map kept_of o → TakenAs o old (Some found) new
       by None given = absurd (Prim.cc given)
       by (Some c) given =
           let same : (peer, bytes) ≡ kept_of c = Prim.cc given in
-          record { gives = ap (λ (p : SocketAddr × List ℕ). Some (record { payload = p.1; is_owned = true; transport = Tcp; peer = p.0 })) same; after = is }
+          record { gives = ap (λ (p : SocketAddr × List ℕ). Some (record { payload = p.1; place = None; transport = Tcp; peer = p.0 })) same; after = is }
 
   pub none_taken : None ≡ option_map kept_of (raw_waiting old) → IsWaitingTaken old None new
   none_taken given = by (raw_waiting old) refl given

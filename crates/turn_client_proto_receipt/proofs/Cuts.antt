@@ -18,7 +18,7 @@ use Rattle.turn_client_proto_receipt.specs.HandingIn.{IsFrameTaken, IsHandedIn, 
 use Rattle.stun_types.specs.Grammar.{refusal}
 use Rattle.turn_client_proto_receipt.specs.Datagrams.{IsHandledAs}
 use Rattle.turn_client_proto_receipt.specs.Kept.{Kept}
-use Rattle.turn_client_proto_receipt.specs.Pieces.{Behind, Broken, First, IsAnsweredBehind, IsFirstTaken, IsFrameHandled, IsHandedAs, IsPieceTaken, Lost, Takes, Waits, apart, data_given, data_taken, owned_if}
+use Rattle.turn_client_proto_receipt.specs.Pieces.{Behind, Broken, First, IsAnsweredBehind, IsFirstTaken, IsFrameHandled, IsHandedAs, IsPieceTaken, Lost, Takes, Waits, apart, data_given, data_taken, placed}
 use Rattle.turn_client_proto_receipt.specs.Pulls.{AreFed, Ends, Gives, Goes, IsDrained, IsPulled, Last, More, frame_of}
 use Rattle.turn_client_proto_receipt.specs.Receipts.{End, IsAskedFor, IsGivenBy, IsOfStream, IsReceivedBy, IsStreamed, Piece, Strange}
 use Rattle.turn_client_proto_receipt.specs.SocketPieces.{raw_waiting}
@@ -61,18 +61,18 @@ gave old frame now payload is = by (payload_of old frame) is
     by (Some found) is = (ap Given (sym (Prim.cc is)), refl)
 
 -- data in a vector of its own
-own_data : (frame : List ℕ) (payload : Payload) (p : PeerPayload) → Some p ≡ data_given frame payload → owned_if true p ≡ p
+own_data : (frame : List ℕ) (payload : Payload) (p : PeerPayload) → Some p ≡ data_given frame payload → placed None p ≡ p
 own_data frame (Data transport peer start end) p is = let same : p ≡ apart frame transport peer start end = Prim.cc is in rw same refl
 own_data frame (Report transport peer report) p is = absurd (Prim.cc is)
 own_data frame (Framed number transport peer start end) p is = let same : p ≡ apart frame transport peer start end = Prim.cc is in rw same refl
 
-own_taken : (frame : List ℕ) (taken : Taken) (p : PeerPayload) → Some p ≡ data_taken frame taken → owned_if true p ≡ p
+own_taken : (frame : List ℕ) (taken : Taken) (p : PeerPayload) → Some p ≡ data_taken frame taken → placed None p ≡ p
 own_taken frame (Given payload) p is = own_data frame payload p is
 own_taken frame Handled p is = absurd (Prim.cc is)
 own_taken frame Ignored p is = absurd (Prim.cc is)
 own_taken frame Garbled p is = absurd (Prim.cc is)
 
-own_pulled : (now : ℕ) (stream : Stream) (state : Protocol) (given : Option PeerPayload) (left : Stream) (after : Protocol) → IsPulled (IsFrameHandled now) stream state given left after → (p : PeerPayload) → given ≡ Some p → owned_if true p ≡ p
+own_pulled : (now : ℕ) (stream : Stream) (state : Protocol) (given : Option PeerPayload) (left : Stream) (after : Protocol) → IsPulled (IsFrameHandled now) stream state given left after → (p : PeerPayload) → given ≡ Some p → placed None p ≡ p
 own_pulled now _ _ _ _ _ (Ends stream state none) p is = absurd (Prim.cc is)
 own_pulled now _ _ _ _ _ (Gives stream state payload after some holds) p is = own_taken (frame_of stream) holds.taken p (sym is ∙ holds.gives)
 own_pulled now _ _ _ _ _ (Goes stream state middle given left after some holds more) p is = own_pulled now (after_look stream) middle given left after more p is

@@ -52,10 +52,10 @@ part_of_front n bytes start end less = ap (λ (l : List ℕ). drop start l) (fro
 pub handed_as : {T : Type 0} (items : T → List ℕ) (came : Transmit T) (answer : TurnRecvRet T) (n : ℕ) (payload : Payload) → end_of payload ≤ length (take n (items came.bytes)) → IsHandedOver items came payload answer
     → IsHandedAs false (take n (items came.bytes)) payload answer
 handed_as items came answer n (Data transport peer start end) within is =
-    is ∙ ap (λ (l : List ℕ). recv.PeerData (record { payload = l; is_owned = false; transport = transport; peer = peer })) (sym (part_of_front n (items came.bytes) start end within))
+    is ∙ ap (λ (l : List ℕ). recv.PeerData (record { payload = l; place = Some (start, end); transport = transport; peer = peer })) (sym (part_of_front n (items came.bytes) start end within))
 handed_as items came answer n (Report transport peer report) within is = is
 handed_as items came answer n (Framed number transport peer start end) within is =
-    is ∙ ap (λ (l : List ℕ). recv.PeerData (record { payload = l; is_owned = false; transport = transport; peer = peer })) (sym (part_of_front n (items came.bytes) start end within))
+    is ∙ ap (λ (l : List ℕ). recv.PeerData (record { payload = l; place = Some (start, end); transport = transport; peer = peer })) (sym (part_of_front n (items came.bytes) start end within))
 
 -- ---- what was given
 

@@ -1,5 +1,5 @@
 -- Pieces of a stream, one after another, and all that they give.
-use Rattle.std.specs.Prelude.{◌≡◌, ◌≢◌, ℕ, true, List, [], ◌∷◌, ◌++◌, map, Some, None}
+use Rattle.std.specs.Prelude.{◌≡◌, ◌≢◌, ℕ, List, [], ◌∷◌, ◌++◌, map, Some, None}
 use Rattle.stun_types.specs.declared.transmit.Transmit.{Transmit}
 use Rattle.turn_types.specs.Streams.{alive, fed}
 use Rattle.turn_client_proto_steps.specs.Api.Payloads.{PeerPayload}
@@ -7,13 +7,13 @@ use Rattle.turn_client_proto_steps.specs.Api.declared.answer.TurnRecvRet.{TurnRe
 use Rattle.turn_client_proto_steps.specs.Api.declared.answer.TurnRecvRet.TheVariants.{Handled, Ignored, NoMemory, PeerData, PeerIcmp}
 use Rattle.turn_client_proto_receipt.specs.Control.{Open}
 use Rattle.turn_client_proto_receipt.specs.Kept.{Kept}
-use Rattle.turn_client_proto_receipt.specs.Pieces.{owned_if}
+use Rattle.turn_client_proto_receipt.specs.Pieces.{placed}
 use Rattle.turn_client_proto_receipt.specs.Receipts.{IsOfStream, IsReceived, IsWaitingGiven}
 use Rattle.turn_client_proto_receipt.specs.SocketPieces.{raw_waiting}
 
 -- the data that `recv` answers, wherever it stands; reports in ICMP aside
 abbrev pub data_answered : {T : Type 0} → TurnRecvRet T → List PeerPayload
-data_answered (PeerData given) = owned_if true given ∷ []
+data_answered (PeerData given) = placed None given ∷ []
 data_answered (PeerIcmp transport peer kind code details) = []
 data_answered Handled = []
 data_answered (Ignored came) = []

@@ -26,7 +26,7 @@ pub record IsOfServer {T : Type 0} (p : Protocol) (came : Transmit T) : Type 0 w
 -- the bytes from a place up to another of those that came, where they stand, as a payload of a peer
 abbrev pub in_place : List ℕ → TransportType → SocketAddr → (start end : ℕ) → PeerPayload
 in_place bytes transport peer start end =
-    record { payload = part_of bytes start end; is_owned = false; transport = transport; peer = peer }
+    record { payload = part_of bytes start end; place = Some (start, end); transport = transport; peer = peer }
 
 -- it is given so
 abbrev pub IsHandedOver : {T : Type 0} → (T → List ℕ) → Transmit T → Payload → TurnRecvRet T → Type 0

@@ -1,5 +1,5 @@
 -- What a client makes of the stream that comes from its server over TCP (RFC 8656, section 12.5).
-use Rattle.std.specs.Prelude.{◌≡◌, ◌≢◌, ◌⊎◌, ⊤, ℕ, Bool, true, false, List, [], Option, Some, None}
+use Rattle.std.specs.Prelude.{◌≡◌, ◌≢◌, ◌⊎◌, ⊤, ℕ, Bool, true, false, List, [], Option, Some, None, if◌then◌else◌}
 use Rattle.std.specs.declared.net.socket_addr.SocketAddr.{SocketAddr}
 use Rattle.stun_types.specs.Grammar.{refusal}
 use Rattle.stun_types.specs.declared.transmit.Transmit.{Transmit}
@@ -26,7 +26,7 @@ use Rattle.turn_client_proto_receipt.specs.declared.handing.Taken.TheVariants.{G
 -- the bytes from a place up to another of a frame, in a vector of their own, as a payload of a peer
 abbrev pub apart : List ℕ → TransportType → SocketAddr → (start end : ℕ) → PeerPayload
 apart frame transport peer start end =
-    record { payload = part_of frame start end; is_owned = true; transport = transport; peer = peer }
+    record { payload = part_of frame start end; place = None; transport = transport; peer = peer }
 
 -- the data that a frame carries of a peer; a report is none
 abbrev pub data_given : List ℕ → Payload → Option PeerPayload
@@ -83,16 +83,19 @@ IsTakenOff now stream old (Some given) left new =
 -- ---- what is answered to a piece
 
 -- what a frame gives is given by where it stands in the piece, or in a vector of its own
-abbrev pub owned_if : Bool → PeerPayload → PeerPayload
-owned_if owned given = record given { is_owned = owned }
+abbrev pub placed : Option (ℕ × ℕ) → PeerPayload → PeerPayload
+placed place given = record given { place = place }
+
+abbrev pub place_if : Bool → (start end : ℕ) → Option (ℕ × ℕ)
+place_if owned start end = if owned then None else Some (start, end)
 
 abbrev pub IsHandedAs : {T : Type 0} → Bool → List ℕ → Payload → TurnRecvRet T → Type 0
 IsHandedAs owned frame (Data transport peer start end) answer =
-    answer ≡ recv.PeerData (owned_if owned (apart frame transport peer start end))
+    answer ≡ recv.PeerData (placed (place_if owned start end) (apart frame transport peer start end))
 IsHandedAs owned frame (Report transport peer report) answer =
     answer ≡ recv.PeerIcmp transport peer report.icmp_type report.code report.details
 IsHandedAs owned frame (Framed number transport peer start end) answer =
-    answer ≡ recv.PeerData (owned_if owned (apart frame transport peer start end))
+    answer ≡ recv.PeerData (placed (place_if owned start end) (apart frame transport peer start end))
 
 module _ {T : Type 0} where
   -- what a frame gives is given in a vector of its own, where it doesn't stand in the piece; or memory was refused for

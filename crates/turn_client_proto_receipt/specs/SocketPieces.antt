@@ -1,5 +1,5 @@
 -- What a client makes of what comes over the socket of a connection to a peer (RFC 6062, sections 4.3 and 4.5).
-use Rattle.std.specs.Prelude.{◌≡◌, ◌≢◌, ℕ, ◌==◌, Bool, true, false, is_some, not, ◌&&◌, List, [], ◌++◌, length, Option, Some, None, MatchOption, if◌then◌else◌}
+use Rattle.std.specs.Prelude.{◌≡◌, ◌≢◌, ℕ, ◌==◌, Bool, true, false, is_some, ◌&&◌, List, [], ◌++◌, length, Option, Some, None, MatchOption, if◌then◌else◌}
 use Rattle.std.specs.Bool.{MatchBool}
 use Rattle.std.specs.declared.net.socket_addr.SocketAddr.{SocketAddr}
 use Rattle.stun_types.specs.Grammar.{refusal}
@@ -141,7 +141,7 @@ pub record IsTakenFor {T : Type 0} (items : T → List ℕ) (c : Connection) (no
 abbrev pub raw_given : Connection → List ℕ → PeerPayload
 raw_given c bytes = record {
   payload = c.stream.kept ++ bytes;
-  is_owned = not (length c.stream.kept == 0);
+  place = if length c.stream.kept == 0 then Some (0, length bytes) else None;
   transport = Tcp;
   peer = c.peer;
 }
@@ -198,7 +198,7 @@ abbrev pub raw_waiting : Protocol → Option Connection
 raw_waiting p = first_raw p.allocations
 
 abbrev pub raw_kept : Connection → PeerPayload
-raw_kept c = record { payload = c.stream.kept; is_owned = true; transport = Tcp; peer = c.peer }
+raw_kept c = record { payload = c.stream.kept; place = None; transport = Tcp; peer = c.peer }
 
 pub record IsRawGiven (c : Connection) (old : Protocol) (given : Option PeerPayload) (new : Protocol) : Type 0 where
   pub gives : given ≡ Some (raw_kept c)

@@ -274,7 +274,7 @@ fn give_in_place<T: AsSlice<u8> + Debug + Drop>(
 ) -> TurnRecvRet<T>
     ensures { result ≡ recv.PeerData (record {
       payload = T.items transmit.bytes;
-      is_owned = false;
+      place = Some (0, length (T.items transmit.bytes));
       transport = Tcp;
       peer = peer;
     }) }

@@ -199,7 +199,7 @@ module _ (ret : Answer) (gives : ¬ HandsNothing ret) (run : List (Step Client D
 
     of_bound : (awaited : Option Binding) (k : Joined) (to : SocketAddr) → k.here ≡ to → (bytes : List ℕ) → AreCallsBound awaited k to now bytes ret kept.core first calls last → Came to bytes
     of_bound (Some binding) k to at bytes are = absurd (gives (gives_nothing ret are.0))
-    of_bound None k to at bytes are = ByPeer (of_raw (IsBroughtTo to bytes) k (record (raw_given k bytes) { is_owned = true }) (record { at = at; waited = k.stream.kept; payload_is = refl }) (after_raw to k kept.core) refl refl are)
+    of_bound None k to at bytes are = ByPeer (of_raw (IsBroughtTo to bytes) k (record (raw_given k bytes) { place = None }) (record { at = at; waited = k.stream.kept; payload_is = refl }) (after_raw to k kept.core) refl refl are)
 
     of_over : (k : Joined) (to : SocketAddr) → k.here ≡ to → (bytes : List ℕ) → AreCallsOver k to now bytes ret kept.core first calls last → Came to bytes
     of_over k to at [] are = absurd (gives (gives_nothing ret are.0))

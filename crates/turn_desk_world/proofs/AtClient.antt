@@ -242,7 +242,7 @@ module _ {T : Type 0} (items : T → List ℕ) (c : Client) (sound : IsSound c) 
   received are_bytes (Foreign other is) = given_back is
 
 -- owned or not, it is the same data
-same_data : (is_message : Bool) (bytes : List ℕ) (held owned : PeerPayload) → owned ≡ record held { is_owned = true } → data_of is_message bytes held ≡ data_of is_message bytes owned
+same_data : (is_message : Bool) (bytes : List ℕ) (held owned : PeerPayload) → owned ≡ record held { place = None } → data_of is_message bytes held ≡ data_of is_message bytes owned
 same_data true bytes held owned is = ap (λ (g : PeerPayload). FromPeer g.transport g.peer g.payload) (sym is)
 same_data false bytes held owned is = ap (λ (g : PeerPayload). FromChannel (frame_at bytes).id g.peer g.payload) (sym is)
 

@@ -254,7 +254,7 @@ told_back : (came : Transmit (Bor (List ℕ))) (ret : Answer) → IsTold (recv.I
 told_back came answer.Ignored is = tt
 told_back came _ is = absurd is
 
-told_data : (given : PeerPayload) (ret : Answer) → IsTold (recv.PeerData given) ret → ret ≡ answer.Peer (record given { is_owned = true })
+told_data : (given : PeerPayload) (ret : Answer) → IsTold (recv.PeerData given) ret → ret ≡ answer.Peer (record given { place = None })
 told_data given (answer.Peer owned) is = ap (λ (g : PeerPayload). answer.Peer g) is
 told_data given _ is = absurd is
 
@@ -291,10 +291,10 @@ module _ (ret : Answer) (came : Transmit (Bor (List ℕ))) (took : TurnRecvRet (
     passing bound bytes true = passing_still c k bytes sound (from_kept came.to c.core.allocations k there bound)
     passing bound bytes false = passing_exchange c came.to (alive []) k bytes sound (from_kept came.to c.core.allocations k there bound)
 
-    raw_led : k.awaited ≡ None → IsRawTaken (λ (b : Bor (List ℕ)). b.now) k c.core came took core → AreLedBy (IsOne (IsPassedOn k (record (raw_given k piece) { is_owned = true }) (after_raw came.to k c.core) ret)) c core
+    raw_led : k.awaited ≡ None → IsRawTaken (λ (b : Bor (List ℕ)). b.now) k c.core came took core → AreLedBy (IsOne (IsPassedOn k (record (raw_given k piece) { place = None }) (after_raw came.to k c.core) ret)) c core
     raw_led bound (GivesRaw answered same) =
-        subst (λ (p : Protocol). AreLedBy (IsOne (IsPassedOn k (record (raw_given k piece) { is_owned = true }) (after_raw came.to k c.core) ret)) c p) (sym same)
-        (one_passed c k (record (raw_given k piece) { is_owned = true }) (after_raw came.to k c.core) ret (told_data (raw_given k piece) ret (told_as (recv.PeerData (raw_given k piece)) answered))
+        subst (λ (p : Protocol). AreLedBy (IsOne (IsPassedOn k (record (raw_given k piece) { place = None }) (after_raw came.to k c.core) ret)) c p) (sym same)
+        (one_passed c k (record (raw_given k piece) { place = None }) (after_raw came.to k c.core) ret (told_data (raw_given k piece) ret (told_as (recv.PeerData (raw_given k piece)) answered))
         (passing bound (k.stream.kept ++ piece) (length k.stream.kept == 0)))
     raw_led bound (LostRaw some answered failed) = absurd (told_as (recv.NoMemory came) answered)
 

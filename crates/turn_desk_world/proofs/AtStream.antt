@@ -86,7 +86,7 @@ module _ (c : Client) (sound : IsSound c) (frame : List ℕ) (rest : List (List 
   by_payload given None payload gives same is gave = subst (λ (l : List Told). IsTakingUp c frame l core) (no_data frame given is) (passing_step c sound frame rest waited core same)
   by_payload given (Some one) payload gives same is gave =
       subst (λ (l : List Told). IsTakingUp c frame l core)
-      (ap (λ (x : Told). x ∷ []) (sym (data_told c.core frame one.is_owned payload one gives gave)) ∙ ap (data_list frame) (sym is))
+      (ap (λ (x : Told). x ∷ []) (sym (data_told c.core frame one.place payload one gives gave)) ∙ ap (data_list frame) (sym is))
       (handed_back payload gives same)
 
   handled_by : (taken : Taken) (given : Option PeerPayload) (found : Option Payload) → payload_of c.core frame ≡ found

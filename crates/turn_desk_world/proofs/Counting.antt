@@ -274,7 +274,7 @@ module _ (kept : Kept) (ret : Answer) (first first' last last' : Client) (calls 
 
   bound_alike : (awaited : Option Binding) (k : Connection) (to : SocketAddr) (now : ℕ) (bytes : List ℕ) → AreCallsBound awaited k to now bytes ret kept.core first calls last → AreCallsBound awaited k to now bytes ret kept.core first' others last' → Alike
   bound_alike (Some binding) k to now bytes a b = joining_alike k to now bytes a.1 b.1
-  bound_alike None k to now bytes a b = single_alike (IsPassedOn k (record (raw_given k bytes) { is_owned = true }) (after_raw to k kept.core) ret) a b
+  bound_alike None k to now bytes a b = single_alike (IsPassedOn k (record (raw_given k bytes) { place = None }) (after_raw to k kept.core) ret) a b
 
   over_alike : (k : Connection) (to : SocketAddr) (now : ℕ) (bytes : List ℕ) → AreCallsOver k to now bytes ret kept.core first calls last → AreCallsOver k to now bytes ret kept.core first' others last' → Alike
   over_alike k to now [] a b = single_alike (IsStill (after_close to kept.core.server kept.core)) a.1 b.1

@@ -404,7 +404,7 @@ told_ignored : (came : _) (ret : Answer) → IsTold (recv.Ignored came) ret → 
 told_ignored came answer.Ignored is = refl
 told_ignored came _ is = absurd is
 
-told_data : (given : PeerPayload) (ret : Answer) → IsTold (recv.PeerData given) ret → ret ≡ answer.Peer (record given { is_owned = true })
+told_data : (given : PeerPayload) (ret : Answer) → IsTold (recv.PeerData given) ret → ret ≡ answer.Peer (record given { place = None })
 told_data given (answer.Peer owned) is = ap (λ (g : PeerPayload). answer.Peer g) is
 told_data given _ is = absurd is
 

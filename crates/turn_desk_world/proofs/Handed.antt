@@ -19,7 +19,7 @@ use Rattle.turn_client_proto.specs.Messages.{FromChannel, Payload as Told}
 use Rattle.turn_client_proto.specs.OfPeers.{told_of}
 use Rattle.turn_client_proto.specs.Payloads.{carried_for, carried_over, payload_framed, payload_of, payload_told, permitted}
 use Rattle.turn_client_proto.specs.Datagrams.{IsHandedOver}
-use Rattle.turn_client_proto.specs.Pieces.{IsHandedAs, apart, data_given, owned_if}
+use Rattle.turn_client_proto.specs.Pieces.{IsHandedAs, apart, data_given, place_if, placed}
 use Rattle.turn_client_proto.specs.Payload.{Payload}
 use Rattle.turn_client_proto.specs.Payload.TheVariants.{Data, Framed, Report}
 use Rattle.turn_client_proto.proofs.OfPeers.{payload_of_peer}
@@ -69,28 +69,28 @@ no_message p bytes number transport peer start end is = by (refusal bytes) is
 
 -- data of a peer is what the bytes carry, wherever it stands
 module _ (p : Protocol) (frame : List ℕ) where
-  pub data_told : (owned : Bool) (payload : Payload) (given : PeerPayload) → payload_of p frame ≡ Some payload → data_given frame payload ≡ Some given
-      → data_of (is_none (refusal frame)) frame (owned_if owned given) ≡ told_of frame payload
-  data_told owned (Data transport peer start end) given gives is =
+  pub data_told : (place : Option (ℕ × ℕ)) (payload : Payload) (given : PeerPayload) → payload_of p frame ≡ Some payload → data_given frame payload ≡ Some given
+      → data_of (is_none (refusal frame)) frame (placed place given) ≡ told_of frame payload
+  data_told place (Data transport peer start end) given gives is =
       let message : refusal frame ≡ None = (payload_of_peer p frame (Data transport peer start end) gives).carried.0.message in
-      ap (λ (g : PeerPayload). data_of (is_none (refusal frame)) frame (owned_if owned g)) (sym (inside is))
-      ∙ ap (λ (o : Option StunParseError). data_of (is_none o) frame (owned_if owned (apart frame transport peer start end))) message
-  data_told owned (Report transport peer report) given gives is = absurd (Prim.cc is)
-  data_told owned (Framed number transport peer start end) given gives is =
+      ap (λ (g : PeerPayload). data_of (is_none (refusal frame)) frame (placed place g)) (sym (inside is))
+      ∙ ap (λ (o : Option StunParseError). data_of (is_none o) frame (placed place (apart frame transport peer start end))) message
+  data_told place (Report transport peer report) given gives is = absurd (Prim.cc is)
+  data_told place (Framed number transport peer start end) given gives is =
       let framed = no_message p frame number transport peer start end gives in
       let told = (payload_of_peer p frame (Framed number transport peer start end) gives).carried.1 in
-      ap (λ (g : PeerPayload). data_of (is_none (refusal frame)) frame (owned_if owned g)) (sym (inside is))
-      ∙ ap (λ (b : Bool). data_of b frame (owned_if owned (apart frame transport peer start end))) framed
+      ap (λ (g : PeerPayload). data_of (is_none (refusal frame)) frame (placed place g)) (sym (inside is))
+      ∙ ap (λ (b : Bool). data_of b frame (placed place (apart frame transport peer start end))) framed
       ∙ ap (λ (f : Frame). FromChannel f.id peer (part_of frame start end)) told
 
 -- what `recv` answers, where it gives what a frame carries
 module _ {T : Type 0} (p : Protocol) (frame : List ℕ) where
   pub handed_as : (owned : Bool) (payload : Payload) (took : TurnRecvRet T) → payload_of p frame ≡ Some payload → IsHandedAs owned frame payload took → given_by frame took ≡ told_of frame payload ∷ []
   handed_as owned (Data transport peer start end) took gives is =
-      ap (given_by frame) is ∙ ap (λ (x : Told). x ∷ []) (data_told p frame owned (Data transport peer start end) (apart frame transport peer start end) gives refl)
+      ap (given_by frame) is ∙ ap (λ (x : Told). x ∷ []) (data_told p frame (place_if owned start end) (Data transport peer start end) (apart frame transport peer start end) gives refl)
   handed_as owned (Report transport peer report) took gives is = ap (given_by frame) is
   handed_as owned (Framed number transport peer start end) took gives is =
-      ap (given_by frame) is ∙ ap (λ (x : Told). x ∷ []) (data_told p frame owned (Framed number transport peer start end) (apart frame transport peer start end) gives refl)
+      ap (given_by frame) is ∙ ap (λ (x : Told). x ∷ []) (data_told p frame (place_if owned start end) (Framed number transport peer start end) (apart frame transport peer start end) gives refl)
 
 module _ {T : Type 0} (items : T → List ℕ) (p : Protocol) (came : Transmit T) where
   pub handed_over : (payload : Payload) (took : TurnRecvRet T) → payload_of p (items came.bytes) ≡ Some payload → IsHandedOver items came payload took → given_by (items came.bytes) took ≡ told_of (items came.bytes) payload ∷ []

@@ -12,7 +12,7 @@ use Rattle.turn_client_proto.specs.Control.{Open}
 use Rattle.turn_client_proto.specs.HandingIn.{IsFrameTaken, IsHandedIn, taken_as}
 use Rattle.turn_client_proto.specs.Kept.{Kept, Protocol}
 use Rattle.turn_client_proto.specs.Payloads.{payload_of}
-use Rattle.turn_client_proto.specs.Pieces.{Behind, Broken, First, HasBegun, IsAnsweredBehind, IsFirstTaken, IsFrameHandled, IsHandedAs, IsPieceTaken, Lost, Takes, Waits, apart, owned_if}
+use Rattle.turn_client_proto.specs.Pieces.{Behind, Broken, First, HasBegun, IsAnsweredBehind, IsFirstTaken, IsFrameHandled, IsHandedAs, IsPieceTaken, Lost, Takes, Waits, apart, place_if, placed}
 use Rattle.turn_client_proto.specs.Pulls.{IsPulled, frame_of}
 use Rattle.turn_client_proto.specs.Receipts.{End, IsOfStream, IsStreamed, Piece, Strange}
 use Rattle.turn_client_proto.specs.Taken.{Taken}
@@ -53,9 +53,9 @@ module _ {T : Type 0} (came copy : Transmit T) (answer again : TurnRecvRet T) wh
   alike_behind handled (Some given) a b = BothData given a b
 
   alike_first : (owned : Bool) (frame : List ℕ) (payload : Payload) → IsHandedAs owned frame payload answer → IsHandedAs owned frame payload again → AreAlike came copy answer again
-  alike_first owned frame (Data transport peer start end) a b = BothData (owned_if owned (apart frame transport peer start end)) a b
+  alike_first owned frame (Data transport peer start end) a b = BothData (placed (place_if owned start end) (apart frame transport peer start end)) a b
   alike_first owned frame (Report transport peer report) a b = BothReports transport peer report.icmp_type report.code report.details a b
-  alike_first owned frame (Framed number transport peer start end) a b = BothData (owned_if owned (apart frame transport peer start end)) a b
+  alike_first owned frame (Framed number transport peer start end) a b = BothData (placed (place_if owned start end) (apart frame transport peer start end)) a b
 
   module _ (now : ℕ) (owned : Bool) (frame : List ℕ) (stream : Stream) (old : Protocol) (left rest : Stream) (one other : Protocol) where
     abbrev Agree : Type 0

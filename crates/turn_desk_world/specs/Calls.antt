@@ -1,5 +1,5 @@
 -- What a client answers in a world.
-use Rattle.std.specs.Prelude.{◌≡◌, ◌≢◌, ℕ, true, List, [], ◌∷◌, Option, Some, None, Ok, Err}
+use Rattle.std.specs.Prelude.{◌≡◌, ◌≢◌, ℕ, List, [], ◌∷◌, Option, Some, None, Ok, Err}
 use Rattle.std.specs.Borrow.{Bor}
 use Rattle.std.specs.declared.net.ip_addr.IpAddr.{IpAddr}
 use Rattle.std.specs.declared.net.socket_addr.SocketAddr.{SocketAddr}
@@ -180,7 +180,7 @@ IsDrawnAs _ old now new = ⊥
 abbrev pub IsTold : TurnRecvRet (Bor (List ℕ)) → Answer → Type 0
 IsTold recv.Handled answer.Handled = Unit {0}
 IsTold (recv.Ignored came) answer.Ignored = Unit {0}
-IsTold (recv.PeerData held) (answer.Peer owned) = owned ≡ record held { is_owned = true }
+IsTold (recv.PeerData held) (answer.Peer owned) = owned ≡ record held { place = None }
 IsTold (recv.PeerIcmp t p k c d) (answer.Icmp transport peer kind code report) =
     (transport ≡ t) × (peer ≡ p) × (kind ≡ k) × (code ≡ c) × (report ≡ d)
 IsTold _ _ = ⊥

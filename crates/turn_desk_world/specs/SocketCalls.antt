@@ -116,7 +116,7 @@ abbrev pub AreCallsBound : Option Binding → Connection → (to : SocketAddr) �
 AreCallsBound (Some binding) c to now bytes answer p first calls last =
     GivesNothing answer × AreCallsOfJoining c to now bytes first calls last
 AreCallsBound None c to now bytes answer p first calls last =
-    IsOne (IsPassedOn c (record (raw_given c bytes) { is_owned = true }) (after_raw to c p) answer) first calls last
+    IsOne (IsPassedOn c (record (raw_given c bytes) { place = None }) (after_raw to c p) answer) first calls last
 
 abbrev pub AreCallsOver : Connection → (to : SocketAddr) → ℕ → List ℕ → Answer → Protocol → Client → List (Call Client)
     → Client → Type 0
