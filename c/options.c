@@ -1,0 +1,155 @@
+/* options.c: what options.h declares. It is built with turn_client.c, which says how. */
+#define _GNU_SOURCE
+#include "options.h"
+
+#include <arpa/inet.h>
+#include <getopt.h>
+#include <netinet/in.h>
+#include <stdio.h>
+#include <stdlib.h>
+#include <string.h>
+
+enum { SERVER_PORT = 3478 };
+
+/* ---- values */
+
+/* A number of digits alone, within bounds. */
+static bool read_number(const char *text, uint32_t least, uint32_t most, uint32_t *number)
+{
+    char *end = NULL;
+    const unsigned long long value = strtoull(text, &end, 10);
+    *number = (uint32_t)value;
+    return text[0] >= '0' && text[0] <= '9' && *end == '\0' && value >= least && value <= most;
+}
+
+/* The colon before the port of an address; NULL where it has none, as IPv6 without brackets. */
+static const char *port_of(const char *text)
+{
+    const char *first = strchr(text, ':'), *last = strrchr(text, ':');
+    if (text[0] == '[')
+        return last != NULL && last > text && last[-1] == ']' ? last : NULL;
+    return first == last ? first : NULL;
+}
+
+/* An address. Its port is this one where the text tells none; 0 is no port. */
+static bool read_address(const char *text, uint32_t port, turn_address *address)
+{
+    char ip[INET6_ADDRSTRLEN];
+    const char *colon = port_of(text);
+    size_t len = colon == NULL ? strlen(text) : (size_t)(colon - text);
+    if (len > 1 && text[0] == '[' && text[len - 1] == ']') {
+        text++;
+        len -= 2;
+    }
+    if (len >= sizeof ip || (colon != NULL && !read_number(colon + 1, 1, 65535, &port)))
+        return false;
+    memcpy(ip, text, len);
+    ip[len] = '\0';
+    *address = (turn_address){.port = (uint16_t)port};
+    if (inet_pton(AF_INET, ip, address->ip) == 1)
+        address->family = 4;
+    else if (inet_pton(AF_INET6, ip, address->ip) == 1)
+        address->family = 6;
+    return address->family != 0 && port != 0;
+}
+
+/* ---- options */
+
+static const char usage[] =
+    "turn_client OPTION..: asks a TURN server for an address, and sends payloads through it to a peer\n"
+    "  --server ADDRESS      IP or IP:PORT, of IPv6 [IP]:PORT; without a port 3478\n"
+    "  --user NAME, --password TEXT\n"
+    "  --family 4|6|both     of the address that is asked for; without it 4\n"
+    "  --algorithms sha1|sha256|both   that are supported; without it sha1\n"
+    "  --tcp                 a connection over TCP to the server; peers are reached over UDP\n"
+    "  --peer ADDRESS        the peer, which is to send back what it gets\n"
+    "  --echo                in its place one of this program's own, on loopback\n"
+    "  --count N             how many payloads; without it 10. Without a peer there are none\n"
+    "  --size BYTES          of each, 4 to 60000; without it 100\n"
+    "  --interval MS         between two; without it 20\n"
+    "  --seconds N           how long the address is kept at least; without it 0\n"
+    "  --indications         no channel: each payload goes in an indication\n"
+    "  --quiet               tells errors and the result alone\n"
+    "  --help\n"
+    "Exit status: 0 all came back, or nothing was to be sent; 1 something was lost; 2 options that can't be read;\n"
+    "3 the server refused something, or the client failed; 4 no answer\n";
+
+static const struct option names[] = {
+    {"server", required_argument, NULL, 's'},   {"user", required_argument, NULL, 'u'},
+    {"password", required_argument, NULL, 'p'}, {"family", required_argument, NULL, 'f'},
+    {"algorithms", required_argument, NULL, 'a'}, {"tcp", no_argument, NULL, 't'},
+    {"peer", required_argument, NULL, 'r'},     {"echo", no_argument, NULL, 'e'},
+    {"count", required_argument, NULL, 'c'},    {"size", required_argument, NULL, 'b'},
+    {"interval", required_argument, NULL, 'i'}, {"seconds", required_argument, NULL, 'n'},
+    {"indications", no_argument, NULL, 'x'},    {"quiet", no_argument, NULL, 'q'},
+    {"help", no_argument, NULL, 'h'},           {NULL, 0, NULL, 0},
+};
+
+/* One of two words, or `both`: its bits. */
+static bool read_bits(const char *text, const char *first, const char *second, uint32_t *bits)
+{
+    *bits = 0;
+    if (strcmp(text, first) == 0 || strcmp(text, "both") == 0)
+        *bits |= 1;
+    if (strcmp(text, second) == 0 || strcmp(text, "both") == 0)
+        *bits |= 2;
+    return *bits != 0;
+}
+
+/* Takes an option with its value: whether that can be read. */
+static bool take_option(struct options *o, int option, const char *value)
+{
+    switch (option) {
+    case 's': return read_address(value, SERVER_PORT, &o->server);
+    case 'u': o->user = value; return true;
+    case 'p': o->password = value; return true;
+    case 'f': return read_bits(value, "4", "6", &o->families);
+    case 'a': return read_bits(value, "sha1", "sha256", &o->integrity);
+    case 't': return o->is_over_tcp = true;
+    case 'r': return read_address(value, 0, &o->peer);
+    case 'e': return o->has_echo = true;
+    case 'c': return read_number(value, 0, MOST_COUNT, &o->count);
+    case 'b': return read_number(value, LEAST_SIZE, MOST_SIZE, &o->size);
+    case 'i': return read_number(value, 0, UINT32_MAX, &o->interval);
+    case 'n': return read_number(value, 0, UINT32_MAX, &o->seconds);
+    case 'x': return o->has_no_channel = true;
+    case 'q': return o->is_quiet = true;
+    default: return false;
+    }
+}
+
+/* What is wrong with all of them, or nothing. */
+static const char *wrong_with(const struct options *o)
+{
+    if (o->server.family == 0 || o->user == NULL || o->password == NULL)
+        return "a server, a user and a password are wanted";
+    if (o->has_echo && o->peer.family != 0)
+        return "a peer or an echo, and not both";
+    if (o->peer.family != 0 && (o->families & (o->peer.family == 4 ? TURN_IPV4 : TURN_IPV6)) == 0)
+        return "an address of the peer's family is to be asked for";
+    return NULL;
+}
+
+int read_options(int argc, char **argv, struct options *options)
+{
+    int option;
+    *options = (struct options){.families = TURN_IPV4, .integrity = TURN_SHA1,
+                                .count = 10, .size = 100, .interval = 20};
+    while ((option = getopt_long(argc, argv, "h", names, NULL)) != -1) {
+        if (option == 'h') {
+            fputs(usage, stdout);
+            return ALL_BACK;
+        }
+        if (option == '?')
+            return BAD_USAGE; /* getopt_long has told */
+        if (!take_option(options, option, optarg)) {
+            fprintf(stderr, "%s: %s can't be read; --help tells more\n", argv[0], optarg);
+            return BAD_USAGE;
+        }
+    }
+    const char *wrong = optind < argc ? "more than options" : wrong_with(options);
+    if (wrong == NULL)
+        return -1;
+    fprintf(stderr, "%s: %s; --help tells more\n", argv[0], wrong);
+    return BAD_USAGE;
+}

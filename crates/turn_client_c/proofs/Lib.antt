@@ -1,0 +1,5 @@
+pub mod Calling
+pub mod Handles
+pub mod Showing
+pub mod Telling
+pub mod Values

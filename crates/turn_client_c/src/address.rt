@@ -1,0 +1,127 @@
+//! Addresses and transports as C tells them.
+
+ghost use Rattle.std.specs.Prelude.{◌≡◌, ◌++◌};
+ghost use Rattle.std.specs.Net.Addr.{ipv4_octets};
+ghost use Rattle.turn_client_c.specs.Addresses.{address_of, ipv4, no_address, number_of, told_address, told_ip, transport_of, zeros};
+
+use std::net::{IpAddr, Ipv4Addr, Ipv6Addr, SocketAddr, SocketAddrV4, SocketAddrV6};
+use stun_types::TransportType;
+
+/// The family of an address of IPv4.
+pub(crate) const IPV4: u8 = 4;
+
+/// The family of an address of IPv6.
+pub(crate) const IPV6: u8 = 6;
+
+/// The number of UDP in IP.
+const UDP: u32 = 17;
+
+/// The number of TCP in IP.
+const TCP: u32 = 6;
+
+/// An address and a port.
+#[repr(C)]
+#[derive(Clone, Copy)]
+pub struct TurnAddress {
+    /// The octets, in the order of the network; of IPv4 the first four count.
+    pub ip: [u8; 16],
+    /// The port.
+    pub port: u16,
+    /// 4 or 6.
+    pub family: u8,
+}
+
+impl TurnAddress {
+    /// The address; none where the family is neither 4 nor 6. Of IPv6 it has no flow information and no
+    /// scope.
+    #[tactic(auto, unfolding(crate::specs::Addresses::address_of))]
+    pub(crate) fn to_socket(&self) -> Option<SocketAddr>
+        ensures { result ≡ address_of self.now }
+    {
+        if self.family == IPV4 {
+            let [a, b, c, d, ..] = self.ip;
+            let ip = Ipv4Addr::from_octets([a, b, c, d]);
+            Some(SocketAddr::V4(SocketAddrV4::new(ip, self.port)))
+        } else if self.family == IPV6 {
+            let ip = Ipv6Addr::from_octets(self.ip);
+            Some(SocketAddr::V6(SocketAddrV6::new(ip, self.port, 0, 0)))
+        } else {
+            None
+        }
+    }
+
+    /// An address, told to C.
+    pub(crate) fn of_socket(address: SocketAddr) -> TurnAddress
+        ensures { result ≡ told_address address }
+    {
+        match address {
+            SocketAddr::V4(v4) => of_v4(*v4.ip(), v4.port()),
+            SocketAddr::V6(v6) => TurnAddress {
+                ip: v6.ip().octets(),
+                port: v6.port(),
+                family: IPV6,
+            },
+        }
+    }
+
+    /// An IP, told to C.
+    pub(crate) fn of_ip(ip: IpAddr) -> TurnAddress
+        ensures { result ≡ told_ip ip }
+    {
+        match ip {
+            IpAddr::V4(v4) => of_v4(v4, 0),
+            IpAddr::V6(v6) => TurnAddress {
+                ip: v6.octets(),
+                port: 0,
+                family: IPV6,
+            },
+        }
+    }
+
+    /// No address, but for a family: 0 is none.
+    pub(crate) fn none(family: u8) -> TurnAddress
+        ensures { result ≡ no_address family }
+    {
+        TurnAddress {
+            ip: [0; 16],
+            port: 0,
+            family,
+        }
+    }
+}
+
+/// An address of IPv4 and a port, told to C.
+fn of_v4(ip: Ipv4Addr, port: u16) -> TurnAddress
+    ensures { result ≡ record { ip = ipv4_octets ip ++ zeros; port = port; family = ipv4 } }
+{
+    let [a, b, c, d] = ip.octets();
+    TurnAddress {
+        ip: [a, b, c, d, 0, 0, 0, 0, 0, 0, 0, 0, 0, 0, 0, 0],
+        port,
+        family: IPV4,
+    }
+}
+
+/// The number of a transport in IP.
+pub(crate) fn number_of(transport: TransportType) -> u32
+    ensures { result ≡ number_of transport }
+{
+    match transport {
+        TransportType::Udp => UDP,
+        TransportType::Tcp => TCP,
+    }
+}
+
+/// The transport of a number in IP, where it is UDP's or TCP's.
+#[tactic(auto, unfolding(crate::specs::Addresses::transport_of))]
+pub(crate) fn transport_of(number: u32) -> Option<TransportType>
+    ensures { result ≡ transport_of number }
+{
+    if number == UDP {
+        Some(TransportType::Udp)
+    } else if number == TCP {
+        Some(TransportType::Tcp)
+    } else {
+        None
+    }
+}

@@ -1,0 +1,81 @@
+//! The calls that let time pass, and tell what happened.
+
+ghost use Rattle.turn_client_c.specs.Calls.{OnClient};
+ghost use Rattle.turn_client_c.specs.Waits.{IsEventTold, IsPollTold};
+
+use crate::event::TurnClientEvent;
+use crate::handle::TurnHandle;
+use crate::status;
+use crate::told::TurnWait;
+use std::alloc::Global;
+use stun_proto::Instant;
+use turn_client_proto::api::TurnPollRet;
+use turn_client_proto::prelude::TurnClientApi;
+
+/// Does what is due at a moment, and tells until when there is nothing to do, or which connection to the
+/// server is to be opened or closed.
+#[unsafe(no_mangle)]
+#[tactic(auto, using(crate::proofs::Telling::poll_told))]
+pub extern "C" fn turn_client_poll(
+    alloc: Global,
+    client: &mut TurnHandle,
+    now: u64,
+    wait: &mut TurnWait,
+) -> i32
+    ensures { OnClient client.old.hold.value client.new.hold.value result
+        (IsPollTold now result wait.old wait.new) }
+{
+    let Some(mut whole) = client.take(alloc) else {
+        return status::NO_CLIENT;
+    };
+    let answer = whole.client.poll(Instant::from_nanos(now));
+    client.put(whole);
+    match answer {
+        TurnPollRet::WaitUntil(moment) => {
+            *wait = TurnWait::until(moment);
+            status::OK
+        }
+        TurnPollRet::AllocateTcpSocket {
+            id,
+            socket,
+            peer_addr,
+        } => {
+            *wait = TurnWait::open(id, socket, peer_addr);
+            status::OPEN_SOCKET
+        }
+        TurnPollRet::TcpClose {
+            local_addr,
+            remote_addr,
+        } => {
+            *wait = TurnWait::close(local_addr, remote_addr);
+            status::CLOSE_SOCKET
+        }
+        TurnPollRet::Closed => status::CLOSED,
+        TurnPollRet::NoMemory => status::NO_MEMORY,
+    }
+}
+
+/// Tells the event that has waited longest.
+#[unsafe(no_mangle)]
+#[tactic(auto, using(crate::proofs::Telling::event_told))]
+pub extern "C" fn turn_client_event(
+    alloc: Global,
+    client: &mut TurnHandle,
+    event: &mut TurnClientEvent,
+) -> i32
+    ensures { OnClient client.old.hold.value client.new.hold.value result
+        (IsEventTold result event.old event.new) }
+{
+    let Some(mut whole) = client.take(alloc) else {
+        return status::NO_CLIENT;
+    };
+    let answer = whole.client.poll_event();
+    client.put(whole);
+    match answer {
+        Some(happened) => {
+            *event = TurnClientEvent::of(happened);
+            status::OK
+        }
+        None => status::NOTHING,
+    }
+}
