@@ -40,10 +40,10 @@ use Rattle.turn_client_c.specs.Traffic as traffic
 use Rattle.turn_client_c.specs.Traffic.{Fed, IsDrawnTold, IsFed, IsPulledTold, IsSendTold, Pulled, Refused, brought}
 use Rattle.turn_client_c.specs.Waits as waits
 use Rattle.turn_client_c.specs.Waits.{IsEventTold, IsPollTold}
-use Rattle.turn_client_c.specs.declared.event.TurnClientEvent.{TurnClientEvent}
-use Rattle.turn_client_c.specs.declared.told.TurnPayload.{TurnPayload}
-use Rattle.turn_client_c.specs.declared.told.TurnTransmit.{TurnTransmit}
-use Rattle.turn_client_c.specs.declared.told.TurnWait.{TurnWait}
+use Rattle.turn_client_told.specs.declared.event.TurnClientEvent.{TurnClientEvent}
+use Rattle.turn_client_told.specs.declared.told.TurnPayload.{TurnPayload}
+use Rattle.turn_client_told.specs.declared.told.TurnTransmit.{TurnTransmit}
+use Rattle.turn_client_told.specs.declared.told.TurnWait.{TurnWait}
 use Rattle.turn_client_c.specs.declared.whole.Whole.{Whole}
 
 -- ---- time and events

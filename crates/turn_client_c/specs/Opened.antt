@@ -10,12 +10,12 @@ use Rattle.turn_client_proto.specs.Clients.{kept_of}
 use Rattle.turn_client_proto.specs.Config.{Config}
 use Rattle.turn_client_proto.specs.Control.{Control, Datagrams, Open}
 use Rattle.turn_client_proto.specs.declared.client.TurnClient.{TurnClient}
-use Rattle.turn_client_c.specs.Addresses.{address_of}
+use Rattle.turn_client_told.specs.Addresses.{address_of}
 use Rattle.turn_client_c.specs.Codes as code
 use Rattle.turn_client_c.specs.Codes.{same}
 use Rattle.turn_client_c.specs.Held.{Held}
-use Rattle.turn_client_c.specs.Settings.{config_of, transports_of}
-use Rattle.turn_client_c.specs.declared.settings.TurnSettings.{TurnSettings}
+use Rattle.turn_client_told.specs.Settings.{config_of, transports_of}
+use Rattle.turn_client_told.specs.declared.settings.TurnSettings.{TurnSettings}
 use Rattle.turn_client_c.specs.declared.whole.Whole.{Whole}
 
 -- how bytes come to a new client

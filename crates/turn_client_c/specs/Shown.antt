@@ -7,9 +7,9 @@ use Rattle.stun_types.specs.declared.transport.TransportType.{TransportType}
 use Rattle.turn_client_proto.specs.Clients.{kept_of}
 use Rattle.turn_client_proto.specs.Getters.{has_permission, permissions_of}
 use Rattle.turn_client_proto.specs.Kept.{Kept}
-use Rattle.turn_client_c.specs.Addresses.{address_of, number_of, told_address, transport_of}
+use Rattle.turn_client_told.specs.Addresses.{address_of, number_of, told_address, transport_of}
 use Rattle.turn_client_c.specs.Held.{Held}
-use Rattle.turn_client_c.specs.declared.address.TurnAddress.{TurnAddress}
+use Rattle.turn_client_told.specs.declared.address.TurnAddress.{TurnAddress}
 use Rattle.turn_client_c.specs.declared.getters.TurnChannel.{TurnChannel}
 use Rattle.turn_client_c.specs.declared.getters.TurnConnection.{TurnConnection}
 use Rattle.turn_client_c.specs.declared.getters.TurnRelayed.{TurnRelayed}

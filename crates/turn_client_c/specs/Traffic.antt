@@ -21,9 +21,9 @@ use Rattle.turn_types.specs.declared.transmit.TransmitBuild.{TransmitBuild}
 use Rattle.stun_types.specs.Registry.{greatest_size}
 use Rattle.turn_client_c.specs.Calls.{OnCore}
 use Rattle.turn_client_c.specs.Codes as code
-use Rattle.turn_client_c.specs.Told.{told_payload, told_report, told_way}
-use Rattle.turn_client_c.specs.declared.told.TurnPayload.{TurnPayload}
-use Rattle.turn_client_c.specs.declared.told.TurnTransmit.{TurnTransmit}
+use Rattle.turn_client_told.specs.Told.{told_payload, told_report, told_way}
+use Rattle.turn_client_told.specs.declared.told.TurnPayload.{TurnPayload}
+use Rattle.turn_client_told.specs.declared.told.TurnTransmit.{TurnTransmit}
 use Rattle.turn_client_c.specs.declared.whole.Whole.{Whole}
 
 -- memory was refused

@@ -7,9 +7,9 @@ use Rattle.turn_client_proto.specs.Api.declared.answer.TurnPollRet.TheVariants.{
 use Rattle.turn_client_proto.specs.Api.declared.event.TurnEvent.{TurnEvent}
 use Rattle.turn_client_c.specs.Calls.{OnCore}
 use Rattle.turn_client_c.specs.Codes as code
-use Rattle.turn_client_c.specs.Told.{told_close, told_event, told_open, told_wait}
-use Rattle.turn_client_c.specs.declared.event.TurnClientEvent.{TurnClientEvent}
-use Rattle.turn_client_c.specs.declared.told.TurnWait.{TurnWait}
+use Rattle.turn_client_told.specs.Told.{told_close, told_event, told_open, told_wait}
+use Rattle.turn_client_told.specs.declared.event.TurnClientEvent.{TurnClientEvent}
+use Rattle.turn_client_told.specs.declared.told.TurnWait.{TurnWait}
 use Rattle.turn_client_c.specs.declared.whole.Whole.{Whole}
 
 abbrev pub poll_status : TurnPollRet → ℤ

@@ -1,7 +1,7 @@
 //! The calls that ask the server for something.
 
 ghost use Rattle.std.specs.Prelude.{◌≡◌, Err, Some};
-ghost use Rattle.turn_client_c.specs.Addresses.{address_of, transport_of};
+ghost use Rattle.turn_client_told.specs.Addresses.{address_of, transport_of};
 ghost use Rattle.turn_client_c.specs.Answers.{bind_answer, connect_answer, delete_answer, permission_answer};
 ghost use Rattle.turn_client_c.specs.Calls.{Named, OnClient, OnCore, Tells};
 ghost use Rattle.turn_client_c.specs.Codes.{bad_family, bad_setting};
@@ -11,7 +11,6 @@ ghost use Rattle.turn_client_proto.specs.Binding.{IsBindAnswered};
 ghost use Rattle.turn_client_proto.specs.Deleting.{IsDeleteAnswered};
 ghost use Rattle.turn_client_proto.specs.Permitting.{IsPermissionAnswered};
 
-use crate::address::{TurnAddress, transport_of};
 use crate::handle::TurnHandle;
 use crate::status;
 use std::alloc::Global;
@@ -20,6 +19,7 @@ use turn_client_proto::api::{
     BindChannelError, CreatePermissionError, DeleteError, TcpConnectError,
 };
 use turn_client_proto::prelude::TurnClientApi;
+use turn_client_told::address::{TurnAddress, transport_of};
 
 /// Asks for the end of the allocations (RFC 8656, section 8.1).
 #[unsafe(no_mangle)]

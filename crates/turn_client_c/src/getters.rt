@@ -1,16 +1,16 @@
 //! The calls that show what the client holds.
 
 ghost use Rattle.std.specs.Prelude.{◌≡◌, false};
-ghost use Rattle.turn_client_c.specs.Addresses.{told_ip};
+ghost use Rattle.turn_client_told.specs.Addresses.{told_ip};
 ghost use Rattle.turn_client_c.specs.Shown.{Lists, Shows, is_permitted, named, permitted_of, told_channel, told_connection, told_relayed};
 ghost use Rattle.turn_client_proto.specs.Getters.{channels_of, connections_of, relayed_of};
 
-use crate::address::{TurnAddress, number_of, transport_of};
 use crate::handle::TurnHandle;
 use std::alloc::Global;
 use std::net::SocketAddr;
 use stun_types::TransportType;
 use turn_client_proto::prelude::TurnClientApi;
+use turn_client_told::address::{TurnAddress, number_of, transport_of};
 
 /// A relayed address.
 #[repr(C)]

@@ -3,18 +3,14 @@
 //! what it does to the client in the words of the trait `TurnClientApi`.
 #![tactic(auto)]
 
-mod address;
 mod asking;
-mod event;
 mod getters;
 mod handle;
 mod hold;
 mod loose;
 mod opening;
-mod settings;
 mod sockets;
 mod status;
-mod told;
 mod traffic;
 mod waiting;
 mod whole;

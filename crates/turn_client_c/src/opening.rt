@@ -5,11 +5,9 @@ ghost use Rattle.stun_types.specs.Registry.{longest_username};
 ghost use Rattle.stun_types.specs.declared.transport.TransportType.TheVariants.{Udp};
 ghost use Rattle.turn_client_c.specs.Codes.{ok};
 ghost use Rattle.turn_client_c.specs.Opened.{HoldsOpened, IsBegun, WhyNot};
-ghost use Rattle.turn_client_c.specs.Settings.{config_of};
+ghost use Rattle.turn_client_told.specs.Settings.{config_of};
 
-use crate::address::TurnAddress;
 use crate::handle::{TurnHandle, may_go_to_another_thread};
-use crate::settings::{TurnSeed, TurnSettings};
 use crate::status;
 use crate::whole::Whole;
 use std::alloc::Global;
@@ -20,6 +18,8 @@ use turn_client_proto::api::TurnConfig;
 use turn_client_proto::client::TurnClient;
 use turn_client_proto::tcp::TurnClientTcp;
 use turn_client_proto::udp::TurnClientUdp;
+use turn_client_told::address::TurnAddress;
+use turn_client_told::settings::{TurnSeed, TurnSettings};
 
 /// A new client over a transport, between two addresses; over UDP its allocation is over UDP.
 fn make(

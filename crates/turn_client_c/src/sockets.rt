@@ -1,14 +1,13 @@
 //! The calls that tell of the sockets of connections (RFC 6062, sections 4.3 and 4.6).
 
 ghost use Rattle.std.specs.Prelude.{◌≡◌};
-ghost use Rattle.turn_client_c.specs.Addresses.{address_of, socket_of};
+ghost use Rattle.turn_client_told.specs.Addresses.{address_of, socket_of};
 ghost use Rattle.turn_client_c.specs.Answers.{memory_answer, socket_answer};
 ghost use Rattle.turn_client_c.specs.Calls.{Named, OnClient, OnKept, Tells};
 ghost use Rattle.turn_client_c.specs.Codes.{bad_family};
 ghost use Rattle.turn_client_c.specs.Sockets.{IsClosedTold, own_tuple};
 ghost use Rattle.turn_client_proto.specs.SocketsTold.{IsSocketTold};
 
-use crate::address::TurnAddress;
 use crate::handle::TurnHandle;
 use crate::status;
 use crate::whole::Whole;
@@ -18,21 +17,7 @@ use stun_proto::Instant;
 use turn_client_proto::api::{Socket5Tuple, TcpAllocateError};
 use turn_client_proto::client::TurnClient;
 use turn_client_proto::prelude::TurnClientApi;
-
-/// The own address of a socket, or that there is none, by family 0; none where the family is neither that
-/// nor 4 nor 6.
-#[tactic(auto, unfolding(crate::specs::Addresses::socket_of))]
-fn socket_of(address: &TurnAddress) -> Option<Option<SocketAddr>>
-    ensures { result ≡ socket_of address.now }
-{
-    if address.family == 0 {
-        return Some(None);
-    }
-    match address.to_socket() {
-        Some(socket) => Some(Some(socket)),
-        None => None,
-    }
-}
+use turn_client_told::address::{TurnAddress, socket_of};
 
 /// The client's own connection to the server.
 fn own_tuple(client: &TurnClient) -> Socket5Tuple

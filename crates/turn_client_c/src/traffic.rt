@@ -1,15 +1,13 @@
 //! The calls by which bytes come and go.
 
 ghost use Rattle.std.specs.Prelude.{◌≡◌, ◌+◌, [], length, nat_lt, not, None, Ok, Some};
-ghost use Rattle.turn_client_c.specs.Addresses.{address_of, transport_of};
+ghost use Rattle.turn_client_told.specs.Addresses.{address_of, transport_of};
 ghost use Rattle.turn_client_c.specs.Calls.{Named, OnClient, Unless};
 ghost use Rattle.turn_client_c.specs.Codes.{bad_family, bad_setting, small_buffer};
 ghost use Rattle.turn_client_c.specs.Traffic.{IsDrawnTold, IsFed, IsPulledTold, IsReadTold, IsSendTold, carried, draw_status, draw_told, draw_written, joined_by, message_room, payload_told, recv_joined, recv_status, recv_told, send_extra, send_status, send_told, written};
 
-use crate::address::{TurnAddress, transport_of};
 use crate::handle::TurnHandle;
 use crate::status;
-use crate::told::{TurnPayload, TurnTransmit};
 use crate::whole::Whole;
 use std::alloc::Global;
 use std::net::SocketAddr;
@@ -22,6 +20,8 @@ use turn_client_proto::api::{
 };
 use turn_client_proto::prelude::{DelayedTransmitBuild, TurnClientApi};
 use turn_client_proto::types::transmit::TransmitBuild;
+use turn_client_told::address::{TurnAddress, transport_of};
+use turn_client_told::told::{TurnPayload, TurnTransmit};
 
 /// How many bytes more than a payload the buffer has room for that carries it: a SEND indication's header, an
 /// address of IPv6, DATA's header and padding are 51.

@@ -3,14 +3,14 @@
 ghost use Rattle.turn_client_c.specs.Calls.{OnClient};
 ghost use Rattle.turn_client_c.specs.Waits.{IsEventTold, IsPollTold};
 
-use crate::event::TurnClientEvent;
 use crate::handle::TurnHandle;
 use crate::status;
-use crate::told::TurnWait;
 use std::alloc::Global;
 use stun_proto::Instant;
 use turn_client_proto::api::TurnPollRet;
 use turn_client_proto::prelude::TurnClientApi;
+use turn_client_told::event::TurnClientEvent;
+use turn_client_told::told::TurnWait;
 
 /// Does what is due at a moment, and tells until when there is nothing to do, or which connection to the
 /// server is to be opened or closed.

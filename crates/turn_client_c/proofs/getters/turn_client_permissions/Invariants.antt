@@ -1,4 +1,4 @@
-use Rattle.turn_client_c.specs.Addresses.{told_ip}
+use Rattle.turn_client_told.specs.Addresses.{told_ip}
 use Rattle.turn_client_c.proofs.Showing.{IsUnderWay}
 use Rattle.turn_client_c.proofs.getters.turn_client_permissions.Given as goal
 

@@ -8,7 +8,7 @@ use Rattle.std.specs.declared.net.socket_addr.SocketAddr.{SocketAddr}
 use Rattle.std.specs.declared.net.socket_addr.SocketAddr.TheVariants.{V4, V6}
 use Rattle.stun_types.specs.declared.transport.TransportType.{TransportType}
 use Rattle.stun_types.specs.declared.transport.TransportType.TheVariants.{Udp, Tcp}
-use Rattle.turn_client_c.specs.declared.address.TurnAddress.{TurnAddress}
+use Rattle.turn_client_told.specs.declared.address.TurnAddress.{TurnAddress}
 
 -- the families
 abbrev pub ipv4 : ℕ

@@ -2,16 +2,16 @@
 
 ghost use Rattle.std.specs.Prelude.{◌≡◌, ◌++◌};
 ghost use Rattle.std.specs.Net.Addr.{ipv4_octets};
-ghost use Rattle.turn_client_c.specs.Addresses.{address_of, ipv4, no_address, number_of, told_address, told_ip, transport_of, zeros};
+ghost use Rattle.turn_client_told.specs.Addresses.{address_of, ipv4, no_address, number_of, socket_of, told_address, told_ip, transport_of, zeros};
 
 use std::net::{IpAddr, Ipv4Addr, Ipv6Addr, SocketAddr, SocketAddrV4, SocketAddrV6};
 use stun_types::TransportType;
 
 /// The family of an address of IPv4.
-pub(crate) const IPV4: u8 = 4;
+pub const IPV4: u8 = 4;
 
 /// The family of an address of IPv6.
-pub(crate) const IPV6: u8 = 6;
+pub const IPV6: u8 = 6;
 
 /// The number of UDP in IP.
 const UDP: u32 = 17;
@@ -35,7 +35,7 @@ impl TurnAddress {
     /// The address; none where the family is neither 4 nor 6. Of IPv6 it has no flow information and no
     /// scope.
     #[tactic(auto, unfolding(crate::specs::Addresses::address_of))]
-    pub(crate) fn to_socket(&self) -> Option<SocketAddr>
+    pub fn to_socket(&self) -> Option<SocketAddr>
         ensures { result ≡ address_of self.now }
     {
         if self.family == IPV4 {
@@ -51,7 +51,7 @@ impl TurnAddress {
     }
 
     /// An address, told to C.
-    pub(crate) fn of_socket(address: SocketAddr) -> TurnAddress
+    pub fn of_socket(address: SocketAddr) -> TurnAddress
         ensures { result ≡ told_address address }
     {
         match address {
@@ -65,7 +65,7 @@ impl TurnAddress {
     }
 
     /// An IP, told to C.
-    pub(crate) fn of_ip(ip: IpAddr) -> TurnAddress
+    pub fn of_ip(ip: IpAddr) -> TurnAddress
         ensures { result ≡ told_ip ip }
     {
         match ip {
@@ -79,7 +79,7 @@ impl TurnAddress {
     }
 
     /// No address, but for a family: 0 is none.
-    pub(crate) fn none(family: u8) -> TurnAddress
+    pub fn none(family: u8) -> TurnAddress
         ensures { result ≡ no_address family }
     {
         TurnAddress {
@@ -103,7 +103,7 @@ fn of_v4(ip: Ipv4Addr, port: u16) -> TurnAddress
 }
 
 /// The number of a transport in IP.
-pub(crate) fn number_of(transport: TransportType) -> u32
+pub fn number_of(transport: TransportType) -> u32
     ensures { result ≡ number_of transport }
 {
     match transport {
@@ -114,7 +114,7 @@ pub(crate) fn number_of(transport: TransportType) -> u32
 
 /// The transport of a number in IP, where it is UDP's or TCP's.
 #[tactic(auto, unfolding(crate::specs::Addresses::transport_of))]
-pub(crate) fn transport_of(number: u32) -> Option<TransportType>
+pub fn transport_of(number: u32) -> Option<TransportType>
     ensures { result ≡ transport_of number }
 {
     if number == UDP {
@@ -123,5 +123,20 @@ pub(crate) fn transport_of(number: u32) -> Option<TransportType>
         Some(TransportType::Tcp)
     } else {
         None
+    }
+}
+
+/// The own address of a socket, or that there is none, by family 0; none where the family is neither that
+/// nor 4 nor 6.
+#[tactic(auto, unfolding(crate::specs::Addresses::socket_of))]
+pub fn socket_of(address: &TurnAddress) -> Option<Option<SocketAddr>>
+    ensures { result ≡ socket_of address.now }
+{
+    if address.family == 0 {
+        return Some(None);
+    }
+    match address.to_socket() {
+        Some(socket) => Some(Some(socket)),
+        None => None,
     }
 }

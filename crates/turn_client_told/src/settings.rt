@@ -2,7 +2,7 @@
 
 ghost use Rattle.std.specs.Prelude.{◌≡◌, IfOk, IfSome};
 ghost use Rattle.stun_types.specs.declared.transport.TransportType.TheVariants.{Udp};
-ghost use Rattle.turn_client_c.specs.Settings.{algorithms_of, anonymous_of, config_of, families_of, transport_set, transports_of, waits_of};
+ghost use Rattle.turn_client_told.specs.Settings.{algorithms_of, anonymous_of, config_of, families_of, transport_set, transports_of, waits_of};
 
 use crate::address::{TurnAddress, transport_of};
 use std::alloc::Global;
@@ -10,8 +10,8 @@ use std::time::Duration;
 use stun_proto::auth::Feature;
 use stun_types::message::IntegrityAlgorithm;
 use stun_types::{AddressFamily, NoMemory, TransportType};
-use turn_client_proto::api::TurnConfig;
-use turn_client_proto::types::TurnCredentials;
+use turn_client_proto_api::config::TurnConfig;
+use turn_types::TurnCredentials;
 
 /// The bit of IPv6 among families.
 const FAMILY_IPV6: u32 = 2;
@@ -79,7 +79,7 @@ impl TurnSettings {
     /// The transports to the server and between that and the peers, where each number of the settings names
     /// something, and over UDP the peers' is UDP.
     #[tactic(auto, unfolding(crate::specs::Settings::transports_of))]
-    pub(crate) fn transports(&self) -> Option<(TransportType, TransportType)>
+    pub fn transports(&self) -> Option<(TransportType, TransportType)>
         ensures value { result ≡ transports_of self.now }
         ensures over_udp { IfSome result (λ both. both.0 ≡ Udp → both.1 ≡ Udp) }
     {
@@ -97,7 +97,7 @@ impl TurnSettings {
     }
 
     /// The settings of a client of this user, whose allocation is over a transport.
-    pub(crate) fn config(
+    pub fn config(
         &self,
         alloc: Global,
         username: &str,

@@ -1,13 +1,13 @@
 //! What is to be sent, what came, and what is to be waited for, as C is told it.
 
 ghost use Rattle.std.specs.Prelude.{◌≡◌};
-ghost use Rattle.turn_client_c.specs.Told.{told_close, told_open, told_payload, told_report, told_way, told_wait};
+ghost use Rattle.turn_client_told.specs.Told.{told_close, told_open, told_payload, told_report, told_way, told_wait};
 
 use crate::address::{TurnAddress, number_of};
 use std::net::SocketAddr;
 use stun_proto::Instant;
 use stun_types::TransportType;
-use turn_client_proto::api::Socket5Tuple;
+use turn_client_proto_api::answer::Socket5Tuple;
 
 /// What is to be sent.
 #[repr(C)]
@@ -25,7 +25,7 @@ pub struct TurnTransmit {
 
 impl TurnTransmit {
     /// So many bytes, by this transport, from one address to another.
-    pub(crate) fn of(
+    pub fn of(
         size: usize,
         transport: TransportType,
         from: SocketAddr,
@@ -66,7 +66,7 @@ pub struct TurnPayload {
 
 impl TurnPayload {
     /// Data of a peer.
-    pub(crate) fn of(
+    pub fn of(
         start: usize,
         size: usize,
         is_joined: bool,
@@ -88,7 +88,7 @@ impl TurnPayload {
     }
 
     /// A report on the way to a peer.
-    pub(crate) fn report(
+    pub fn report(
         transport: TransportType,
         peer: SocketAddr,
         icmp_type: u8,
@@ -130,7 +130,7 @@ pub struct TurnWait {
 
 impl TurnWait {
     /// A moment.
-    pub(crate) fn until(moment: Instant) -> TurnWait
+    pub fn until(moment: Instant) -> TurnWait
         ensures { result ≡ told_wait moment }
     {
         TurnWait {
@@ -144,7 +144,7 @@ impl TurnWait {
     }
 
     /// A connection to open.
-    pub(crate) fn open(id: u32, socket: Socket5Tuple, peer: SocketAddr) -> TurnWait
+    pub fn open(id: u32, socket: Socket5Tuple, peer: SocketAddr) -> TurnWait
         ensures { result ≡ told_open id socket peer }
     {
         TurnWait {
@@ -158,7 +158,7 @@ impl TurnWait {
     }
 
     /// A connection to close.
-    pub(crate) fn close(from: SocketAddr, to: SocketAddr) -> TurnWait
+    pub fn close(from: SocketAddr, to: SocketAddr) -> TurnWait
         ensures { result ≡ told_close from to }
     {
         TurnWait {

@@ -9,10 +9,10 @@ use Rattle.stun_types.specs.declared.transport.TransportType.TheVariants.{Udp, T
 use Rattle.stun_proto.specs.Features.{Feature, Required, Disabled}
 use Rattle.stun_proto.specs.Schedule.{Waits}
 use Rattle.stun_proto.specs.SupportedAlgorithms.{with_algorithm}
-use Rattle.turn_client_proto.specs.Config.{Config, default_config}
-use Rattle.turn_client_proto.specs.Api.Families.{with_family}
-use Rattle.turn_client_c.specs.Addresses.{transport_of}
-use Rattle.turn_client_c.specs.declared.settings.TurnSettings.{TurnSettings}
+use Rattle.turn_client_proto_api.specs.Config.{Config, default_config}
+use Rattle.turn_client_proto_api.specs.Families.{with_family}
+use Rattle.turn_client_told.specs.Addresses.{transport_of}
+use Rattle.turn_client_told.specs.declared.settings.TurnSettings.{TurnSettings}
 
 -- the transport of a number in IP; 0 is UDP
 abbrev pub transport_set : ℕ → Option TransportType

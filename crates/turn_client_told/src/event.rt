@@ -1,12 +1,12 @@
 //! Events as C is told them.
 
 ghost use Rattle.std.specs.Prelude.{◌≡◌};
-ghost use Rattle.turn_client_c.specs.Addresses.{no_address};
-ghost use Rattle.turn_client_c.specs.Told.{family_number, told_event};
+ghost use Rattle.turn_client_told.specs.Addresses.{no_address};
+ghost use Rattle.turn_client_told.specs.Told.{family_number, told_event};
 
 use crate::address::{IPV4, IPV6, TurnAddress, number_of};
 use stun_types::AddressFamily;
-use turn_client_proto::api::TurnEvent;
+use turn_client_proto_api::event::TurnEvent;
 
 /// An allocation was created.
 const ALLOCATION_CREATED: u32 = 1;
@@ -60,7 +60,7 @@ fn of_family(family: AddressFamily) -> TurnAddress
 
 impl TurnClientEvent {
     /// An event, told to C.
-    pub(crate) fn of(event: TurnEvent) -> TurnClientEvent
+    pub fn of(event: TurnEvent) -> TurnClientEvent
         ensures { result ≡ told_event event }
     {
         let (kind, transport, address) = match event {

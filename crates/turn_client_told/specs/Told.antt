@@ -5,14 +5,14 @@ use Rattle.stun_types.specs.declared.family.AddressFamily.{AddressFamily}
 use Rattle.stun_types.specs.declared.family.AddressFamily.TheVariants.{IPV4, IPV6}
 use Rattle.stun_types.specs.declared.transport.TransportType.{TransportType}
 use Rattle.stun_types.specs.declared.transport.TransportType.TheVariants.{Tcp}
-use Rattle.turn_client_proto.specs.Api.declared.answer.Socket5Tuple.{Socket5Tuple}
-use Rattle.turn_client_proto.specs.Api.declared.event.TurnEvent.{TurnEvent}
-use Rattle.turn_client_proto.specs.Api.declared.event.TurnEvent.TheVariants.{AllocationCreated, AllocationCreateFailed, PermissionCreated, PermissionCreateFailed, ChannelCreated, ChannelCreateFailed, TcpConnected, TcpConnectFailed}
-use Rattle.turn_client_c.specs.Addresses.{ipv4, ipv6, no_address, number_of, told_address, told_ip}
-use Rattle.turn_client_c.specs.declared.event.TurnClientEvent.{TurnClientEvent}
-use Rattle.turn_client_c.specs.declared.told.TurnPayload.{TurnPayload}
-use Rattle.turn_client_c.specs.declared.told.TurnTransmit.{TurnTransmit}
-use Rattle.turn_client_c.specs.declared.told.TurnWait.{TurnWait}
+use Rattle.turn_client_proto_api.specs.declared.answer.Socket5Tuple.{Socket5Tuple}
+use Rattle.turn_client_proto_api.specs.declared.event.TurnEvent.{TurnEvent}
+use Rattle.turn_client_proto_api.specs.declared.event.TurnEvent.TheVariants.{AllocationCreated, AllocationCreateFailed, PermissionCreated, PermissionCreateFailed, ChannelCreated, ChannelCreateFailed, TcpConnected, TcpConnectFailed}
+use Rattle.turn_client_told.specs.Addresses.{ipv4, ipv6, no_address, number_of, told_address, told_ip}
+use Rattle.turn_client_told.specs.declared.event.TurnClientEvent.{TurnClientEvent}
+use Rattle.turn_client_told.specs.declared.told.TurnPayload.{TurnPayload}
+use Rattle.turn_client_told.specs.declared.told.TurnTransmit.{TurnTransmit}
+use Rattle.turn_client_told.specs.declared.told.TurnWait.{TurnWait}
 
 abbrev pub family_number : AddressFamily → ℕ
 family_number IPV4 = ipv4

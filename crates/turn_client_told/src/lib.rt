@@ -1,0 +1,8 @@
+//! What C tells a client and is told of one: addresses, settings, events, payloads, waits, as structs of
+//! `include/turn_client.h`.
+#![tactic(auto)]
+
+pub mod address;
+pub mod event;
+pub mod settings;
+pub mod told;
