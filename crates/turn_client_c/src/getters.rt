@@ -75,10 +75,8 @@ pub extern "C" fn turn_client_relayed(
         let Some((transport, address)) = shown.next() else {
             break;
         };
-        *slot = TurnRelayed {
-            transport: number_of(transport),
-            address: TurnAddress::of_socket(address),
-        };
+        slot.transport = number_of(transport);
+        slot.address.tell(address);
     }
     client.put(whole);
     count
@@ -111,7 +109,7 @@ pub extern "C" fn turn_client_permissions(
         let Some(ip) = shown.next() else {
             break;
         };
-        *slot = TurnAddress::of_ip(ip);
+        slot.tell_ip(ip);
     }
     client.put(whole);
     count
@@ -158,10 +156,8 @@ pub extern "C" fn turn_client_channels(
         let Some((number, peer)) = shown.next() else {
             break;
         };
-        *slot = TurnChannel {
-            number,
-            peer: TurnAddress::of_socket(peer),
-        };
+        slot.number = number;
+        slot.peer.tell(peer);
     }
     client.put(whole);
     count
@@ -186,12 +182,10 @@ pub extern "C" fn turn_client_connections(
         let Some((local, peer, id, is_bound)) = shown.next() else {
             break;
         };
-        *slot = TurnConnection {
-            local: TurnAddress::of_socket(local),
-            peer: TurnAddress::of_socket(peer),
-            id,
-            is_bound,
-        };
+        slot.local.tell(local);
+        slot.peer.tell(peer);
+        slot.id = id;
+        slot.is_bound = is_bound;
     }
     client.put(whole);
     count

@@ -41,19 +41,19 @@ fn write_front(out: &mut [u8], bytes: &[u8]) -> bool
 }
 
 /// Tells data of a peer; bytes that don't stand in what came are kept to be read.
-fn tell_data(given: TurnPeerData<&[u8]>, joined: &mut Vec<u8>) -> TurnPayload
-    ensures told { result ≡ payload_told given.entry }
+fn tell_data(given: TurnPeerData<&[u8]>, joined: &mut Vec<u8>, payload: &mut TurnPayload)
+    ensures told { payload.new ≡ payload_told given.entry }
     ensures joined { joined.old.items ≡ [] → joined.new.items ≡ joined_by given.entry }
 {
     let size = given.data().len();
     let (transport, peer) = (given.transport, given.peer);
     match given.into_data() {
         DataRangeOrOwned::Range { range, .. } => {
-            TurnPayload::of(range.start, size, false, transport, peer)
+            payload.tell(range.start, size, false, transport, peer);
         }
         DataRangeOrOwned::Owned(bytes) => {
             *joined = bytes;
-            TurnPayload::of(0, size, true, transport, peer)
+            payload.tell(0, size, true, transport, peer);
         }
     }
 }
@@ -68,7 +68,7 @@ fn tell(answer: TurnRecvRet<&[u8]>, joined: &mut Vec<u8>, payload: &mut TurnPayl
         TurnRecvRet::Handled => status::OK,
         TurnRecvRet::Ignored(_) => status::IGNORED,
         TurnRecvRet::PeerData(given) => {
-            *payload = tell_data(given, joined);
+            tell_data(given, joined, payload);
             status::PAYLOAD
         }
         TurnRecvRet::PeerIcmp {
@@ -78,7 +78,7 @@ fn tell(answer: TurnRecvRet<&[u8]>, joined: &mut Vec<u8>, payload: &mut TurnPayl
             icmp_code,
             icmp_data,
         } => {
-            *payload = TurnPayload::report(transport, peer, icmp_type, icmp_code, icmp_data);
+            payload.tell_report(transport, peer, icmp_type, icmp_code, icmp_data);
             status::ICMP
         }
         TurnRecvRet::NoMemory(_) => status::NO_MEMORY,
@@ -139,9 +139,9 @@ pub extern "C" fn turn_client_feed(
 }
 
 /// Keeps the bytes of a payload that waited, to be read, and tells it.
-fn tell_waiting(given: TurnPeerData<Vec<u8>>, joined: &mut Vec<u8>) -> TurnPayload
+fn tell_waiting(given: TurnPeerData<Vec<u8>>, joined: &mut Vec<u8>, payload: &mut TurnPayload)
     requires { given.place ≡ None }
-    ensures told { result ≡ payload_told given }
+    ensures told { payload.new ≡ payload_told given }
     ensures joined { joined.new.items ≡ given.payload }
 {
     let size = given.data().len();
@@ -149,7 +149,7 @@ fn tell_waiting(given: TurnPeerData<Vec<u8>>, joined: &mut Vec<u8>) -> TurnPaylo
     match given.into_data() {
         DataRangeOrOwned::Owned(bytes) => {
             *joined = bytes;
-            TurnPayload::of(0, size, true, transport, peer)
+            payload.tell(0, size, true, transport, peer);
         }
         // What waits stands in no bytes that came.
         DataRangeOrOwned::Range { .. } => unreachable!(),
@@ -166,7 +166,7 @@ fn pull(whole: &mut Whole, now: Instant, payload: &mut TurnPayload) -> i32
     }
     match whole.client.poll_recv(now) {
         Ok(Some(given)) => {
-            *payload = tell_waiting(given, &mut whole.joined);
+            tell_waiting(given, &mut whole.joined, payload);
             status::PAYLOAD
         }
         Ok(None) => status::NOTHING,
@@ -227,7 +227,7 @@ fn tell_drawn(
     match answer {
         Ok(Some(drawn)) => {
             let bytes = drawn.bytes.as_slice();
-            *transmit = TurnTransmit::of(bytes.len(), drawn.transport, drawn.from, drawn.to);
+            transmit.tell(bytes.len(), drawn.transport, drawn.from, drawn.to);
             if write_front(out, bytes) {
                 status::OK
             } else {
@@ -283,7 +283,7 @@ fn write_carrier(
     ensures told { transmit.new ≡ send_told transmit.old (Ok (Some (carried carrier.entry))) }
 {
     let size = carrier.bytes.len();
-    *transmit = TurnTransmit::of(size, carrier.transport, carrier.from, carrier.to);
+    transmit.tell(size, carrier.transport, carrier.from, carrier.to);
     if out.len() < size {
         return status::SMALL_BUFFER;
     }

@@ -32,7 +32,7 @@ pub extern "C" fn turn_client_poll(
     client.put(whole);
     match answer {
         TurnPollRet::WaitUntil(moment) => {
-            *wait = TurnWait::until(moment);
+            wait.tell_until(moment);
             status::OK
         }
         TurnPollRet::AllocateTcpSocket {
@@ -40,14 +40,14 @@ pub extern "C" fn turn_client_poll(
             socket,
             peer_addr,
         } => {
-            *wait = TurnWait::open(id, socket, peer_addr);
+            wait.tell_open(id, socket, peer_addr);
             status::OPEN_SOCKET
         }
         TurnPollRet::TcpClose {
             local_addr,
             remote_addr,
         } => {
-            *wait = TurnWait::close(local_addr, remote_addr);
+            wait.tell_close(local_addr, remote_addr);
             status::CLOSE_SOCKET
         }
         TurnPollRet::Closed => status::CLOSED,
@@ -73,7 +73,7 @@ pub extern "C" fn turn_client_event(
     client.put(whole);
     match answer {
         Some(happened) => {
-            *event = TurnClientEvent::of(happened);
+            event.tell(happened);
             status::OK
         }
         None => status::NOTHING,

@@ -50,55 +50,52 @@ impl TurnAddress {
         }
     }
 
-    /// An address, told to C.
-    pub fn of_socket(address: SocketAddr) -> TurnAddress
-        ensures { result ≡ told_address address }
+    /// Tells C an address.
+    pub fn tell(&mut self, address: SocketAddr)
+        ensures { self.new ≡ told_address address }
     {
         match address {
-            SocketAddr::V4(v4) => of_v4(*v4.ip(), v4.port()),
-            SocketAddr::V6(v6) => TurnAddress {
-                ip: v6.ip().octets(),
-                port: v6.port(),
-                family: IPV6,
-            },
+            SocketAddr::V4(v4) => self.tell_v4(*v4.ip(), v4.port()),
+            SocketAddr::V6(v6) => {
+                self.ip = v6.ip().octets();
+                self.port = v6.port();
+                self.family = IPV6;
+            }
         }
     }
 
-    /// An IP, told to C.
-    pub fn of_ip(ip: IpAddr) -> TurnAddress
-        ensures { result ≡ told_ip ip }
+    /// Tells C an IP.
+    pub fn tell_ip(&mut self, ip: IpAddr)
+        ensures { self.new ≡ told_ip ip }
     {
         match ip {
-            IpAddr::V4(v4) => of_v4(v4, 0),
-            IpAddr::V6(v6) => TurnAddress {
-                ip: v6.octets(),
-                port: 0,
-                family: IPV6,
-            },
+            IpAddr::V4(v4) => self.tell_v4(v4, 0),
+            IpAddr::V6(v6) => {
+                self.ip = v6.octets();
+                self.port = 0;
+                self.family = IPV6;
+            }
         }
     }
 
-    /// No address, but for a family: 0 is none.
-    pub fn none(family: u8) -> TurnAddress
-        ensures { result ≡ no_address family }
+    /// Tells C no address, but for a family: 0 is none.
+    pub fn tell_none(&mut self, family: u8)
+        ensures { self.new ≡ no_address family }
     {
-        TurnAddress {
-            ip: [0; 16],
-            port: 0,
-            family,
-        }
+        self.ip = [0; 16];
+        self.port = 0;
+        self.family = family;
     }
-}
 
-/// An address of IPv4 and a port, told to C.
-fn of_v4(ip: Ipv4Addr, port: u16) -> TurnAddress
-    ensures { result ≡ record { ip = ipv4_octets ip ++ zeros; port = port; family = ipv4 } }
-{
-    let [a, b, c, d] = ip.octets();
-    TurnAddress {
-        ip: [a, b, c, d, 0, 0, 0, 0, 0, 0, 0, 0, 0, 0, 0, 0],
-        port,
-        family: IPV4,
+    /// Tells C an address of IPv4 and a port.
+    fn tell_v4(&mut self, ip: Ipv4Addr, port: u16)
+        ensures { self.new
+            ≡ record { ip = ipv4_octets ip ++ zeros; port = port; family = ipv4 } }
+    {
+        let [a, b, c, d] = ip.octets();
+        self.ip = [a, b, c, d, 0, 0, 0, 0, 0, 0, 0, 0, 0, 0, 0, 0];
+        self.port = port;
+        self.family = IPV4;
     }
 }
 

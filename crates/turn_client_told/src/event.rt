@@ -1,7 +1,6 @@
 //! Events as C is told them.
 
 ghost use Rattle.std.specs.Prelude.{◌≡◌};
-ghost use Rattle.turn_client_told.specs.Addresses.{no_address};
 ghost use Rattle.turn_client_told.specs.Told.{family_number, told_event};
 
 use crate::address::{IPV4, IPV6, TurnAddress, number_of};
@@ -48,49 +47,62 @@ pub struct TurnClientEvent {
     pub address: TurnAddress,
 }
 
-/// A family alone.
-fn of_family(family: AddressFamily) -> TurnAddress
-    ensures { result ≡ no_address (family_number family) }
-{
-    match family {
-        AddressFamily::IPV4 => TurnAddress::none(IPV4),
-        AddressFamily::IPV6 => TurnAddress::none(IPV6),
+impl TurnClientEvent {
+    /// Tells C what happened, with the transport's number where one is told.
+    fn tell_kind(&mut self, kind: u32, transport: u32)
+        ensures { self.new ≡ record self.old { kind = kind; transport = transport } }
+    {
+        self.kind = kind;
+        self.transport = transport;
+    }
+
+    /// Tells C an event.
+    pub fn tell(&mut self, event: TurnEvent)
+        ensures { self.new ≡ told_event event }
+    {
+        match event {
+            TurnEvent::AllocationCreated(by, at) => {
+                self.tell_kind(ALLOCATION_CREATED, number_of(by));
+                self.address.tell(at);
+            }
+            TurnEvent::AllocationCreateFailed(family) => {
+                self.tell_kind(ALLOCATION_FAILED, 0);
+                self.address.tell_none(family_number(family));
+            }
+            TurnEvent::PermissionCreated(by, peer) => {
+                self.tell_kind(PERMISSION_CREATED, number_of(by));
+                self.address.tell_ip(peer);
+            }
+            TurnEvent::PermissionCreateFailed(by, peer) => {
+                self.tell_kind(PERMISSION_FAILED, number_of(by));
+                self.address.tell_ip(peer);
+            }
+            TurnEvent::ChannelCreated(by, peer) => {
+                self.tell_kind(CHANNEL_CREATED, number_of(by));
+                self.address.tell(peer);
+            }
+            TurnEvent::ChannelCreateFailed(by, peer) => {
+                self.tell_kind(CHANNEL_FAILED, number_of(by));
+                self.address.tell(peer);
+            }
+            TurnEvent::TcpConnected(peer) => {
+                self.tell_kind(TCP_CONNECTED, TCP);
+                self.address.tell(peer);
+            }
+            TurnEvent::TcpConnectFailed(peer) => {
+                self.tell_kind(TCP_FAILED, TCP);
+                self.address.tell(peer);
+            }
+        }
     }
 }
 
-impl TurnClientEvent {
-    /// An event, told to C.
-    pub fn of(event: TurnEvent) -> TurnClientEvent
-        ensures { result ≡ told_event event }
-    {
-        let (kind, transport, address) = match event {
-            TurnEvent::AllocationCreated(by, at) => {
-                (
-                    ALLOCATION_CREATED,
-                    number_of(by),
-                    TurnAddress::of_socket(at),
-                )
-            }
-            TurnEvent::AllocationCreateFailed(family) => (ALLOCATION_FAILED, 0, of_family(family)),
-            TurnEvent::PermissionCreated(by, peer) => {
-                (PERMISSION_CREATED, number_of(by), TurnAddress::of_ip(peer))
-            }
-            TurnEvent::PermissionCreateFailed(by, peer) => {
-                (PERMISSION_FAILED, number_of(by), TurnAddress::of_ip(peer))
-            }
-            TurnEvent::ChannelCreated(by, peer) => {
-                (CHANNEL_CREATED, number_of(by), TurnAddress::of_socket(peer))
-            }
-            TurnEvent::ChannelCreateFailed(by, peer) => {
-                (CHANNEL_FAILED, number_of(by), TurnAddress::of_socket(peer))
-            }
-            TurnEvent::TcpConnected(peer) => (TCP_CONNECTED, TCP, TurnAddress::of_socket(peer)),
-            TurnEvent::TcpConnectFailed(peer) => (TCP_FAILED, TCP, TurnAddress::of_socket(peer)),
-        };
-        TurnClientEvent {
-            kind,
-            transport,
-            address,
-        }
+/// The number of a family.
+fn family_number(family: AddressFamily) -> u8
+    ensures { result ≡ family_number family }
+{
+    match family {
+        AddressFamily::IPV4 => IPV4,
+        AddressFamily::IPV6 => IPV6,
     }
 }

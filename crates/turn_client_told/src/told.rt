@@ -24,21 +24,14 @@ pub struct TurnTransmit {
 }
 
 impl TurnTransmit {
-    /// So many bytes, by this transport, from one address to another.
-    pub fn of(
-        size: usize,
-        transport: TransportType,
-        from: SocketAddr,
-        to: SocketAddr,
-    ) -> TurnTransmit
-        ensures { result ≡ told_way size transport from to }
+    /// Tells C of so many bytes, by this transport, from one address to another.
+    pub fn tell(&mut self, size: usize, transport: TransportType, from: SocketAddr, to: SocketAddr)
+        ensures { self.new ≡ told_way size transport from to }
     {
-        TurnTransmit {
-            size,
-            transport: number_of(transport),
-            from: TurnAddress::of_socket(from),
-            to: TurnAddress::of_socket(to),
-        }
+        self.size = size;
+        self.transport = number_of(transport);
+        self.from.tell(from);
+        self.to.tell(to);
     }
 }
 
@@ -65,48 +58,42 @@ pub struct TurnPayload {
 }
 
 impl TurnPayload {
-    /// Data of a peer.
-    pub fn of(
+    /// Tells C of data of a peer.
+    pub fn tell(
+        &mut self,
         start: usize,
         size: usize,
         is_joined: bool,
         transport: TransportType,
         peer: SocketAddr,
-    ) -> TurnPayload
-        ensures { result ≡ told_payload start size is_joined transport peer }
+    )
+        ensures { self.new ≡ told_payload start size is_joined transport peer }
     {
-        TurnPayload {
-            start,
-            size,
-            transport: number_of(transport),
-            peer: TurnAddress::of_socket(peer),
-            is_joined,
-            icmp_type: 0,
-            icmp_code: 0,
-            icmp_data: 0,
-        }
+        self.start = start;
+        self.size = size;
+        self.transport = number_of(transport);
+        self.peer.tell(peer);
+        self.is_joined = is_joined;
+        self.icmp_type = 0;
+        self.icmp_code = 0;
+        self.icmp_data = 0;
     }
 
-    /// A report on the way to a peer.
-    pub fn report(
+    /// Tells C of a report on the way to a peer.
+    pub fn tell_report(
+        &mut self,
         transport: TransportType,
         peer: SocketAddr,
         icmp_type: u8,
         icmp_code: u8,
         icmp_data: u32,
-    ) -> TurnPayload
-        ensures { result ≡ told_report transport peer icmp_type icmp_code icmp_data }
+    )
+        ensures { self.new ≡ told_report transport peer icmp_type icmp_code icmp_data }
     {
-        TurnPayload {
-            start: 0,
-            size: 0,
-            transport: number_of(transport),
-            peer: TurnAddress::of_socket(peer),
-            is_joined: false,
-            icmp_type,
-            icmp_code,
-            icmp_data,
-        }
+        self.tell(0, 0, false, transport, peer);
+        self.icmp_type = icmp_type;
+        self.icmp_code = icmp_code;
+        self.icmp_data = icmp_data;
     }
 }
 
@@ -129,45 +116,39 @@ pub struct TurnWait {
 }
 
 impl TurnWait {
-    /// A moment.
-    pub fn until(moment: Instant) -> TurnWait
-        ensures { result ≡ told_wait moment }
+    /// Tells C of a moment.
+    pub fn tell_until(&mut self, moment: Instant)
+        ensures { self.new ≡ told_wait moment }
     {
-        TurnWait {
-            until: moment.as_nanos(),
-            id: 0,
-            transport: 0,
-            from: TurnAddress::none(0),
-            to: TurnAddress::none(0),
-            peer: TurnAddress::none(0),
-        }
+        self.until = moment.as_nanos();
+        self.id = 0;
+        self.transport = 0;
+        self.from.tell_none(0);
+        self.to.tell_none(0);
+        self.peer.tell_none(0);
     }
 
-    /// A connection to open.
-    pub fn open(id: u32, socket: Socket5Tuple, peer: SocketAddr) -> TurnWait
-        ensures { result ≡ told_open id socket peer }
+    /// Tells C of a connection to open.
+    pub fn tell_open(&mut self, id: u32, socket: Socket5Tuple, peer: SocketAddr)
+        ensures { self.new ≡ told_open id socket peer }
     {
-        TurnWait {
-            until: 0,
-            id,
-            transport: number_of(socket.transport),
-            from: TurnAddress::of_socket(socket.from),
-            to: TurnAddress::of_socket(socket.to),
-            peer: TurnAddress::of_socket(peer),
-        }
+        self.until = 0;
+        self.id = id;
+        self.transport = number_of(socket.transport);
+        self.from.tell(socket.from);
+        self.to.tell(socket.to);
+        self.peer.tell(peer);
     }
 
-    /// A connection to close.
-    pub fn close(from: SocketAddr, to: SocketAddr) -> TurnWait
-        ensures { result ≡ told_close from to }
+    /// Tells C of a connection to close.
+    pub fn tell_close(&mut self, from: SocketAddr, to: SocketAddr)
+        ensures { self.new ≡ told_close from to }
     {
-        TurnWait {
-            until: 0,
-            id: 0,
-            transport: 0,
-            from: TurnAddress::of_socket(from),
-            to: TurnAddress::of_socket(to),
-            peer: TurnAddress::none(0),
-        }
+        self.until = 0;
+        self.id = 0;
+        self.transport = 0;
+        self.from.tell(from);
+        self.to.tell(to);
+        self.peer.tell_none(0);
     }
 }

@@ -8,7 +8,7 @@ use Rattle.turn_client_c.proofs.traffic.pull.Goals as goal
 
 pub returns-in-Ok-Some : goal.returns-in-Ok-Some
 returns-in-Ok-Some c =
-    is_pulled {E = Refused} (Ok (Some c.in-Ok-Some.given)) c.args.now _ c.args.payload.now c.tell_waiting.result c.args.whole.now (record { client = c.poll_recv.new.self; joined = c.tell_waiting.new.joined })
+    is_pulled {E = Refused} (Ok (Some c.in-Ok-Some.given)) c.args.now _ c.args.payload.now c.tell_waiting.new.payload c.args.whole.now (record { client = c.poll_recv.new.self; joined = c.tell_waiting.new.joined })
     (search rules)
     (subst (λ (g : Option PeerPayload). IsWaitingGiven (kept_of c.args.whole.now.client) c.args.now g (kept_of c.poll_recv.new.self)) c.in-Ok-Some.field-0-is c.in-Ok-Some.ensures.ok)
     tt (search rules) c.tell_waiting.ensures.told (λ _. c.tell_waiting.ensures.joined)
