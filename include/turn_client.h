@@ -48,6 +48,7 @@
  *     that its port is closed: close the handle then. To a wrong password the server answers challenges, of which
  *     nine are answered within half a second. Both end in TURN_ALLOCATION_FAILED for each family, which tells no
  *     cause, and TURN_CLOSED. A server may also refuse one family of two: then the client goes on with the other.
+ *   - A server that grants less than 600 s at a renewal is not believed: the allocation ends as it stood before.
  *   - No event tells that an allocation's time is over, nor what turn_client_delete ends: look at turn_client_relayed.
  *   - A client that has ended or failed answers TURN_NOTHING to draw, TURN_CLOSED to poll, TURN_NO_ALLOCATION to what
  *     asks for something. Close what sockets are still open.
