@@ -15,7 +15,8 @@ use Rattle.turn_client_proto.specs.Clients.{kept_of}
 use Rattle.turn_client_proto.specs.Drawing.{HasToSend, IsDrawn, Sent, sent_of}
 use Rattle.turn_client_proto.specs.Ending.{HasFailed}
 use Rattle.turn_client_proto.specs.Receipts.{IsReceived, IsWaitingGiven, IsWaitingLost}
-use Rattle.turn_client_proto.specs.Sending.{IsSendAnswered, written_as}
+use Rattle.turn_client_proto.specs.Sending.{IsSendAnswered, answered_as}
+use Rattle.turn_client_proto.specs.Api.Sends.{send_text}
 use Rattle.turn_client_proto.specs.Api.declared.send.DelayedMessageOrChannelSend.{DelayedMessageOrChannelSend}
 use Rattle.turn_types.specs.declared.transmit.TransmitBuild.{TransmitBuild}
 use Rattle.stun_types.specs.Registry.{greatest_size}
@@ -133,9 +134,14 @@ message_room = greatest_size
 abbrev pub send_extra : ℕ
 send_extra = 64
 
--- what carries a payload, as it is sent
-abbrev pub carried : TransmitBuild (DelayedMessageOrChannelSend (Bor (List ℕ))) → Sent
-carried carrier = written_as (λ (b : Bor (List ℕ)). b.now) carrier
+-- what carries a payload, as bytes
+abbrev pub carried_text : DelayedMessageOrChannelSend (Bor (List ℕ)) → List ℕ
+carried_text carrier = send_text (λ (b : Bor (List ℕ)). b.now) carrier
+
+-- what `send_to` answers, as it is sent
+abbrev pub sent_as : Result (Option (TransmitBuild (DelayedMessageOrChannelSend (Bor (List ℕ))))) SendError
+    → Result (Option Sent) SendError
+sent_as answer = answered_as (λ (b : Bor (List ℕ)). b.now) answer
 
 -- bytes that were drawn, into a buffer of this size: no message has so many that there is no room
 abbrev pub draw_status : {E : Type 0} → ℕ → Result (Option (Transmit Data)) E → ℤ

@@ -76,7 +76,7 @@ pub extern "C" fn turn_client_relayed(
             break;
         };
         slot.transport = number_of(transport);
-        slot.address.tell(address);
+        slot.address.tell(&address);
     }
     client.put(whole);
     count
@@ -157,7 +157,7 @@ pub extern "C" fn turn_client_channels(
             break;
         };
         slot.number = number;
-        slot.peer.tell(peer);
+        slot.peer.tell(&peer);
     }
     client.put(whole);
     count
@@ -182,8 +182,8 @@ pub extern "C" fn turn_client_connections(
         let Some((local, peer, id, is_bound)) = shown.next() else {
             break;
         };
-        slot.local.tell(local);
-        slot.peer.tell(peer);
+        slot.local.tell(&local);
+        slot.peer.tell(&peer);
         slot.id = id;
         slot.is_bound = is_bound;
     }

@@ -1,10 +1,10 @@
 //! The calls by which bytes come and go.
 
-ghost use Rattle.std.specs.Prelude.{◌≡◌, ◌+◌, [], length, nat_lt, not, None, Ok, Some};
+ghost use Rattle.std.specs.Prelude.{◌≡◌, ◌+◌, [], length, nat_lt, not, None, if◌then◌else◌};
 ghost use Rattle.turn_client_told.specs.Addresses.{address_of, transport_of};
 ghost use Rattle.turn_client_c.specs.Calls.{Named, OnClient, Unless};
-ghost use Rattle.turn_client_c.specs.Codes.{bad_family, bad_setting, small_buffer};
-ghost use Rattle.turn_client_c.specs.Traffic.{IsDrawnTold, IsFed, IsPulledTold, IsReadTold, IsSendTold, carried, draw_status, draw_told, draw_written, joined_by, message_room, payload_told, recv_joined, recv_status, recv_told, send_extra, send_status, send_told, written};
+ghost use Rattle.turn_client_c.specs.Codes.{bad_family, bad_setting, ok, small_buffer};
+ghost use Rattle.turn_client_c.specs.Traffic.{IsDrawnTold, IsFed, IsPulledTold, IsReadTold, IsSendTold, carried_text, draw_status, draw_told, draw_written, joined_by, message_room, payload_told, recv_joined, recv_status, recv_told, send_extra, send_told, sent_as, written};
 
 use crate::handle::TurnHandle;
 use crate::status;
@@ -49,11 +49,11 @@ fn tell_data(given: TurnPeerData<&[u8]>, joined: &mut Vec<u8>, payload: &mut Tur
     let (transport, peer) = (given.transport, given.peer);
     match given.into_data() {
         DataRangeOrOwned::Range { range, .. } => {
-            payload.tell(range.start, size, false, transport, peer);
+            payload.tell(range.start, size, false, transport, &peer);
         }
         DataRangeOrOwned::Owned(bytes) => {
             *joined = bytes;
-            payload.tell(0, size, true, transport, peer);
+            payload.tell(0, size, true, transport, &peer);
         }
     }
 }
@@ -78,7 +78,7 @@ fn tell(answer: TurnRecvRet<&[u8]>, joined: &mut Vec<u8>, payload: &mut TurnPayl
             icmp_code,
             icmp_data,
         } => {
-            payload.tell_report(transport, peer, icmp_type, icmp_code, icmp_data);
+            payload.tell_report(transport, &peer, icmp_type, icmp_code, icmp_data);
             status::ICMP
         }
         TurnRecvRet::NoMemory(_) => status::NO_MEMORY,
@@ -149,7 +149,7 @@ fn tell_waiting(given: TurnPeerData<Vec<u8>>, joined: &mut Vec<u8>, payload: &mu
     match given.into_data() {
         DataRangeOrOwned::Owned(bytes) => {
             *joined = bytes;
-            payload.tell(0, size, true, transport, peer);
+            payload.tell(0, size, true, transport, &peer);
         }
         // What waits stands in no bytes that came.
         DataRangeOrOwned::Range { .. } => unreachable!(),
@@ -227,7 +227,7 @@ fn tell_drawn(
     match answer {
         Ok(Some(drawn)) => {
             let bytes = drawn.bytes.as_slice();
-            transmit.tell(bytes.len(), drawn.transport, drawn.from, drawn.to);
+            transmit.tell(bytes.len(), drawn.transport, &drawn.from, &drawn.to);
             if write_front(out, bytes) {
                 status::OK
             } else {
@@ -272,23 +272,31 @@ pub extern "C" fn turn_client_draw(
     status
 }
 
-/// Writes what carries a payload to the front of a buffer, where it has the room.
-fn write_carrier(
-    carrier: TransmitBuild<DelayedMessageOrChannelSend<&[u8]>>,
-    out: &mut [u8],
-    transmit: &mut TurnTransmit,
-) -> i32
-    ensures status { result ≡ send_status (length out.old) (Ok (Some (carried carrier.entry))) }
-    ensures bytes { out.new ≡ written (carried carrier.entry).bytes out.old }
-    ensures told { transmit.new ≡ send_told transmit.old (Ok (Some (carried carrier.entry))) }
+/// What carries a payload to a peer, or why nothing does.
+type Carried<'a> = Result<Option<TransmitBuild<DelayedMessageOrChannelSend<&'a [u8]>>>, SendError>;
+
+/// Tells how a payload is carried, where it is.
+fn tell_way(answer: &Carried<'_>, transmit: &mut TurnTransmit)
+    ensures { transmit.new ≡ send_told transmit.old (sent_as answer.now) }
 {
-    let size = carrier.bytes.len();
-    transmit.tell(size, carrier.transport, carrier.from, carrier.to);
+    if let Ok(Some(carrier)) = answer {
+        let size = carrier.bytes.len();
+        transmit.tell(size, carrier.transport, &carrier.from, &carrier.to);
+    }
+}
+
+/// Writes what carries a payload to the front of a buffer, where it has the room.
+fn write_carrier(bytes: DelayedMessageOrChannelSend<&[u8]>, out: &mut [u8]) -> i32
+    ensures status { result ≡ (if nat_lt (length out.old) (length (carried_text bytes.entry))
+        then small_buffer else ok) }
+    ensures bytes { out.new ≡ written (carried_text bytes.entry) out.old }
+{
+    let size = bytes.len();
     if out.len() < size {
         return status::SMALL_BUFFER;
     }
     let (front, _) = out.split_at_mut(size);
-    carrier.bytes.write_into(front);
+    bytes.write_into(front);
     status::OK
 }
 
@@ -330,8 +338,9 @@ pub extern "C" fn turn_client_send(
         .client
         .send_to(by, to, bytes, Instant::from_nanos(now));
     client.put(whole);
+    tell_way(&answer, transmit);
     match answer {
-        Ok(Some(carrier)) => write_carrier(carrier, out, transmit),
+        Ok(Some(carrier)) => write_carrier(carrier.bytes, out),
         Ok(None) => status::NOTHING,
         Err(SendError::NoAllocation) => status::NO_ALLOCATION,
         Err(SendError::NoPermission) => status::NO_PERMISSION,

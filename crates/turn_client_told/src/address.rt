@@ -51,8 +51,8 @@ impl TurnAddress {
     }
 
     /// Tells C an address.
-    pub fn tell(&mut self, address: SocketAddr)
-        ensures { self.new ≡ told_address address }
+    pub fn tell(&mut self, address: &SocketAddr)
+        ensures { self.new ≡ told_address address.now }
     {
         match address {
             SocketAddr::V4(v4) => self.tell_v4(*v4.ip(), v4.port()),

@@ -63,7 +63,7 @@ impl TurnClientEvent {
         match event {
             TurnEvent::AllocationCreated(by, at) => {
                 self.tell_kind(ALLOCATION_CREATED, number_of(by));
-                self.address.tell(at);
+                self.address.tell(&at);
             }
             TurnEvent::AllocationCreateFailed(family) => {
                 self.tell_kind(ALLOCATION_FAILED, 0);
@@ -79,19 +79,19 @@ impl TurnClientEvent {
             }
             TurnEvent::ChannelCreated(by, peer) => {
                 self.tell_kind(CHANNEL_CREATED, number_of(by));
-                self.address.tell(peer);
+                self.address.tell(&peer);
             }
             TurnEvent::ChannelCreateFailed(by, peer) => {
                 self.tell_kind(CHANNEL_FAILED, number_of(by));
-                self.address.tell(peer);
+                self.address.tell(&peer);
             }
             TurnEvent::TcpConnected(peer) => {
                 self.tell_kind(TCP_CONNECTED, TCP);
-                self.address.tell(peer);
+                self.address.tell(&peer);
             }
             TurnEvent::TcpConnectFailed(peer) => {
                 self.tell_kind(TCP_FAILED, TCP);
-                self.address.tell(peer);
+                self.address.tell(&peer);
             }
         }
     }

@@ -25,8 +25,14 @@ pub struct TurnTransmit {
 
 impl TurnTransmit {
     /// Tells C of so many bytes, by this transport, from one address to another.
-    pub fn tell(&mut self, size: usize, transport: TransportType, from: SocketAddr, to: SocketAddr)
-        ensures { self.new ≡ told_way size transport from to }
+    pub fn tell(
+        &mut self,
+        size: usize,
+        transport: TransportType,
+        from: &SocketAddr,
+        to: &SocketAddr,
+    )
+        ensures { self.new ≡ told_way size transport from.now to.now }
     {
         self.size = size;
         self.transport = number_of(transport);
@@ -65,9 +71,9 @@ impl TurnPayload {
         size: usize,
         is_joined: bool,
         transport: TransportType,
-        peer: SocketAddr,
+        peer: &SocketAddr,
     )
-        ensures { self.new ≡ told_payload start size is_joined transport peer }
+        ensures { self.new ≡ told_payload start size is_joined transport peer.now }
     {
         self.start = start;
         self.size = size;
@@ -83,12 +89,12 @@ impl TurnPayload {
     pub fn tell_report(
         &mut self,
         transport: TransportType,
-        peer: SocketAddr,
+        peer: &SocketAddr,
         icmp_type: u8,
         icmp_code: u8,
         icmp_data: u32,
     )
-        ensures { self.new ≡ told_report transport peer icmp_type icmp_code icmp_data }
+        ensures { self.new ≡ told_report transport peer.now icmp_type icmp_code icmp_data }
     {
         self.tell(0, 0, false, transport, peer);
         self.icmp_type = icmp_type;
@@ -135,9 +141,9 @@ impl TurnWait {
         self.until = 0;
         self.id = id;
         self.transport = number_of(socket.transport);
-        self.from.tell(socket.from);
-        self.to.tell(socket.to);
-        self.peer.tell(peer);
+        self.from.tell(&socket.from);
+        self.to.tell(&socket.to);
+        self.peer.tell(&peer);
     }
 
     /// Tells C of a connection to close.
@@ -147,8 +153,8 @@ impl TurnWait {
         self.until = 0;
         self.id = 0;
         self.transport = 0;
-        self.from.tell(from);
-        self.to.tell(to);
+        self.from.tell(&from);
+        self.to.tell(&to);
         self.peer.tell_none(0);
     }
 }
