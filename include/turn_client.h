@@ -13,7 +13,8 @@
  *     nowhere else: whoever knows them knows the numbers of the client's messages and can forge answers, and
  *     two clients with the same seed confuse each other's answers.
  *
- * All else is checked, and answered by name: arguments first, from the left, then sizes of buffers, then the handle.
+ * All else is checked, and answered by name: arguments first, from the left, then sizes of buffers, then the handle;
+ * but by turn_client_open the handle first.
  *
  * The program owns sockets and clock, and takes turns: it sends what the client draws, polls it, and takes its events.
  * A turn is due after each call, and when the moment has come that poll told. Over UDP, `fd` connected to the server:
@@ -50,8 +51,8 @@
  *     cause, and TURN_CLOSED. A server may also refuse one family of two: then the client goes on with the other.
  *   - A server that grants less than 600 s at a renewal is not believed: the allocation ends as it stood before.
  *   - No event tells that an allocation's time is over, nor what turn_client_delete ends: look at turn_client_relayed.
- *   - A client that has ended or failed answers TURN_NOTHING to draw, TURN_CLOSED to poll, TURN_NO_ALLOCATION to what
- *     asks for something. Close what sockets are still open.
+ *   - A client that has ended or failed answers TURN_NOTHING to draw, TURN_CLOSED to poll once no event waits, and
+ *     TURN_NO_ALLOCATION to what asks for something. Close what sockets are still open.
  *
  * Link with what `pkg-config --cflags --libs turn_client` prints.
  */
@@ -88,7 +89,8 @@ enum turn_status {
     TURN_UNREAD = -8,        /* joined bytes wait: turn_client_read first */
 
     /* The client has no answer of this kind; nothing has changed but what the call says. */
-    TURN_NO_ALLOCATION = -9, /* no allocation serves this; it was never made, or is over, or the client has ended */
+    TURN_NO_ALLOCATION = -9, /* no allocation serves this; it was never made, or the client has ended, or its time is
+                              * over: then permit, bind and connect take it out of sight */
     TURN_ALREADY_EXISTS = -10, /* it stands, or was asked for */
     TURN_NO_PERMISSION = -11, /* no permission for the peer's address stands */
     TURN_NO_CHANNEL = -12,   /* no channel number is free */

@@ -1,0 +1,89 @@
+"""Peers on loopback that send back what they get, and count the payloads that differ."""
+
+import socket
+import threading
+
+MOST = 65536  # bytes that are read at once
+HELD = 1 << 22  # bytes that a socket is to hold, so that a burst isn't lost there
+
+
+class Peer:
+    """Over UDP: a payload is a datagram."""
+
+    def __init__(self, host):
+        family = socket.AF_INET6 if ":" in host else socket.AF_INET
+        self._socket = socket.socket(family, socket.SOCK_DGRAM)
+        self._socket.setsockopt(socket.SOL_SOCKET, socket.SO_RCVBUF, HELD)
+        self._socket.bind((host, 0))
+        self._socket.settimeout(0.2)
+        self._seen = set()
+        self._is_over = False
+        self._thread = threading.Thread(target=self._serve, daemon=True)
+        self._thread.start()
+
+    @property
+    def address(self):
+        host, port = self._socket.getsockname()[:2]
+        return f"[{host}]:{port}" if ":" in host else f"{host}:{port}"
+
+    def _serve(self):
+        while not self._is_over:
+            try:
+                payload, sender = self._socket.recvfrom(MOST)
+                self._seen.add(payload)
+                self._socket.sendto(payload, sender)
+            except OSError:  # nothing came, or nobody is there to answer to
+                continue
+
+    def count(self):
+        """How many payloads came that differ."""
+        return len(self._seen)
+
+    def end(self):
+        self._is_over = True
+        self._thread.join()
+        self._socket.close()
+
+
+class StreamPeer:
+    """Over TCP: it counts bytes, for there are no payloads in a stream."""
+
+    def __init__(self, host):
+        family = socket.AF_INET6 if ":" in host else socket.AF_INET
+        self._socket = socket.create_server((host, 0), family=family)
+        self._socket.settimeout(0.2)
+        self._bytes = 0
+        self._is_over = False
+        self._thread = threading.Thread(target=self._serve, daemon=True)
+        self._thread.start()
+
+    address = Peer.address
+
+    def _serve(self):
+        while not self._is_over:
+            try:
+                one, _ = self._socket.accept()
+            except OSError:
+                continue
+            with one:
+                one.settimeout(0.2)
+                self._send_back(one)
+
+    def _send_back(self, one):
+        while not self._is_over:
+            try:
+                came = one.recv(MOST)
+                if not came:
+                    return
+                self._bytes += len(came)
+                one.sendall(came)
+            except TimeoutError:
+                continue
+            except OSError:
+                return
+
+    def count(self):
+        """How many bytes came."""
+        return self._bytes
+
+    end = Peer.end

@@ -1,0 +1,126 @@
+"""coturn on loopback, over IPv4 and IPv6, for the user alice with the password secret."""
+
+import os
+import random
+import re
+import secrets
+import signal
+import socket
+import subprocess
+import threading
+import time
+
+PROGRAM = "turnserver"
+USER, PASSWORD, REALM = "alice", "secret", "example.org"
+HOSTS = ("127.0.0.1", "::1")
+FIRST_PORT, LAST_PORT, PORTS = 20000, 32000, 200  # a server takes PORTS in a row, from some port on
+RELAY_FROM, RELAY_TO = 100, 199  # of these the relayed ones
+READY_WITHIN = 10  # seconds
+
+COOKIE = bytes.fromhex("2112a442")
+BINDING_REQUEST = bytes.fromhex("00010000") + COOKIE
+
+
+def version():
+    """Its version as it tells it; None where it isn't there."""
+    try:
+        told = subprocess.run([PROGRAM, "--version"], capture_output=True, text=True, check=False)
+    except FileNotFoundError:
+        return None
+    found = re.search(r"\d+\.\d+(\.\d+)?", told.stdout + told.stderr)
+    return found.group() if found else "of unknown version"
+
+
+def _family(host):
+    return socket.AF_INET6 if ":" in host else socket.AF_INET
+
+
+def _is_free(port):
+    """Whether both transports have the port over both families."""
+    for host in HOSTS:
+        for kind in (socket.SOCK_STREAM, socket.SOCK_DGRAM):
+            with socket.socket(_family(host), kind) as one:
+                try:
+                    one.bind((host, port))
+                except OSError:
+                    return False
+    return True
+
+
+class Ports:
+    """The ports of one run: no two of its cases have the same at once, though coturn would share them."""
+
+    def __init__(self):
+        self._lock = threading.Lock()
+        self._taken = set()
+
+    def take(self):
+        """A port with those behind it, which nobody has now."""
+        with self._lock:
+            while True:
+                port = random.randrange(FIRST_PORT, LAST_PORT, PORTS)
+                if port not in self._taken and _is_free(port) and _is_free(port + 1):
+                    self._taken.add(port)
+                    return port
+
+    def give_back(self, port):
+        with self._lock:
+            self._taken.discard(port)
+
+
+def _answers(host, port):
+    """Whether a BINDING request is answered."""
+    with socket.socket(_family(host), socket.SOCK_DGRAM) as one:
+        one.settimeout(0.1)
+        try:
+            one.connect((host, port))
+            one.send(BINDING_REQUEST + secrets.token_bytes(12))
+            return len(one.recv(1500)) > 0
+        except OSError:
+            return False
+
+
+class Server:
+    """One coturn. Its log stands in its folder."""
+
+    def __init__(self, processes, port, folder, options):
+        self.port = port
+        self.log = os.path.join(folder, "coturn.log")
+        self._processes, self._folder, self._options = processes, folder, options
+        self._process = None
+
+    def _command(self):
+        folder = self._folder
+        own = ["--listening-ip=" + host for host in HOSTS] + ["--relay-ip=" + host for host in HOSTS]
+        return [PROGRAM, "-n", *own, f"--listening-port={self.port}", f"--tls-listening-port={self.port + 1}",
+                f"--min-port={self.port + RELAY_FROM}", f"--max-port={self.port + RELAY_TO}", "--lt-cred-mech",
+                "--realm=" + REALM, f"--user={USER}:{PASSWORD}", "--allow-loopback-peers", "--no-tls", "--no-dtls",
+                "--no-cli", "--relay-threads=1", "--verbose", "--log-file=" + self.log, "--simple-log",
+                f"--pidfile={folder}/coturn.pid", f"--userdb={folder}/coturn.users", *self._options]
+
+    def start(self):
+        with open(os.path.join(self._folder, "coturn.out"), "ab") as out:
+            self._process = self._processes.start(self._command(), stdout=out, stderr=out)
+        until = time.monotonic() + READY_WITHIN
+        while not all(_answers(host, self.port) for host in HOSTS):
+            if self._process.poll() is not None or time.monotonic() > until:
+                raise RuntimeError(f"{PROGRAM} doesn't start: see {self._folder}/coturn.out")
+            time.sleep(0.05)
+
+    def pause(self):
+        self._process.send_signal(signal.SIGSTOP)
+
+    def go_on(self):
+        self._process.send_signal(signal.SIGCONT)
+
+    def kill(self):
+        self._processes.end(self._process, kill=True)
+
+    def end(self):
+        if self._process is not None:
+            self._processes.end(self._process)
+
+    def logged(self, pattern):
+        """How often its log has this."""
+        with open(self.log, encoding="utf-8", errors="replace") as log:
+            return len(re.findall(pattern, log.read()))

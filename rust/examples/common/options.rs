@@ -1,0 +1,150 @@
+//! The options of the examples.
+
+use std::net::SocketAddr;
+use std::time::Duration;
+
+pub const USAGE: &str = "\
+[OPTION..]: asks a TURN server for an address, and sends payloads through it to a peer that sends them back
+
+  --server ADDRESS   the server, as 127.0.0.1:3478
+  --user NAME        and
+  --password WORD    whose address it is
+  --peer ADDRESS     the peer, which is to send back what it gets
+  --echo             in its place one of this program's own, on loopback
+  --count N          how many payloads; without it 10. Without a peer there are none
+  --size BYTES       of each, 4 to 60000; without it 100
+  --seconds N        how long the address is kept at least; without it 0
+  --indications      no channel: each payload goes in an indication
+  --sha256           messages are signed by HMAC-SHA256 alone, in place of HMAC-SHA1
+  --help
+
+Exit status: 0 all came back, or nothing was to be sent; 1 something was lost; 2 options that can't be read;
+3 the server refused something, or the client failed; 4 no answer
+";
+
+const LEAST_SIZE: u32 = 4;
+const MOST_SIZE: u32 = 60_000;
+const MOST_COUNT: u32 = 1_000_000;
+
+/// Whom the payloads go to.
+#[derive(Clone, Copy)]
+pub enum Peer {
+    None,
+    Echo,
+    At(SocketAddr),
+}
+
+pub struct Options {
+    pub server: SocketAddr,
+    pub user: String,
+    pub password: String,
+    pub peer: Peer,
+    pub count: u32,
+    pub size: usize,
+    pub kept: Duration,
+    pub has_no_channel: bool,
+    pub is_sha256: bool,
+}
+
+/// Options as far as they were read.
+struct Reader<I> {
+    words: I,
+    server: Option<SocketAddr>,
+    user: Option<String>,
+    password: Option<String>,
+    at: Option<SocketAddr>,
+    has_echo: bool,
+    count: u32,
+    size: u32,
+    seconds: u32,
+    has_no_channel: bool,
+    is_sha256: bool,
+}
+
+impl<I: Iterator<Item = String>> Reader<I> {
+    fn new(words: I) -> Self {
+        Self {
+            words,
+            server: None,
+            user: None,
+            password: None,
+            at: None,
+            has_echo: false,
+            count: 10,
+            size: 100,
+            seconds: 0,
+            has_no_channel: false,
+            is_sha256: false,
+        }
+    }
+
+    fn value(&mut self, option: &str) -> Result<String, String> {
+        self.words.next().ok_or_else(|| format!("{option} wants a value"))
+    }
+
+    fn address(&mut self, option: &str) -> Result<Option<SocketAddr>, String> {
+        let value = self.value(option)?;
+        value
+            .parse()
+            .map(Some)
+            .map_err(|_| format!("{option} {value} is no address with a port"))
+    }
+
+    fn number(&mut self, option: &str, least: u32, most: u32) -> Result<u32, String> {
+        let value = self.value(option)?;
+        let number = value.parse().ok().filter(|it| (least..=most).contains(it));
+        number.ok_or_else(|| format!("{option} {value} is no number from {least} to {most}"))
+    }
+
+    fn take(&mut self, option: &str) -> Result<(), String> {
+        match option {
+            "--server" => self.server = self.address(option)?,
+            "--user" => self.user = Some(self.value(option)?),
+            "--password" => self.password = Some(self.value(option)?),
+            "--peer" => self.at = self.address(option)?,
+            "--echo" => self.has_echo = true,
+            "--count" => self.count = self.number(option, 0, MOST_COUNT)?,
+            "--size" => self.size = self.number(option, LEAST_SIZE, MOST_SIZE)?,
+            "--seconds" => self.seconds = self.number(option, 0, u32::MAX)?,
+            "--indications" => self.has_no_channel = true,
+            "--sha256" => self.is_sha256 = true,
+            _ => return Err(format!("{option} is no option")),
+        }
+        Ok(())
+    }
+
+    fn finish(self) -> Result<Options, String> {
+        let (Some(server), Some(user), Some(password)) = (self.server, self.user, self.password) else {
+            return Err("a server, a user and a password are wanted".to_string());
+        };
+        let peer = match (self.at, self.has_echo) {
+            (None, false) => Peer::None,
+            (None, true) => Peer::Echo,
+            (Some(at), false) => Peer::At(at),
+            (Some(_), true) => return Err("a peer or an echo, and not both".to_string()),
+        };
+        Ok(Options {
+            server,
+            user,
+            password,
+            peer,
+            count: self.count,
+            size: self.size as usize,
+            kept: Duration::from_secs(self.seconds.into()),
+            has_no_channel: self.has_no_channel,
+            is_sha256: self.is_sha256,
+        })
+    }
+}
+
+/// Reads the options; none where help was asked for. Else what is wrong with them.
+pub fn read(words: impl Iterator<Item = String>) -> Result<Option<Options>, String> {
+    let mut reader = Reader::new(words);
+    while let Some(option) = reader.words.next() {
+        if option == "--help" {
+            return Ok(None);
+        }
+        reader.take(&option)?;
+    }
+    reader.finish().map(Some)
+}

@@ -1,0 +1,542 @@
+//! What a client is given and what it answers.
+
+use std::borrow::Cow;
+use std::fmt;
+use std::net::{IpAddr, SocketAddr};
+use std::time::Duration;
+
+use crate::address::{read, read_transport, told, told_transport, told_wait};
+use crate::sys;
+
+/// A transport: to the server, or between the server and its peers.
+#[derive(Clone, Copy, Debug, PartialEq, Eq, Hash)]
+pub enum TransportType {
+    /// UDP.
+    Udp,
+    /// TCP.
+    Tcp,
+}
+
+/// A family of addresses.
+#[derive(Clone, Copy, Debug, PartialEq, Eq, Hash)]
+pub enum AddressFamily {
+    /// IPv4.
+    IPV4,
+    /// IPv6.
+    IPV6,
+}
+
+/// By which digest messages are signed.
+#[derive(Clone, Copy, Debug, PartialEq, Eq, Hash)]
+pub enum IntegrityAlgorithm {
+    /// HMAC-SHA1.
+    Sha1,
+    /// HMAC-SHA256 (RFC 8489).
+    Sha256,
+}
+
+/// Whether something is done.
+#[derive(Clone, Copy, Debug, PartialEq, Eq, Hash)]
+pub enum Feature {
+    /// Where the server can.
+    Auto,
+    /// Always: a server that can't is given up.
+    Required,
+    /// Never.
+    Disabled,
+}
+
+/// A user's name and password. What is printed of it has no password.
+#[derive(Clone, PartialEq, Eq)]
+pub struct TurnCredentials {
+    username: String,
+    password: String,
+}
+
+impl TurnCredentials {
+    /// A name of 513 bytes at most, and a password.
+    pub fn new(username: &str, password: &str) -> Self {
+        let (username, password) = (username.to_string(), password.to_string());
+        Self { username, password }
+    }
+
+    /// The name.
+    pub fn username(&self) -> &str {
+        &self.username
+    }
+
+    /// The password.
+    pub fn password(&self) -> &str {
+        &self.password
+    }
+}
+
+impl fmt::Debug for TurnCredentials {
+    fn fmt(&self, f: &mut fmt::Formatter<'_>) -> fmt::Result {
+        f.debug_struct("TurnCredentials")
+            .field("username", &self.username)
+            .finish_non_exhaustive()
+    }
+}
+
+/// How requests are sent again.
+#[derive(Clone, Copy, Debug, PartialEq, Eq)]
+struct Retransmits {
+    initial: Duration,
+    max: Duration,
+    retransmits: u32,
+    final_retransmit_timeout: Duration,
+}
+
+/// The settings of a client: whose it is, and what it asks for.
+///
+/// ```
+/// use turn_client::{AddressFamily, IntegrityAlgorithm, TransportType, TurnConfig, TurnCredentials};
+///
+/// let mut config = TurnConfig::new(TurnCredentials::new("alice", "secret"));
+/// assert_eq!(config.allocation_transport(), TransportType::Udp);
+/// assert_eq!(config.address_families(), [AddressFamily::IPV4]);
+/// config.add_supported_integrity(IntegrityAlgorithm::Sha256);
+/// assert_eq!(config.supported_integrity(), [IntegrityAlgorithm::Sha1, IntegrityAlgorithm::Sha256]);
+/// ```
+#[derive(Clone, Debug, PartialEq, Eq)]
+pub struct TurnConfig {
+    allocation_transport: TransportType,
+    address_families: Vec<AddressFamily>,
+    credentials: TurnCredentials,
+    supported_integrity: Vec<IntegrityAlgorithm>,
+    anonymous_username: Feature,
+    retransmits: Option<Retransmits>,
+}
+
+impl TurnConfig {
+    /// An address of IPv4 over UDP is asked for, HMAC-SHA1 is supported alone, the name is hidden where the server
+    /// can, and requests are sent again as RFC 8489 says.
+    pub fn new(credentials: TurnCredentials) -> Self {
+        Self {
+            allocation_transport: TransportType::Udp,
+            address_families: vec![AddressFamily::IPV4],
+            credentials,
+            supported_integrity: vec![IntegrityAlgorithm::Sha1],
+            anonymous_username: Feature::Auto,
+            retransmits: None,
+        }
+    }
+
+    /// Sets the transport between the server and its peers. TCP is for `TurnClientTcp` alone.
+    pub fn set_allocation_transport(&mut self, allocation_transport: TransportType) {
+        self.allocation_transport = allocation_transport;
+    }
+
+    /// The transport between the server and its peers.
+    pub fn allocation_transport(&self) -> TransportType {
+        self.allocation_transport
+    }
+
+    /// Asks for an address of one more family.
+    pub fn add_address_family(&mut self, family: AddressFamily) {
+        if !self.address_families.contains(&family) {
+            self.address_families.push(family);
+        }
+    }
+
+    /// Asks for an address of this family alone.
+    pub fn set_address_family(&mut self, family: AddressFamily) {
+        self.address_families = vec![family];
+    }
+
+    /// The families of which addresses are asked for.
+    pub fn address_families(&self) -> &[AddressFamily] {
+        &self.address_families
+    }
+
+    /// The user's name and password.
+    pub fn credentials(&self) -> &TurnCredentials {
+        &self.credentials
+    }
+
+    /// Supports one more algorithm. Of those that the server has, too, the strongest is taken.
+    pub fn add_supported_integrity(&mut self, integrity: IntegrityAlgorithm) {
+        if !self.supported_integrity.contains(&integrity) {
+            self.supported_integrity.push(integrity);
+        }
+    }
+
+    /// Supports this algorithm alone.
+    pub fn set_supported_integrity(&mut self, integrity: IntegrityAlgorithm) {
+        self.supported_integrity = vec![integrity];
+    }
+
+    /// The algorithms that are supported.
+    pub fn supported_integrity(&self) -> &[IntegrityAlgorithm] {
+        &self.supported_integrity
+    }
+
+    /// Sets whether the user's name is hidden (RFC 8489, section 9.2).
+    pub fn set_anonymous_username(&mut self, anonymous: Feature) {
+        self.anonymous_username = anonymous;
+    }
+
+    /// Whether the user's name is hidden.
+    pub fn anonymous_username(&self) -> Feature {
+        self.anonymous_username
+    }
+
+    /// Sets how requests are sent again over UDP: the wait behind the first, which each next one doubles, the longest
+    /// wait between two, how often a request is sent in all, and the wait behind the last. Where `retransmits` is
+    /// 0, all of it is as RFC 8489 says. Waits count in milliseconds, rounded up. Over TCP a request is sent once, and
+    /// waits as long as all of these together.
+    pub fn set_request_retransmits(
+        &mut self,
+        initial: Duration,
+        max: Duration,
+        retransmits: u32,
+        final_retransmit_timeout: Duration,
+    ) {
+        self.retransmits = Some(Retransmits {
+            initial,
+            max,
+            retransmits,
+            final_retransmit_timeout,
+        });
+    }
+
+    /// All of it, told to C, for a client between two addresses.
+    pub(crate) fn told(&self, transport: TransportType, local: SocketAddr, server: SocketAddr) -> sys::Settings {
+        let mut settings = sys::Settings {
+            local: told(local),
+            server: told(server),
+            transport: told_transport(transport),
+            peers: told_transport(self.allocation_transport),
+            families: self
+                .address_families
+                .iter()
+                .fold(0, |bits, it| bits | bit_of_family(*it)),
+            integrity: self
+                .supported_integrity
+                .iter()
+                .fold(0, |bits, it| bits | bit_of_integrity(*it)),
+            anonymous: told_feature(self.anonymous_username),
+            ..sys::Settings::default()
+        };
+        if let Some(waits) = self.retransmits {
+            settings.sends = waits.retransmits;
+            settings.first_wait = told_wait(waits.initial);
+            settings.most_wait = told_wait(waits.max);
+            settings.last_wait = told_wait(waits.final_retransmit_timeout);
+        }
+        settings
+    }
+}
+
+fn bit_of_family(family: AddressFamily) -> u32 {
+    match family {
+        AddressFamily::IPV4 => sys::IPV4,
+        AddressFamily::IPV6 => sys::IPV6,
+    }
+}
+
+fn bit_of_integrity(integrity: IntegrityAlgorithm) -> u32 {
+    match integrity {
+        IntegrityAlgorithm::Sha1 => sys::SHA1,
+        IntegrityAlgorithm::Sha256 => sys::SHA256,
+    }
+}
+
+fn told_feature(feature: Feature) -> u32 {
+    match feature {
+        Feature::Auto => sys::ANONYMOUS_AUTO,
+        Feature::Required => sys::ANONYMOUS_REQUIRED,
+        Feature::Disabled => sys::ANONYMOUS_DISABLED,
+    }
+}
+
+/// Bytes between two addresses: what came, or what is to be sent.
+#[derive(Clone, Copy, Debug, PartialEq, Eq)]
+pub struct Transmit<T> {
+    /// The bytes.
+    pub data: T,
+    /// By which transport they go.
+    pub transport: TransportType,
+    /// Where they come from. Of what is to be sent over TCP it tells the connection to the server: the client's own,
+    /// or that of a peer.
+    pub from: SocketAddr,
+    /// Where they go.
+    pub to: SocketAddr,
+}
+
+impl<T> Transmit<T> {
+    /// Bytes between two addresses.
+    pub fn new(data: T, transport: TransportType, from: SocketAddr, to: SocketAddr) -> Self {
+        Self {
+            data,
+            transport,
+            from,
+            to,
+        }
+    }
+}
+
+impl<'a> Transmit<&'a [u8]> {
+    /// What C says to send, with its bytes.
+    pub(crate) fn read(data: &'a [u8], sent: &sys::Transmit) -> Self {
+        Self::new(data, read_transport(sent.transport), read(&sent.from), read(&sent.to))
+    }
+}
+
+/// A connection between two addresses.
+#[derive(Clone, Copy, Debug, PartialEq, Eq)]
+pub struct Socket5Tuple {
+    /// Its transport.
+    pub transport: TransportType,
+    /// The own address.
+    pub from: SocketAddr,
+    /// The other one.
+    pub to: SocketAddr,
+}
+
+/// What is to be done by the program, or until when nothing is.
+#[derive(Clone, Copy, Debug, PartialEq, Eq)]
+pub enum TurnPollRet {
+    /// Nothing is to be done until that moment, unless something comes or is asked for. Where it isn't later than now,
+    /// another turn is due at once.
+    WaitUntil(Duration),
+    /// A connection to the server is to be opened. Tell of it by `allocated_tcp_socket`, and poll again.
+    AllocateTcpSocket {
+        /// The number of the connection.
+        id: u32,
+        /// Between which addresses it is opened. The own port is free to choose.
+        socket: Socket5Tuple,
+        /// The peer that it leads to.
+        peer_addr: SocketAddr,
+    },
+    /// A connection to the server is to be closed. Poll again then.
+    TcpClose {
+        /// Its own address.
+        local_addr: SocketAddr,
+        /// The server's address.
+        remote_addr: SocketAddr,
+    },
+    /// The client has ended, or holds no allocation any more. Take the events, and drop it.
+    Closed,
+}
+
+impl TurnPollRet {
+    /// What a status tells, where it is one that `poll` answers.
+    pub(crate) fn read(status: i32, wait: &sys::Wait) -> Option<Self> {
+        let (from, to) = (read(&wait.from), read(&wait.to));
+        Some(match status {
+            sys::OK => Self::WaitUntil(Duration::from_nanos(wait.until)),
+            sys::OPEN_SOCKET => Self::AllocateTcpSocket {
+                id: wait.id,
+                socket: Socket5Tuple {
+                    transport: read_transport(wait.transport),
+                    from,
+                    to,
+                },
+                peer_addr: read(&wait.peer),
+            },
+            sys::CLOSE_SOCKET => Self::TcpClose {
+                local_addr: from,
+                remote_addr: to,
+            },
+            sys::CLOSED => Self::Closed,
+            _ => return None,
+        })
+    }
+}
+
+/// What became of bytes that came.
+#[derive(Clone, Debug, PartialEq, Eq)]
+pub enum TurnRecvRet<'a> {
+    /// They were for the client.
+    Handled,
+    /// They are not for the client.
+    Ignored(Transmit<&'a [u8]>),
+    /// They carry data of a peer.
+    PeerData(TurnPeerData<'a>),
+    /// They carry a report in ICMP on the way to a peer.
+    PeerIcmp {
+        /// The transport between the server and the peer.
+        transport: TransportType,
+        /// The peer.
+        peer: SocketAddr,
+        /// The report's type.
+        icmp_type: u8,
+        /// Its code.
+        icmp_code: u8,
+        /// Its data.
+        icmp_data: u32,
+    },
+}
+
+impl TurnRecvRet<'_> {
+    /// A report that C told.
+    pub(crate) fn of_report(told: &sys::Payload) -> Self {
+        Self::PeerIcmp {
+            transport: read_transport(told.transport),
+            peer: read(&told.peer),
+            icmp_type: told.icmp_type,
+            icmp_code: told.icmp_code,
+            icmp_data: told.icmp_data,
+        }
+    }
+}
+
+/// Data of a peer. Where it stands in one piece in the bytes that came it is borrowed of them, for as long as they
+/// live. Over TCP it may have come in pieces: then it is a vector of its size.
+#[derive(Clone, Debug, PartialEq, Eq)]
+pub struct TurnPeerData<'a> {
+    data: Cow<'a, [u8]>,
+    /// The transport between the server and the peer.
+    pub transport: TransportType,
+    /// The peer.
+    pub peer: SocketAddr,
+}
+
+impl<'a> TurnPeerData<'a> {
+    /// Data of the peer that C told.
+    pub(crate) fn read(data: Cow<'a, [u8]>, told: &sys::Payload) -> Self {
+        let (transport, peer) = (read_transport(told.transport), read(&told.peer));
+        Self { data, transport, peer }
+    }
+
+    /// The data.
+    pub fn data(&self) -> &[u8] {
+        &self.data
+    }
+
+    /// The data, borrowed of what came or owned.
+    pub fn into_data(self) -> Cow<'a, [u8]> {
+        self.data
+    }
+
+    /// The same with data of its own, which is copied where it was borrowed.
+    pub fn into_owned(self) -> TurnPeerData<'static> {
+        TurnPeerData {
+            data: Cow::Owned(self.data.into_owned()),
+            transport: self.transport,
+            peer: self.peer,
+        }
+    }
+}
+
+impl AsRef<[u8]> for TurnPeerData<'_> {
+    fn as_ref(&self) -> &[u8] {
+        &self.data
+    }
+}
+
+/// What happened. A transport is the one between the server and its peers.
+#[derive(Clone, Copy, Debug, PartialEq, Eq)]
+pub enum TurnEvent {
+    /// The server gave a relayed address.
+    AllocationCreated(TransportType, SocketAddr),
+    /// There is no relayed address of that family. No cause is told: the server may be away, refuse the name or the
+    /// password, or have none to give.
+    AllocationCreateFailed(AddressFamily),
+    /// The peer's address is permitted.
+    PermissionCreated(TransportType, IpAddr),
+    /// A permission was refused, or ended.
+    PermissionCreateFailed(TransportType, IpAddr),
+    /// A channel to the peer is bound.
+    ChannelCreated(TransportType, SocketAddr),
+    /// A channel was refused, or ended.
+    ChannelCreateFailed(TransportType, SocketAddr),
+    /// A connection to the peer is bound: from now on bytes go both ways.
+    TcpConnected(SocketAddr),
+    /// A connection to the peer was refused, or failed.
+    TcpConnectFailed(SocketAddr),
+}
+
+impl TurnEvent {
+    /// An event that C told, where it is one of those above.
+    pub(crate) fn read(event: &sys::Event) -> Option<Self> {
+        let (transport, address) = (read_transport(event.transport), read(&event.address));
+        Some(match event.kind {
+            sys::ALLOCATION_CREATED => Self::AllocationCreated(transport, address),
+            sys::ALLOCATION_FAILED => Self::AllocationCreateFailed(match address {
+                SocketAddr::V4(_) => AddressFamily::IPV4,
+                SocketAddr::V6(_) => AddressFamily::IPV6,
+            }),
+            sys::PERMISSION_CREATED => Self::PermissionCreated(transport, address.ip()),
+            sys::PERMISSION_FAILED => Self::PermissionCreateFailed(transport, address.ip()),
+            sys::CHANNEL_CREATED => Self::ChannelCreated(transport, address),
+            sys::CHANNEL_FAILED => Self::ChannelCreateFailed(transport, address),
+            sys::TCP_CONNECTED => Self::TcpConnected(address),
+            sys::TCP_FAILED => Self::TcpConnectFailed(address),
+            _ => return None,
+        })
+    }
+}
+
+/// A channel.
+#[derive(Clone, Copy, Debug, PartialEq, Eq)]
+pub struct Channel {
+    /// Its number.
+    pub number: u16,
+    /// Its peer.
+    pub peer_addr: SocketAddr,
+}
+
+/// A connection to a peer that has a socket.
+#[derive(Clone, Copy, Debug, PartialEq, Eq)]
+pub struct Connection {
+    /// The socket's own address.
+    pub local_addr: SocketAddr,
+    /// The peer.
+    pub peer_addr: SocketAddr,
+    /// The number by which the server knows it.
+    pub id: u32,
+    /// Whether bytes go both ways.
+    pub is_bound: bool,
+}
+
+#[cfg(test)]
+mod tests {
+    use super::*;
+
+    /// What is set takes the place of what was, and what is added stands beside it, once. The bits are the header's.
+    #[test]
+    fn settings_are_told_as_bits() {
+        let (local, server) = (
+            SocketAddr::from(([192, 0, 2, 1], 5000)),
+            SocketAddr::from(([192, 0, 2, 2], 3478)),
+        );
+        let mut config = TurnConfig::new(TurnCredentials::new("alice", "secret"));
+        let bits = |config: &TurnConfig| {
+            let told = config.told(TransportType::Udp, local, server);
+            (told.families, told.integrity)
+        };
+        assert_eq!(bits(&config), (1, 1));
+        config.set_address_family(AddressFamily::IPV6);
+        config.set_supported_integrity(IntegrityAlgorithm::Sha256);
+        assert_eq!(bits(&config), (2, 2));
+        for _ in 0..2 {
+            config.add_address_family(AddressFamily::IPV4);
+            config.add_supported_integrity(IntegrityAlgorithm::Sha1);
+            assert_eq!(bits(&config), (3, 3));
+        }
+        assert_eq!(
+            (config.address_families().len(), config.supported_integrity().len()),
+            (2, 2)
+        );
+    }
+
+    #[test]
+    fn a_password_is_not_printed() {
+        let printed = format!("{:?}", TurnConfig::new(TurnCredentials::new("alice", "secret")));
+        assert!(printed.contains("alice") && !printed.contains("secret"));
+    }
+
+    #[test]
+    fn what_a_newer_archive_might_tell_is_no_event_and_no_wait() {
+        const UNKNOWN: u32 = 9;
+        let event = sys::Event {
+            kind: UNKNOWN,
+            ..sys::Event::default()
+        };
+        assert_eq!(TurnEvent::read(&event), None);
+        assert_eq!(TurnPollRet::read(8, &sys::Wait::default()), None);
+    }
+}

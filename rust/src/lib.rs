@@ -1,0 +1,128 @@
+//! A TURN client (RFC 8656, RFC 6062, RFC 6156) over UDP or TCP that does no input or output: a safe layer over the
+//! archive `libturn_client.a` of a proved client. The names are those of the crate `turn-client-proto`.
+//!
+//! The program owns sockets and clock, and takes turns: it sends what the client draws, polls it, and takes its events.
+//! A turn is due after each call, and when the moment has come that `poll` told:
+//!
+//! ```no_run
+//! use std::net::{SocketAddr, UdpSocket};
+//! use std::time::{Duration, Instant};
+//! use turn_client::{Transmit, TransportType, TurnClientApi, TurnClientUdp, TurnConfig, TurnCredentials, TurnEvent};
+//! use turn_client::{TurnPollRet, TurnRecvRet};
+//!
+//! # fn random() -> [u8; 32] { [0; 32] }
+//! # fn main() -> Result<(), Box<dyn std::error::Error>> {
+//! let server: SocketAddr = "127.0.0.1:3478".parse()?;
+//! let socket = UdpSocket::bind("127.0.0.1:0")?;
+//! let local = socket.local_addr()?;
+//! let config = TurnConfig::new(TurnCredentials::new("alice", "secret"));
+//! let mut client = TurnClientUdp::allocate(local, server, config, random())?;
+//! let (start, mut bytes) = (Instant::now(), [0; 65536]);
+//! loop {
+//!     while let Some(transmit) = client.poll_transmit(start.elapsed())? {
+//!         socket.send_to(transmit.data, transmit.to)?;
+//!     }
+//!     let answer = client.poll(start.elapsed())?;
+//!     while let Some(event) = client.poll_event() {
+//!         match event {
+//!             TurnEvent::AllocationCreated(_, address) => println!("{address}"), // ask for something
+//!             event => println!("{event:?}"),
+//!         }
+//!     }
+//!     let TurnPollRet::WaitUntil(until) = answer else { break };
+//!     let wait = until.saturating_sub(start.elapsed()).max(Duration::from_millis(1));
+//!     socket.set_read_timeout(Some(wait))?;
+//!     if let Ok((size, from)) = socket.recv_from(&mut bytes) {
+//!         let came = Transmit::new(&bytes[..size], TransportType::Udp, from, local);
+//!         if let TurnRecvRet::PeerData(data) = client.recv(came, start.elapsed())? {
+//!             println!("{} bytes of {}", data.data().len(), data.peer);
+//!         }
+//!     }
+//! }
+//! # Ok(())
+//! # }
+//! ```
+//!
+//! # What may surprise
+//!
+//! - Moments are [`Duration`](std::time::Duration)s since a start of the program's, as `start.elapsed()`: they have
+//!   their unit in their type, and the client gives and takes moments that no clock has shown yet, which
+//!   [`Instant`](std::time::Instant) can't be made of. What lies behind 2^62 nanoseconds counts as that.
+//! - Two requests are sent 50 ms apart at least, so what is asked for may be drawn only when `poll` says so.
+//! - While an event waits, `poll` tells to wait until now. Where turns at one moment do nothing, wait some
+//!   milliseconds.
+//! - A server that can't be reached is given up after 39.5 s. To a wrong password it answers challenges, of which nine
+//!   are answered. Both end in [`TurnEvent::AllocationCreateFailed`], which tells no cause, and
+//!   [`TurnPollRet::Closed`].
+//! - No event tells that an allocation's time is over: look at [`TurnClientApi::relayed_addresses`].
+//! - A client may go to another thread, and isn't shared by two. Dropped, it frees what it holds, and tells the server
+//!   nothing: [`TurnClientApi::delete`] does that.
+//! - An address of IPv6 is told without flow information and scope.
+//!
+//! A client is sent, and not shared:
+//!
+//! ```
+//! fn is_sent<T: Send>() {}
+//! is_sent::<turn_client::TurnClientUdp>();
+//! is_sent::<turn_client::TurnClientTcp>();
+//! ```
+//!
+//! ```compile_fail,E0277
+//! fn is_shared<T: Sync>() {}
+//! is_shared::<turn_client::TurnClientUdp>();
+//! ```
+//!
+//! Data that stands in what came lives as long as that, and no longer:
+//!
+//! ```compile_fail,E0505
+//! use turn_client::{Transmit, TurnClientUdp, TurnClientApi};
+//! fn outlives(client: &mut TurnClientUdp, transmit: Transmit<Vec<u8>>) {
+//!     let came = Transmit::new(&transmit.data[..], transmit.transport, transmit.from, transmit.to);
+//!     let given = client.recv(came, std::time::Duration::ZERO);
+//!     drop(transmit);
+//!     println!("{given:?}");
+//! }
+//! ```
+//!
+//! # What is otherwise than in `turn-client-proto`
+//!
+//! - `allocate` takes a seed of 32 random bytes, and may be refused. Calls that want memory answer a `Result`.
+//! - `send_to` and `poll_transmit` answer bytes that stand in the client's buffer, which is 64 kB, until its next call.
+//! - `recv` takes `&[u8]`, and answers data that is borrowed of it or owned. Getters answer vectors. So
+//!   [`TurnClientApi`] makes an object: `Box<dyn TurnClientApi>` is a client over either transport.
+//! - `allocated_tcp_socket` takes no five addresses: number and peer name the connection. There is no `protocol_error`.
+//! - `channels` and `connections` are new.
+
+#![deny(missing_docs, missing_debug_implementations, unsafe_op_in_unsafe_fn)]
+#![deny(clippy::undocumented_unsafe_blocks)]
+#![cfg_attr(
+    not(test),
+    deny(clippy::unwrap_used, clippy::expect_used, clippy::panic, clippy::indexing_slicing)
+)]
+
+mod address;
+mod api;
+mod client;
+mod error;
+mod sys;
+
+pub use api::{
+    AddressFamily, Channel, Connection, Feature, IntegrityAlgorithm, Socket5Tuple, Transmit, TransportType, TurnConfig,
+    TurnCredentials, TurnEvent, TurnPeerData, TurnPollRet, TurnRecvRet,
+};
+pub use client::{TurnClientApi, TurnClientTcp, TurnClientUdp};
+pub use error::{
+    AllocateError, BindChannelError, CreatePermissionError, DeleteError, PollError, PollTransmitError, RecvError,
+    SendError, TcpAllocateError, TcpClosedError, TcpConnectError,
+};
+
+/// Its program is compiled with the tests.
+#[cfg(doctest)]
+#[doc = include_str!("../README.md")]
+pub struct Readme;
+
+/// Bytes of a user's name at most.
+pub const NAME_MAX: usize = sys::NAME_MAX;
+
+/// Bytes of data at most that go to a peer over UDP between it and the server.
+pub const PAYLOAD_MAX: usize = sys::PAYLOAD_MAX;

@@ -1,0 +1,418 @@
+//! Makes the calls of an exchange by the crate, and tells what each answered by the names of `turn_client.h`.
+
+use std::borrow::Cow;
+use std::fmt::{Debug, Display};
+use std::net::SocketAddr;
+use std::time::Duration;
+
+use turn_client::{
+    AddressFamily, BindChannelError, Feature, IntegrityAlgorithm, Transmit, TransportType, TurnClientApi,
+    TurnClientTcp, TurnClientUdp, TurnConfig, TurnCredentials, TurnEvent, TurnPeerData, TurnPollRet, TurnRecvRet,
+};
+
+use super::{Exchange, Part, Step, Told, PASSWORD, SEED, TOLD, USER};
+
+const IPV4: u32 = 1;
+const IPV6: u32 = 2;
+const SHA1: u32 = 1;
+const SHA256: u32 = 2;
+const ANY_ADDRESS: &str = "0.0.0.0:0";
+
+// ---- how things are written
+
+/// A text that is kept for the rest of the test.
+fn kept(shown: impl Display) -> &'static str {
+    shown.to_string().leak()
+}
+
+pub fn address(text: &str) -> SocketAddr {
+    text.parse().unwrap_or_else(|_| panic!("no address: {text:?}"))
+}
+
+pub fn transport(text: &str) -> TransportType {
+    match text {
+        "udp" => TransportType::Udp,
+        "tcp" => TransportType::Tcp,
+        _ => panic!("no transport: {text:?}"),
+    }
+}
+
+fn shown(transport: TransportType) -> &'static str {
+    match transport {
+        TransportType::Udp => "udp",
+        TransportType::Tcp => "tcp",
+    }
+}
+
+fn answer(answer: &'static str) -> Told {
+    Told { answer, ..TOLD }
+}
+
+/// A refusal by the header's name for it.
+fn refused(error: impl Debug) -> Told {
+    answer(match format!("{error:?}").as_str() {
+        "NoAllocation" => "TURN_NO_ALLOCATION",
+        "AlreadyExists" => "TURN_ALREADY_EXISTS",
+        "NoPermission" => "TURN_NO_PERMISSION",
+        "NoTcpSocket" => "TURN_NO_SOCKET",
+        "TooLarge" => "TURN_TOO_LARGE",
+        other => panic!("an unexpected refusal: {other}"),
+    })
+}
+
+fn done<E: Debug>(outcome: Result<(), E>) -> Told {
+    outcome.map_or_else(refused, |()| answer("TURN_OK"))
+}
+
+/// One of those that a getter shows, with how many there are.
+fn held<T>(all: Vec<T>, which: u32, tell: impl Fn(&T) -> Told) -> Told {
+    let told = all.get(which as usize).map_or(TOLD, tell);
+    Told {
+        answer: kept(all.len()),
+        ..told
+    }
+}
+
+// ---- settings
+
+fn config(exchange: &Exchange) -> TurnConfig {
+    let mut config = TurnConfig::new(TurnCredentials::new(USER, PASSWORD));
+    config.set_allocation_transport(transport(exchange.peers));
+    match exchange.families {
+        IPV4 => {}
+        IPV6 => config.set_address_family(AddressFamily::IPV6),
+        _ => config.add_address_family(AddressFamily::IPV6),
+    }
+    match exchange.integrity {
+        SHA1 => {}
+        SHA256 => config.set_supported_integrity(IntegrityAlgorithm::Sha256),
+        _ => config.add_supported_integrity(IntegrityAlgorithm::Sha256),
+    }
+    match exchange.anonymous {
+        "TURN_ANONYMOUS_REQUIRED" => config.set_anonymous_username(Feature::Required),
+        "TURN_ANONYMOUS_DISABLED" => config.set_anonymous_username(Feature::Disabled),
+        _ => {}
+    }
+    if exchange.sends > 0 {
+        let [first, most, last] =
+            [exchange.first_wait, exchange.most_wait, exchange.last_wait].map(Duration::from_millis);
+        config.set_request_retransmits(first, most, exchange.sends, last);
+    }
+    config
+}
+
+/// A client with the settings of an exchange.
+pub fn open(exchange: &Exchange) -> Box<dyn TurnClientApi> {
+    let (local, server, config) = (address(exchange.local), address(exchange.server), config(exchange));
+    match transport(exchange.transport) {
+        TransportType::Udp => Box::new(TurnClientUdp::allocate(local, server, config, SEED).unwrap()),
+        TransportType::Tcp => Box::new(TurnClientTcp::allocate(local, server, config, SEED).unwrap()),
+    }
+}
+
+// ---- what is told
+
+fn tell_message(sent: Transmit<&[u8]>) -> Told {
+    Told {
+        answer: "TURN_OK",
+        transport: shown(sent.transport),
+        from: kept(sent.from),
+        to: kept(sent.to),
+        bytes: sent.data.to_vec().leak(),
+        size: sent.data.len(),
+        ..TOLD
+    }
+}
+
+fn tell_event(event: TurnEvent) -> Told {
+    let (kind, transport, peer) = match event {
+        TurnEvent::AllocationCreated(by, it) => ("TURN_ALLOCATION_CREATED", shown(by), it.to_string()),
+        TurnEvent::AllocationCreateFailed(AddressFamily::IPV4) => {
+            ("TURN_ALLOCATION_FAILED", "", ANY_ADDRESS.to_string())
+        }
+        TurnEvent::AllocationCreateFailed(AddressFamily::IPV6) => panic!("no exchange has this"),
+        TurnEvent::PermissionCreated(by, it) => ("TURN_PERMISSION_CREATED", shown(by), host(it)),
+        TurnEvent::PermissionCreateFailed(by, it) => ("TURN_PERMISSION_FAILED", shown(by), host(it)),
+        TurnEvent::ChannelCreated(by, it) => ("TURN_CHANNEL_CREATED", shown(by), it.to_string()),
+        TurnEvent::ChannelCreateFailed(by, it) => ("TURN_CHANNEL_FAILED", shown(by), it.to_string()),
+        TurnEvent::TcpConnected(it) => ("TURN_TCP_CONNECTED", "tcp", it.to_string()),
+        TurnEvent::TcpConnectFailed(it) => ("TURN_TCP_FAILED", "tcp", it.to_string()),
+    };
+    let peer = kept(peer);
+    Told {
+        answer: "TURN_OK",
+        kind,
+        transport,
+        peer,
+        ..TOLD
+    }
+}
+
+/// An address without a port, as the header has it.
+fn host(ip: std::net::IpAddr) -> String {
+    SocketAddr::new(ip, 0).to_string()
+}
+
+fn tell_poll(answer: TurnPollRet) -> Told {
+    match answer {
+        TurnPollRet::WaitUntil(moment) => {
+            let until = moment.as_nanos().try_into().unwrap();
+            Told {
+                answer: "TURN_OK",
+                until,
+                ..TOLD
+            }
+        }
+        TurnPollRet::AllocateTcpSocket { id, socket, peer_addr } => Told {
+            answer: "TURN_OPEN_SOCKET",
+            number: id,
+            transport: shown(socket.transport),
+            from: kept(socket.from),
+            to: kept(socket.to),
+            peer: kept(peer_addr),
+            ..TOLD
+        },
+        TurnPollRet::TcpClose {
+            local_addr,
+            remote_addr,
+        } => {
+            let (from, to) = (kept(local_addr), kept(remote_addr));
+            Told {
+                answer: "TURN_CLOSE_SOCKET",
+                from,
+                to,
+                ..TOLD
+            }
+        }
+        TurnPollRet::Closed => Told {
+            answer: "TURN_CLOSED",
+            ..TOLD
+        },
+    }
+}
+
+// ---- calls
+
+/// A client that walks an exchange.
+pub struct Walker {
+    exchange: &'static Exchange,
+    client: Option<Box<dyn TurnClientApi>>,
+    /// Data that didn't stand in what came: a later step reads it.
+    joined: Vec<u8>,
+}
+
+impl Walker {
+    pub fn new(exchange: &'static Exchange) -> Self {
+        let (client, joined) = (None, Vec::new());
+        Self {
+            exchange,
+            client,
+            joined,
+        }
+    }
+
+    pub fn client(&mut self) -> &mut dyn TurnClientApi {
+        self.client.as_deref_mut().expect("the client is open")
+    }
+
+    /// Data of a peer: whether it stands in what came, and where.
+    fn tell_data(&mut self, given: TurnPeerData, came: &[u8]) -> Told {
+        let (transport, peer) = (shown(given.transport), kept(given.peer));
+        let size = given.data().len();
+        let told = Told {
+            answer: "TURN_PAYLOAD",
+            transport,
+            peer,
+            size,
+            ..TOLD
+        };
+        match given.into_data() {
+            Cow::Borrowed(data) => {
+                let start = data.as_ptr() as usize - came.as_ptr() as usize;
+                assert_eq!(&came[start..start + size], data);
+                Told {
+                    start,
+                    bytes: data.to_vec().leak(),
+                    ..told
+                }
+            }
+            Cow::Owned(data) => {
+                self.joined = data;
+                Told {
+                    is_joined: true,
+                    ..told
+                }
+            }
+        }
+    }
+
+    fn feed(&mut self, step: &Step, now: Duration) -> Told {
+        let by = transport(self.exchange.transport);
+        let came = Transmit::new(step.bytes, by, address(step.from), address(step.to));
+        match self.client().recv(came, now).unwrap() {
+            TurnRecvRet::Handled => answer("TURN_OK"),
+            TurnRecvRet::Ignored(given_back) => {
+                assert_eq!(given_back, came);
+                answer("TURN_IGNORED")
+            }
+            TurnRecvRet::PeerData(given) => self.tell_data(given, step.bytes),
+            TurnRecvRet::PeerIcmp {
+                transport,
+                peer,
+                icmp_type,
+                icmp_code,
+                icmp_data,
+            } => Told {
+                answer: "TURN_ICMP",
+                transport: shown(transport),
+                peer: kept(peer),
+                icmp_type,
+                icmp_code,
+                number: icmp_data,
+                ..TOLD
+            },
+        }
+    }
+
+    fn pull(&mut self, now: Duration) -> Told {
+        match self.client().poll_recv(now).unwrap() {
+            Some(given) => self.tell_data(given, &[]),
+            None => answer("TURN_NOTHING"),
+        }
+    }
+
+    fn read(&mut self) -> Told {
+        let bytes: &[u8] = std::mem::take(&mut self.joined).leak();
+        match bytes.len() {
+            0 => answer("TURN_NOTHING"),
+            size => Told {
+                answer: "TURN_OK",
+                bytes,
+                size,
+                ..TOLD
+            },
+        }
+    }
+
+    fn bind(&mut self, step: &Step, now: Duration) -> Told {
+        match self
+            .client()
+            .bind_channel(transport(step.transport), address(step.to), now)
+        {
+            Err(BindChannelError::ExpiredChannelExists(moment)) => {
+                let until = moment.as_nanos().try_into().unwrap();
+                Told {
+                    answer: "TURN_EXPIRED_CHANNEL",
+                    until,
+                    ..TOLD
+                }
+            }
+            outcome => done(outcome),
+        }
+    }
+
+    fn get(&mut self, step: &Step) -> Told {
+        let (which, client) = (step.number, self.client());
+        match step.call {
+            "relayed" => held(client.relayed_addresses(), which, |(by, it)| Told {
+                transport: shown(*by),
+                peer: kept(it),
+                ..TOLD
+            }),
+            "permissions" => {
+                let all = client.permissions(transport(step.transport), address(step.to));
+                held(all, which, |it| Told {
+                    peer: kept(host(*it)),
+                    ..TOLD
+                })
+            }
+            "is_permitted" => {
+                let is_permitted = client.have_permission(transport(step.transport), address(step.to).ip());
+                answer(if is_permitted { "1" } else { "0" })
+            }
+            "channels" => held(client.channels(), which, |it| Told {
+                number: it.number.into(),
+                peer: kept(it.peer_addr),
+                ..TOLD
+            }),
+            "connections" => held(client.connections(), which, |it| {
+                let (from, peer) = (kept(it.local_addr), kept(it.peer_addr));
+                Told {
+                    number: it.id,
+                    from,
+                    peer,
+                    is_bound: it.is_bound,
+                    ..TOLD
+                }
+            }),
+            call => panic!("no call: {call}"),
+        }
+    }
+
+    /// What is asked for, and what the program did.
+    fn ask(&mut self, step: &Step, now: Duration) -> Told {
+        let by = || transport(step.transport);
+        match step.call {
+            "delete" => done(self.client().delete(now)),
+            "permit" => done(self.client().create_permission(by(), address(step.to).ip(), now)),
+            "bind" => self.bind(step, now),
+            "connect" => done(self.client().tcp_connect(address(step.to), now)),
+            "socket" => {
+                let local = (!step.from.is_empty()).then(|| address(step.from));
+                done(
+                    self.client()
+                        .allocated_tcp_socket(step.number, address(step.to), local, now),
+                )
+            }
+            "closed" => done(self.client().tcp_closed(address(step.from), address(step.to), now)),
+            _ => self.get(step),
+        }
+    }
+
+    /// Makes the call of a step: what it told.
+    pub fn call(&mut self, step: &Step) -> Told {
+        let now = Duration::from_nanos(step.now);
+        match step.call {
+            "open" => {
+                self.client = Some(open(self.exchange));
+                answer("TURN_OK")
+            }
+            "close" => {
+                self.client = None;
+                answer("TURN_OK")
+            }
+            "feed" => self.feed(step, now),
+            "pull" => self.pull(now),
+            "read" => self.read(),
+            "draw" => self
+                .client()
+                .poll_transmit(now)
+                .unwrap()
+                .map_or(answer("TURN_NOTHING"), tell_message),
+            "send" => {
+                let sent = self
+                    .client()
+                    .send_to(transport(step.transport), address(step.to), step.bytes, now);
+                sent.map_or_else(refused, tell_message)
+            }
+            "poll" => tell_poll(self.client().poll(now).unwrap()),
+            "event" => self.client().poll_event().map_or(answer("TURN_NOTHING"), tell_event),
+            _ => self.ask(step, now),
+        }
+    }
+
+    /// Walks steps: what each tells is what is wanted.
+    pub fn walk(&mut self, (title, steps): &Part) {
+        for (i, step) in steps.iter().enumerate() {
+            let told = self.call(step);
+            assert_eq!(told, step.want, "{title}, step {i}: {} {}", step.call, step.name);
+        }
+    }
+
+    /// Walks the first parts of an exchange.
+    pub fn walked(exchange: &'static Exchange, parts: usize) -> Self {
+        let mut walker = Self::new(exchange);
+        exchange.parts[..parts].iter().for_each(|part| walker.walk(part));
+        walker
+    }
+}
