@@ -483,6 +483,16 @@ def hidden():
     return t
 
 
+def binds(t):
+    """A channel to peer ONE is bound by the third request, 100 ms after the exchange began."""
+    t.reaches("bind", ONE)
+    t.at(100)
+    t.draws(bind(2, A, ONE))
+    t.feeds(success(CHANNEL_BIND, 2))
+    t.tells("TURN_PERMISSION_CREATED", host(ONE))
+    t.tells("TURN_CHANNEL_CREATED", ONE)
+
+
 def lapsed():
     """Nothing is drawn until a channel is over, and so nothing renewed."""
     t = Exchange("a channel ends")
@@ -493,12 +503,7 @@ def lapsed():
     t.feeds(grant(RELAYED, seconds=3600))
     t.tells("TURN_ALLOCATION_CREATED", RELAYED)
     t.part("it was granted 600 seconds before")
-    t.reaches("bind", ONE)
-    t.at(100)
-    t.draws(bind(2, A, ONE))
-    t.feeds(success(CHANNEL_BIND, 2))
-    t.tells("TURN_PERMISSION_CREATED", host(ONE))
-    t.tells("TURN_CHANNEL_CREATED", ONE)
+    binds(t)
     t.at(300_100)
     t.waits(t.now)
     t.tells("TURN_PERMISSION_FAILED", host(ONE))
@@ -520,6 +525,18 @@ def lapsed():
 # ---- what is timed
 
 LONG = bytes(range(240)) * 5
+
+
+def asks(t):
+    """What changes nothing, with an allocation, a permission and a channel."""
+    t.draws_nothing("draw: nothing", repeats=16)
+    t.waits(240 * SECOND + 100 * MS, "poll", repeats=16)
+    t.step("event", {}, {}, "TURN_NOTHING", "event: none", repeats=16)
+    t.holds_relayed(RELAYED, name="relayed", repeats=16)
+    t.permits(ONE, name="permissions", repeats=16)
+    t.is_permitted(ONE, name="is_permitted", repeats=16)
+    t.holds_channels((A, ONE), name="channels", repeats=16)
+    t.holds_connections(name="connections", repeats=16)
 
 
 def timed_udp():
@@ -548,14 +565,7 @@ def timed_udp():
     t.gives(frame(A, LONG), ONE, LONG, 4, "feed: a channel frame of 1200 bytes", repeats=16)
     t.feeds(frame(A, LONG), "TURN_IGNORED", "feed: 1200 bytes from elsewhere", ELSEWHERE, repeats=16)
     t.feeds(b"\xff" * 1200, "TURN_IGNORED", "feed: 1200 bytes that are no message", repeats=16)
-    t.draws_nothing("draw: nothing", repeats=16)
-    t.waits(240 * SECOND + 100 * MS, "poll", repeats=16)
-    t.step("event", {}, {}, "TURN_NOTHING", "event: none", repeats=16)
-    t.holds_relayed(RELAYED, name="relayed", repeats=16)
-    t.permits(ONE, name="permissions", repeats=16)
-    t.is_permitted(ONE, name="is_permitted", repeats=16)
-    t.holds_channels((A, ONE), name="channels", repeats=16)
-    t.holds_connections(name="connections", repeats=16)
+    asks(t)
     t.at(200)
     t.does("delete", name="delete")
     t.draws(refresh(5, 0), name="draw: REFRESH")
@@ -575,12 +585,7 @@ def timed_tcp():
     t.draws(allocate())
     t.feeds(grant(RELAYED))
     t.tells("TURN_ALLOCATION_CREATED", RELAYED)
-    t.reaches("bind", ONE)
-    t.at(100)
-    t.draws(bind(2, A, ONE))
-    t.feeds(success(CHANNEL_BIND, 2))
-    t.tells("TURN_PERMISSION_CREATED", host(ONE))
-    t.tells("TURN_CHANNEL_CREATED", ONE)
+    binds(t)
     t.gives(padded(A, LONG), ONE, LONG, 4, "feed: a frame of 1200 bytes that is whole", repeats=16)
     t.step("pull", {}, {}, "TURN_NOTHING", "pull: nothing", repeats=16)
     t.feeds(padded(A, LONG)[:600], name="feed: half of it")
