@@ -37,7 +37,7 @@ use Rattle.turn_client_c.specs.Calls.{OnKept}
 use Rattle.turn_client_c.specs.Codes as code
 use Rattle.turn_client_c.specs.Sockets.{own_tuple}
 use Rattle.turn_client_c.specs.Traffic as traffic
-use Rattle.turn_client_c.specs.Traffic.{Fed, IsDrawnTold, IsFed, IsPulledTold, IsSendTold, Pulled, Refused, brought}
+use Rattle.turn_client_c.specs.Traffic.{Fed, IsDrawnTold, IsFed, IsCarried, IsPulledTold, Pulled, Refused, brought}
 use Rattle.turn_client_c.specs.Waits as waits
 use Rattle.turn_client_c.specs.Waits.{IsEventTold, IsPollTold}
 use Rattle.turn_client_told.specs.declared.event.TurnClientEvent.{TurnClientEvent}
@@ -158,9 +158,9 @@ is_drawn (Ok sent) now status out filled before told old new drawn failed has jo
 is_drawn (Err e) now status out filled before told old new drawn failed has joined one two three =
     record { answer = Err tt; drawn = (drawn, joined); failed = (failed, joined); has_to_send = has; status_is = one; filled_is = two; told_is = three }
 
-pub is_sent : (answer : Result (Option Sent) SendError) (by : TransportType) (to : SocketAddr) (bytes : List ℕ) (now : ℕ) (status : ℤ) (out filled : List ℕ) (before told : TurnTransmit) (old new : Whole)
-    → Leaves (λ old new. IsSendAnswered old by to bytes now answer new) (kept_of old.client) (kept_of new.client) → new.joined ≡ old.joined
+pub is_carried : (answer : Result (Option Sent) SendError) (by : TransportType) (to : SocketAddr) (bytes : List ℕ) (now : ℕ) (status : ℤ) (out filled : List ℕ) (before told : TurnTransmit) (old new : Kept)
+    → Leaves (λ old new. IsSendAnswered old by to bytes now answer new) old new
     → status ≡ traffic.send_status (length out) answer → filled ≡ traffic.send_written out answer → told ≡ traffic.send_told before answer
-    → IsSendTold by to bytes now status out filled before told old new
-is_sent answer by to bytes now status out filled before told old new answered joined one two three =
-    record { answer = answer; answered = (answered, joined); status_is = one; filled_is = two; told_is = three }
+    → IsCarried by to bytes now status out filled before told old new
+is_carried answer by to bytes now status out filled before told old new answered one two three =
+    record { answer = answer; answered = answered; status_is = one; filled_is = two; told_is = three }

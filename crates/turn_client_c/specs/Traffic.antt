@@ -15,12 +15,10 @@ use Rattle.turn_client_proto.specs.Clients.{kept_of}
 use Rattle.turn_client_proto.specs.Drawing.{HasToSend, IsDrawn, Sent, sent_of}
 use Rattle.turn_client_proto.specs.Ending.{HasFailed}
 use Rattle.turn_client_proto.specs.Receipts.{IsReceived, IsWaitingGiven, IsWaitingLost}
-use Rattle.turn_client_proto.specs.Sending.{IsSendAnswered, answered_as}
-use Rattle.turn_client_proto.specs.Api.Sends.{send_text}
-use Rattle.turn_client_proto.specs.Api.declared.send.DelayedMessageOrChannelSend.{DelayedMessageOrChannelSend}
-use Rattle.turn_types.specs.declared.transmit.TransmitBuild.{TransmitBuild}
+use Rattle.turn_client_proto.specs.Sending.{IsSendAnswered}
 use Rattle.stun_types.specs.Registry.{greatest_size}
-use Rattle.turn_client_c.specs.Calls.{OnCore}
+use Rattle.turn_client_proto.specs.Kept.{Kept, Leaves}
+use Rattle.turn_client_c.specs.Calls.{OnCore, OnKept}
 use Rattle.turn_client_c.specs.Codes as code
 use Rattle.turn_client_told.specs.Told.{told_payload, told_report, told_way}
 use Rattle.turn_client_told.specs.declared.told.TurnPayload.{TurnPayload}
@@ -134,15 +132,6 @@ message_room = greatest_size
 abbrev pub send_extra : ℕ
 send_extra = 64
 
--- what carries a payload, as bytes
-abbrev pub carried_text : DelayedMessageOrChannelSend (Bor (List ℕ)) → List ℕ
-carried_text carrier = send_text (λ (b : Bor (List ℕ)). b.now) carrier
-
--- what `send_to` answers, as it is sent
-abbrev pub sent_as : Result (Option (TransmitBuild (DelayedMessageOrChannelSend (Bor (List ℕ))))) SendError
-    → Result (Option Sent) SendError
-sent_as answer = answered_as (λ (b : Bor (List ℕ)). b.now) answer
-
 -- bytes that were drawn, into a buffer of this size: no message has so many that there is no room
 abbrev pub draw_status : {E : Type 0} → ℕ → Result (Option (Transmit Data)) E → ℤ
 draw_status room (Ok (Some t)) = if nat_lt room (length (data_bytes t.bytes)) then code.too_large else code.ok
@@ -189,11 +178,16 @@ send_told before (Ok (Some sent)) = told_way (length sent.bytes) sent.transport 
 send_told before (Ok None) = before
 send_told before (Err error) = before
 
--- `send_to`, the same
-pub record IsSendTold (by : TransportType) (to : SocketAddr) (bytes : List ℕ) (now : ℕ) (status : ℤ)
-    (out filled : List ℕ) (before told : TurnTransmit) (old new : Whole) : Type 0 where
+-- `send_to`, the same, by what the client keeps
+pub record IsCarried (by : TransportType) (to : SocketAddr) (bytes : List ℕ) (now : ℕ) (status : ℤ)
+    (out filled : List ℕ) (before told : TurnTransmit) (old new : Kept) : Type 0 where
   pub answer : Result (Option Sent) SendError
-  pub answered : OnCore (λ old new. IsSendAnswered old by to bytes now answer new) old new
+  pub answered : Leaves (λ old new. IsSendAnswered old by to bytes now answer new) old new
   pub status_is : status ≡ send_status (length out) answer
   pub filled_is : filled ≡ send_written out answer
   pub told_is : told ≡ send_told before answer
+
+abbrev pub IsSendTold : TransportType → SocketAddr → List ℕ → ℕ → ℤ → (out filled : List ℕ)
+    → (before told : TurnTransmit) → (old new : Whole) → Type 0
+IsSendTold by to bytes now status out filled before told =
+    OnKept (IsCarried by to bytes now status out filled before told)

@@ -1,10 +1,10 @@
 //! The calls by which bytes come and go.
 
-ghost use Rattle.std.specs.Prelude.{◌≡◌, ◌+◌, [], length, nat_lt, not, None, if◌then◌else◌};
+ghost use Rattle.std.specs.Prelude.{◌≡◌, ◌+◌, [], length, nat_lt, not, None};
 ghost use Rattle.turn_client_told.specs.Addresses.{address_of, transport_of};
 ghost use Rattle.turn_client_c.specs.Calls.{Named, OnClient, Unless};
-ghost use Rattle.turn_client_c.specs.Codes.{bad_family, bad_setting, ok, small_buffer};
-ghost use Rattle.turn_client_c.specs.Traffic.{IsDrawnTold, IsFed, IsPulledTold, IsReadTold, IsSendTold, carried_text, draw_status, draw_told, draw_written, joined_by, message_room, payload_told, recv_joined, recv_status, recv_told, send_extra, send_told, sent_as, written};
+ghost use Rattle.turn_client_c.specs.Codes.{bad_family, bad_setting, small_buffer};
+ghost use Rattle.turn_client_c.specs.Traffic.{IsDrawnTold, IsFed, IsPulledTold, IsReadTold, IsCarried, IsSendTold, draw_status, draw_told, draw_written, joined_by, message_room, payload_told, recv_joined, recv_status, recv_told, send_extra, written};
 
 use crate::handle::TurnHandle;
 use crate::status;
@@ -14,10 +14,9 @@ use std::net::SocketAddr;
 use stun_proto::Instant;
 use stun_types::data::Data;
 use stun_types::registry::MAX_MESSAGE_LENGTH;
-use stun_types::{NoMemory, Transmit};
-use turn_client_proto::api::{
-    DataRangeOrOwned, DelayedMessageOrChannelSend, SendError, TurnPeerData, TurnRecvRet,
-};
+use stun_types::{NoMemory, Transmit, TransportType};
+use turn_client_proto::api::{DataRangeOrOwned, SendError, TurnPeerData, TurnRecvRet};
+use turn_client_proto::client::TurnClient;
 use turn_client_proto::prelude::{DelayedTransmitBuild, TurnClientApi};
 use turn_client_proto::types::transmit::TransmitBuild;
 use turn_client_told::address::{TurnAddress, transport_of};
@@ -272,37 +271,68 @@ pub extern "C" fn turn_client_draw(
     status
 }
 
-/// What carries a payload to a peer, or why nothing does.
-type Carried<'a> = Result<Option<TransmitBuild<DelayedMessageOrChannelSend<&'a [u8]>>>, SendError>;
-
-/// Tells how a payload is carried, where it is.
-fn tell_way(answer: &Carried<'_>, transmit: &mut TurnTransmit)
-    ensures { transmit.new ≡ send_told transmit.old (sent_as answer.now) }
+/// Has a client say what carries a payload to a peer, writes that to the front of a buffer, and tells its way.
+#[tactic(auto, using(crate::proofs::Telling::is_carried))]
+fn carry<C: TurnClientApi>(
+    client: &mut C,
+    by: TransportType,
+    to: SocketAddr,
+    bytes: &[u8],
+    now: Instant,
+    out: &mut [u8],
+    transmit: &mut TurnTransmit,
+) -> i32
+    ensures { IsCarried by to bytes.now now result out.old out.new transmit.old transmit.new
+        (C.kept client.old) (C.kept client.new) }
 {
-    if let Ok(Some(carrier)) = answer {
-        let size = carrier.bytes.len();
-        transmit.tell(size, carrier.transport, &carrier.from, &carrier.to);
+    match client.send_to(by, to, bytes, now) {
+        Ok(Some(carrier)) => {
+            let TransmitBuild {
+                bytes: carried,
+                transport,
+                from,
+                to,
+            } = carrier;
+            let size = carried.len();
+            transmit.tell(size, transport, &from, &to);
+            if out.len() < size {
+                return status::SMALL_BUFFER;
+            }
+            let (front, _) = out.split_at_mut(size);
+            carried.write_into(front);
+            status::OK
+        }
+        Ok(None) => status::NOTHING,
+        Err(SendError::NoAllocation) => status::NO_ALLOCATION,
+        Err(SendError::NoPermission) => status::NO_PERMISSION,
+        Err(SendError::NoTcpSocket) => status::NO_SOCKET,
+        Err(SendError::TooLarge) => status::TOO_LARGE,
+        Err(_) => status::NO_MEMORY,
     }
 }
 
-/// Writes what carries a payload to the front of a buffer, where it has the room.
-fn write_carrier(bytes: DelayedMessageOrChannelSend<&[u8]>, out: &mut [u8]) -> i32
-    ensures status { result ≡ (if nat_lt (length out.old) (length (carried_text bytes.entry))
-        then small_buffer else ok) }
-    ensures bytes { out.new ≡ written (carried_text bytes.entry) out.old }
+/// Has the client of a handle say what carries a payload to a peer. It is asked by its own transport, so that
+/// what is answered, which is large, isn't handed on.
+fn send(
+    whole: &mut Whole,
+    by: TransportType,
+    to: SocketAddr,
+    bytes: &[u8],
+    now: Instant,
+    out: &mut [u8],
+    transmit: &mut TurnTransmit,
+) -> i32
+    ensures { IsSendTold by to bytes.now now result out.old out.new transmit.old transmit.new
+        whole.old whole.new }
 {
-    let size = bytes.len();
-    if out.len() < size {
-        return status::SMALL_BUFFER;
+    match &mut whole.client {
+        TurnClient::Udp(client) => carry(client, by, to, bytes, now, out, transmit),
+        TurnClient::Tcp(client) => carry(client, by, to, bytes, now, out, transmit),
     }
-    let (front, _) = out.split_at_mut(size);
-    bytes.write_into(front);
-    status::OK
 }
 
 /// Writes what carries a payload to a peer to the front of a buffer that has room for more.
 #[unsafe(no_mangle)]
-#[tactic(auto, using(crate::proofs::Telling::is_sent))]
 pub extern "C" fn turn_client_send(
     alloc: Global,
     client: &mut TurnHandle,
@@ -334,18 +364,8 @@ pub extern "C" fn turn_client_send(
     let Some(mut whole) = client.take(alloc) else {
         return status::NO_CLIENT;
     };
-    let answer = whole
-        .client
-        .send_to(by, to, bytes, Instant::from_nanos(now));
+    let moment = Instant::from_nanos(now);
+    let status = send(&mut whole, by, to, bytes, moment, out, transmit);
     client.put(whole);
-    tell_way(&answer, transmit);
-    match answer {
-        Ok(Some(carrier)) => write_carrier(carrier.bytes, out),
-        Ok(None) => status::NOTHING,
-        Err(SendError::NoAllocation) => status::NO_ALLOCATION,
-        Err(SendError::NoPermission) => status::NO_PERMISSION,
-        Err(SendError::NoTcpSocket) => status::NO_SOCKET,
-        Err(SendError::TooLarge) => status::TOO_LARGE,
-        Err(_) => status::NO_MEMORY,
-    }
+    status
 }

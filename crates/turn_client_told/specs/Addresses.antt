@@ -8,6 +8,7 @@ use Rattle.std.specs.declared.net.socket_addr.SocketAddr.{SocketAddr}
 use Rattle.std.specs.declared.net.socket_addr.SocketAddr.TheVariants.{V4, V6}
 use Rattle.stun_types.specs.declared.transport.TransportType.{TransportType}
 use Rattle.stun_types.specs.declared.transport.TransportType.TheVariants.{Udp, Tcp}
+use Rattle.turn_types.specs.TurnRegistry.{tcp_protocol, udp_protocol}
 use Rattle.turn_client_told.specs.declared.address.TurnAddress.{TurnAddress}
 
 -- the families
@@ -45,11 +46,11 @@ no_address family = record { ip = 0 ∷ 0 ∷ 0 ∷ 0 ∷ zeros; port = 0; famil
 
 -- transports, by their numbers in IP
 abbrev pub number_of : TransportType → ℕ
-number_of Udp = 17
-number_of Tcp = 6
+number_of Udp = udp_protocol
+number_of Tcp = tcp_protocol
 
 unfoldable pub transport_of : ℕ → Option TransportType
-transport_of number = if number == 17 then Some Udp else if number == 6 then Some Tcp else None
+transport_of number = if number == udp_protocol then Some Udp else if number == tcp_protocol then Some Tcp else None
 
 -- the own address of a socket, or that there is none, by family 0
 unfoldable pub socket_of : TurnAddress → Option (Option SocketAddr)

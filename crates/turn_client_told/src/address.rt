@@ -6,6 +6,7 @@ ghost use Rattle.turn_client_told.specs.Addresses.{address_of, ipv4, no_address,
 
 use std::net::{IpAddr, Ipv4Addr, Ipv6Addr, SocketAddr, SocketAddrV4, SocketAddrV6};
 use stun_types::TransportType;
+use turn_types::registry;
 
 /// The family of an address of IPv4.
 pub const IPV4: u8 = 4;
@@ -14,10 +15,10 @@ pub const IPV4: u8 = 4;
 pub const IPV6: u8 = 6;
 
 /// The number of UDP in IP.
-const UDP: u32 = 17;
+pub(crate) const UDP: u32 = registry::UDP as u32;
 
 /// The number of TCP in IP.
-const TCP: u32 = 6;
+pub(crate) const TCP: u32 = registry::TCP as u32;
 
 /// An address and a port.
 #[repr(C)]
@@ -51,6 +52,7 @@ impl TurnAddress {
     }
 
     /// Tells C an address.
+    #[inline]
     pub fn tell(&mut self, address: &SocketAddr)
         ensures { self.new ≡ told_address address.now }
     {
@@ -88,6 +90,7 @@ impl TurnAddress {
     }
 
     /// Tells C an address of IPv4 and a port.
+    #[inline]
     fn tell_v4(&mut self, ip: Ipv4Addr, port: u16)
         ensures { self.new
             ≡ record { ip = ipv4_octets ip ++ zeros; port = port; family = ipv4 } }

@@ -3,7 +3,7 @@
 ghost use Rattle.std.specs.Prelude.{◌≡◌};
 ghost use Rattle.turn_client_told.specs.Told.{family_number, told_event};
 
-use crate::address::{IPV4, IPV6, TurnAddress, number_of};
+use crate::address::{IPV4, IPV6, TCP, TurnAddress, number_of};
 use stun_types::AddressFamily;
 use turn_client_proto_api::event::TurnEvent;
 
@@ -30,9 +30,6 @@ const TCP_CONNECTED: u32 = 7;
 
 /// None is.
 const TCP_FAILED: u32 = 8;
-
-/// The number of TCP in IP.
-const TCP: u32 = 6;
 
 /// What happened.
 #[repr(C)]

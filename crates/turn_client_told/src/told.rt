@@ -25,6 +25,7 @@ pub struct TurnTransmit {
 
 impl TurnTransmit {
     /// Tells C of so many bytes, by this transport, from one address to another.
+    #[inline]
     pub fn tell(
         &mut self,
         size: usize,
