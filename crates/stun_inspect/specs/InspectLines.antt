@@ -4,7 +4,7 @@ use Rattle.program_lines.specs.Cut.{says_nothing}
 use Rattle.program_lines.specs.LowerHex.{word_bytes}
 use Rattle.program_lines.specs.LineWords.{AreWords}
 use Rattle.stun_inspect.specs.declared.line.Line.{Line}
-use Rattle.stun_inspect.specs.declared.line.Line.TheVariants.{User, Password, Message, Raw}
+use Rattle.stun_inspect.specs.declared.line.Line.TheVariants.{User, Password, Message, Raw, Frame, Stream}
 
 -- the words are one, which spells the bytes
 abbrev pub SpellBytes : List (List ℕ) → List ℕ → Type 0
@@ -18,6 +18,8 @@ IsNamed name rest (User n r p) = (name ≡ codes "user") × (rest ≡ n.now ∷ 
 IsNamed name rest (Password p) = (name ≡ codes "password") × (rest ≡ p.now ∷ [])
 IsNamed name rest (Message bytes) = (name ≡ codes "message") × SpellBytes rest bytes.items
 IsNamed name rest (Raw bytes) = (name ≡ codes "raw") × SpellBytes rest bytes.items
+IsNamed name rest (Frame bytes) = (name ≡ codes "frame") × SpellBytes rest bytes.items
+IsNamed name rest (Stream bytes) = (name ≡ codes "stream") × SpellBytes rest bytes.items
 
 -- the words spell the line
 abbrev pub IsLineOf : List (List ℕ) → Line → Type 0

@@ -27,6 +27,10 @@ pub enum Line<'a> {
     Message(Vec<u8>),
     /// `raw HEX`: these bytes as one attribute.
     Raw(Vec<u8>),
+    /// `frame HEX`: these bytes as one channel frame.
+    Frame(Vec<u8>),
+    /// `stream HEX`: these bytes as the front of a stream.
+    Stream(Vec<u8>),
 }
 
 /// Reads a line, of which the line feed is no part.
@@ -53,6 +57,14 @@ fn spell<'a>(alloc: Global, words: &[&'a str]) -> Result<Line<'a>, LineError>
         },
         ["raw", rest @ ..] => match read_bytes(alloc, rest) {
             Ok(bytes) => Ok(Line::Raw(bytes)),
+            Err(error) => Err(error),
+        },
+        ["frame", rest @ ..] => match read_bytes(alloc, rest) {
+            Ok(bytes) => Ok(Line::Frame(bytes)),
+            Err(error) => Err(error),
+        },
+        ["stream", rest @ ..] => match read_bytes(alloc, rest) {
+            Ok(bytes) => Ok(Line::Stream(bytes)),
             Err(error) => Err(error),
         },
         _ => Err(LineError::Bad),

@@ -1,8 +1,5 @@
 //! One message: what its header tells, what it shows, and whether it holds.
 
-use crate::attribute::push_attribute;
-use crate::names::{algorithm_name, class_name};
-use crate::refusal::{Objection, Refusal};
 use program_lines::lower_hex::write_hex;
 use std::alloc::Global;
 use stun_types::attribute::{
@@ -14,46 +11,55 @@ use stun_types::message::{
     ValidateError,
 };
 use stun_types::{Names, NoMemory};
+use stun_words::attribute::push_attribute;
+use stun_words::names::{algorithm_name, class_name};
+use stun_words::refusal::{Objection, Refusal};
 
-/// What bytes are as a message, under some credentials where there are any.
-pub(crate) fn message_in_words(
+/// Appends what bytes are as a message, under some credentials where there are any.
+pub(crate) fn push_message(
     alloc: Global,
+    text: &mut String,
     bytes: &[u8],
     credentials: Option<&MessageIntegrityCredentials>,
     names: &Names,
-) -> Result<String, NoMemory> {
+) -> Result<(), NoMemory> {
     let size = bytes.len();
-    let mut text = format!(in alloc; "message {size} bytes\n")?;
+    writeln!(text, "message {size} bytes")?;
     match Message::from_bytes(bytes) {
         Ok(message) => {
-            push_header(&mut text, &message, names)?;
-            push_shown(alloc, &mut text, &message, names)?;
+            push_header(text, &message, names)?;
+            push_shown(alloc, text, &message, names)?;
             match credentials {
-                Some(credentials) => push_integrity(&mut text, &message, credentials, names)?,
+                Some(credentials) => push_integrity(text, &message, credentials, names)?,
                 None => text.push_str("validation without credentials\n")?,
             }
-            push_fingerprint(&mut text, &message)?;
+            push_fingerprint(text, &message)?;
         }
         Err(error) => {
             let refusal = Refusal(error);
             writeln!(text, "refused {refusal}")?;
         }
     }
-    Ok(text)
+    Ok(())
 }
 
-/// What bytes are as one attribute. An address is xored under the number 0.
-pub(crate) fn raw_in_words(alloc: Global, bytes: &[u8], names: &Names) -> Result<String, NoMemory> {
+/// Appends what bytes are as one attribute. An address is xored under the number 0.
+pub(crate) fn push_raw(
+    alloc: Global,
+    text: &mut String,
+    bytes: &[u8],
+    names: &Names,
+) -> Result<(), NoMemory> {
     let size = bytes.len();
-    let mut text = format!(in alloc; "raw {size} bytes\n")?;
+    writeln!(text, "raw {size} bytes")?;
     match RawAttribute::from_bytes(bytes) {
-        Ok(raw) => push_attribute(alloc, &mut text, &raw, TransactionId::from(0u128), names)?,
+        Ok(raw) => push_attribute(alloc, text, &raw, TransactionId::from(0u128), names)?,
         Err(error) => {
             let refusal = Refusal(error);
             writeln!(text, "refused {refusal}")?;
         }
     }
-    Ok(text)
+    Ok(())
 }
 
 /// Appends class, method and number.

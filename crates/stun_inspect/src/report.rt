@@ -8,8 +8,8 @@ ghost use Rattle.stun_inspect.specs.InspectLines.{IsReadable};
 ghost use Rattle.stun_inspect.specs.Printed.{Prints, PrintsText};
 
 use crate::line::{Line, read_line};
-use crate::message::{message_in_words, raw_in_words};
-use crate::names::names;
+use crate::message::{push_message, push_raw};
+use crate::stream::{push_frame, push_stream};
 use program_lines::cut::{cut_line, is_skipped};
 use program_lines::input::{InputError, MAX_INPUT, read_input};
 use program_lines::status::Status;
@@ -18,6 +18,7 @@ use std::alloc::Global;
 use std::io::{Read, Write};
 use stun_types::message::{LongTermCredentials, MessageIntegrityCredentials, ShortTermCredentials};
 use stun_types::{Names, NoMemory};
+use stun_words::names::names;
 
 /// Reads an input whole, and prints of each line that gives bytes what they are. At the first bad
 /// line it prints `bad trace: line N`, lines counted from 1; where memory is refused `no memory`;
@@ -82,6 +83,7 @@ impl Inspector {
 
     /// What is printed of a line: nothing of one that gives credentials.
     fn in_words(&mut self, line: Line<'_>) -> Result<String, NoMemory> {
+        let mut text = String::new(self.alloc);
         match line {
             Line::User {
                 name,
@@ -93,20 +95,26 @@ impl Inspector {
                 let password = String::from_str(self.alloc, password)?;
                 let key = LongTermCredentials::new(name, password).to_key(self.alloc, realm)?;
                 self.credentials = Some(MessageIntegrityCredentials::from(key));
-                Ok(String::new(self.alloc))
             }
             Line::Password(password) => {
                 let password = String::from_str(self.alloc, password)?;
                 let credentials = ShortTermCredentials::new(password);
                 self.credentials = Some(MessageIntegrityCredentials::from(credentials));
-                Ok(String::new(self.alloc))
             }
             Line::Message(bytes) => {
-                let credentials = self.credentials.as_ref();
-                message_in_words(self.alloc, bytes.as_slice(), credentials, &self.names)
+                let (credentials, names) = (self.credentials.as_ref(), &self.names);
+                push_message(self.alloc, &mut text, bytes.as_slice(), credentials, names)?;
             }
-            Line::Raw(bytes) => raw_in_words(self.alloc, bytes.as_slice(), &self.names),
+            Line::Raw(bytes) => {
+                push_raw(self.alloc, &mut text, bytes.as_slice(), &self.names)?;
+            }
+            Line::Frame(bytes) => push_frame(self.alloc, &mut text, bytes.as_slice())?,
+            Line::Stream(bytes) => {
+                let (credentials, names) = (self.credentials.as_ref(), &self.names);
+                push_stream(self.alloc, &mut text, bytes.as_slice(), credentials, names)?;
+            }
         }
+        Ok(text)
     }
 }
 

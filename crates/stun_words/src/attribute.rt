@@ -1,6 +1,7 @@
 //! One attribute: its type, its name, and its value in words.
 
 use crate::refusal::Refusal;
+use crate::turn::turn_in_words;
 use program_lines::lower_hex::write_hex;
 use std::alloc::Global;
 use std::convert::TryFrom;
@@ -12,11 +13,10 @@ use stun_types::attribute::{
 };
 use stun_types::message::{StunParseError, TransactionId};
 use stun_types::{Names, NoMemory};
-use turn_types::attribute::{Lifetime, RequestedTransport, XorRelayedAddress};
 
 /// Appends the line of an attribute that a message of this number shows: its type, its name, and its
 /// value in words; or why it is no value of that type, and its bytes.
-pub(crate) fn push_attribute(
+pub fn push_attribute(
     alloc: Global,
     text: &mut String,
     raw: &RawAttribute<'_>,
@@ -41,7 +41,7 @@ pub(crate) fn push_attribute(
 
 /// The value of an attribute in words, in a message of this number. Refused as the type's own
 /// `from_raw` refuses it. The value of a type that this repository does not read is its bytes.
-fn value_in_words(
+pub fn value_in_words(
     alloc: Global,
     raw: &RawAttribute<'_>,
     number: TransactionId,
@@ -59,6 +59,9 @@ fn value_in_words(
         return Ok(words);
     }
     if let Some(words) = digest_in_words(alloc, raw)? {
+        return Ok(words);
+    }
+    if let Some(words) = turn_in_words(alloc, raw, number)? {
         return Ok(words);
     }
     let words = write_hex(alloc, raw.value())?;
@@ -103,8 +106,6 @@ fn address_in_words(
     let atype = raw.get_type();
     let addr = if atype == XorMappedAddress::TYPE {
         XorMappedAddress::try_from(raw)?.addr(number)
-    } else if atype == XorRelayedAddress::TYPE {
-        XorRelayedAddress::try_from(raw)?.addr(number)
     } else if atype == AlternateServer::TYPE {
         AlternateServer::try_from(raw)?.server()
     } else {
@@ -139,8 +140,8 @@ fn algorithms_in_words(
     Ok(Some(words))
 }
 
-/// The numbers of an attribute that tells some: the code of an error and its reason, the types that
-/// were not known, seconds, and a transport.
+/// The numbers of an attribute that tells some: the code of an error and its reason, and the types that
+/// were not known.
 fn number_in_words(
     alloc: Global,
     raw: &RawAttribute<'_>,
@@ -154,14 +155,6 @@ fn number_in_words(
     } else if atype == UnknownAttributes::TYPE {
         let _ = UnknownAttributes::from_raw_ref(alloc, raw)?;
         let words = types_in_words(alloc, raw.value())?;
-        Ok(Some(words))
-    } else if atype == Lifetime::TYPE {
-        let seconds = Lifetime::try_from(raw)?.seconds();
-        let words = format!(in alloc; "{seconds}")?;
-        Ok(Some(words))
-    } else if atype == RequestedTransport::TYPE {
-        let protocol = RequestedTransport::try_from(raw)?.protocol();
-        let words = format!(in alloc; "{protocol} {}", transport_name(protocol))?;
         Ok(Some(words))
     } else {
         Ok(None)
@@ -182,15 +175,6 @@ fn types_in_words(alloc: Global, value: &[u8]) -> Result<String, NoMemory> {
         words.push_str("-")?;
     }
     Ok(words)
-}
-
-/// The name of the transport of a protocol number.
-fn transport_name(protocol: u8) -> &'static str {
-    match protocol {
-        RequestedTransport::UDP => "UDP",
-        RequestedTransport::TCP => "TCP",
-        _ => "unknown",
-    }
 }
 
 /// The bytes of an attribute that holds a digest.

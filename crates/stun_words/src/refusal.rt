@@ -5,7 +5,7 @@ use stun_types::message::{StunParseError, ValidateError};
 
 /// Why bytes are no message or no attribute, to be printed as the name of the error and its numbers.
 #[derive(Clone, Copy, Debug)]
-pub(crate) struct Refusal(pub StunParseError);
+pub struct Refusal(pub StunParseError);
 
 impl fmt::Display for Refusal {
     fn fmt<W: fmt::Write>(&self, f: &mut fmt::Formatter<W>) -> fmt::Result {
@@ -37,7 +37,7 @@ impl fmt::Display for Refusal {
 
 /// Why a message is not validated, to be printed alike.
 #[derive(Clone, Copy, Debug)]
-pub(crate) struct Objection(pub ValidateError);
+pub struct Objection(pub ValidateError);
 
 impl fmt::Display for Objection {
     fn fmt<W: fmt::Write>(&self, f: &mut fmt::Formatter<W>) -> fmt::Result {

@@ -1,0 +1,5 @@
+pub mod Escapes
+pub mod Drawn
+pub mod Lines
+pub mod Pictures
+pub mod Shown

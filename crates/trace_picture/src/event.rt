@@ -1,0 +1,79 @@
+//! What an event line says, and what is written beside its arrow.
+
+use crate::kind::Kind;
+use program_lines::lower_hex::read_hex;
+use program_lines::refusal::LineError;
+use std::alloc::{AllocError, Global};
+
+/// An event line, and what it was answered.
+#[derive(Clone, Copy, Debug)]
+pub(crate) struct Event<'w, 'l, 't, 'a> {
+    /// What the line is.
+    pub kind: Kind,
+    /// Its words.
+    pub words: &'w [&'l str],
+    /// The answer.
+    pub answer: &'a str,
+    /// Its words.
+    pub told: &'t [&'a str],
+}
+
+impl<'w, 'l, 't, 'a> Event<'w, 'l, 't, 'a> {
+    /// The moment of the line, in nanoseconds. None where it tells none.
+    pub(crate) fn moment(&self) -> Option<u64> {
+        match self.words {
+            [first, now, ..] if tells_moment(first) => now.parse::<u64>().ok(),
+            _ => None,
+        }
+    }
+
+    /// The word of the bytes that client or desk is handed.
+    pub(crate) fn handed(&self) -> Option<&'l str> {
+        match self.words {
+            ["todesk", _, _, bytes, ..] | ["toclient", _, _, _, bytes] => Some(bytes),
+            _ => None,
+        }
+    }
+
+    /// The bytes of the answer; none where it has none.
+    pub(crate) fn answered(&self, alloc: Global) -> Result<Vec<u8>, LineError> {
+        match self.told {
+            ["transmit" | "peer", _, _, hex] | ["reply", hex] => read_hex(alloc, hex),
+            _ => Ok(Vec::new(alloc)),
+        }
+    }
+
+    /// The answer, without its first word where that is the line's.
+    pub(crate) fn shown(&self) -> &'a str {
+        match (self.words, self.answer.split_once(' ')) {
+            ([first, ..], Some((front, rest))) if front == *first => rest,
+            _ => self.answer,
+        }
+    }
+
+    /// The line without its moment.
+    pub(crate) fn call(&self, alloc: Global) -> Result<String, AllocError> {
+        let mut text = String::new(alloc);
+        let mut left_out = self.moment().is_some();
+        for (at, word) in self.words.iter().enumerate() {
+            if at == 1 && left_out {
+                left_out = false;
+                continue;
+            }
+            if at > 0 {
+                text.push_str(" ")?;
+            }
+            text.push_str(word)?;
+        }
+        Ok(text)
+    }
+}
+
+/// Whether the second word of a line that begins so is a moment.
+fn tells_moment(first: &str) -> bool {
+    match first {
+        "event" | "have" | "permissions" | "channels" | "connections" | "error" | "relayed" =>
+            false,
+        _ => true,
+    }
+}

@@ -1,0 +1,128 @@
+//! What bytes are, in a few short lines.
+
+use program_lines::lower_hex::write_hex;
+use std::alloc::{AllocError, Global};
+use stun_types::attribute::{
+    AttributeStaticType, ErrorCode, MessageIntegrity, MessageIntegritySha256, RawAttribute, Realm,
+    UnknownAttributes, Username,
+};
+use stun_types::message::{Message, StunParseError};
+use stun_types::{Names, NoMemory};
+use stun_words::attribute::value_in_words;
+use stun_words::names::class_name;
+use stun_words::refusal::Refusal;
+use turn_types::attribute::{
+    ChannelNumber, ConnectionId, Data, Lifetime, XorPeerAddress, XorRelayedAddress,
+};
+use turn_types::channel::ChannelData;
+
+/// How many hex digits of a transaction ID are shown.
+const SHOWN_OF_NUMBER: usize = 6;
+
+/// What bytes are: a message, its name and what is of interest in it; a channel frame; or so many bytes.
+pub(crate) fn bytes_in_lines(
+    alloc: Global,
+    bytes: &[u8],
+    names: &Names,
+) -> Result<Vec<String>, NoMemory> {
+    if let Ok(message) = Message::from_bytes(bytes) {
+        return message_in_lines(alloc, &message, names);
+    }
+    let mut lines = Vec::new(alloc);
+    if let Ok(frame) = ChannelData::parse(bytes) {
+        let number = frame.id();
+        lines.push(format!(in alloc; "channel frame 0x{number:04x}")?)?;
+        lines.push(write_hex(alloc, frame.data())?)?;
+    } else {
+        lines.push(format!(in alloc; "{} bytes", bytes.len())?)?;
+        lines.push(write_hex(alloc, bytes)?)?;
+    }
+    Ok(lines)
+}
+
+/// What a message is: method, class, the first digits of its transaction ID; then each attribute of interest;
+/// and by what it is signed.
+fn message_in_lines(
+    alloc: Global,
+    message: &Message<'_>,
+    names: &Names,
+) -> Result<Vec<String>, NoMemory> {
+    let mut lines = Vec::new(alloc);
+    let (method, class) = (message.method().name(names), class_name(message.class()));
+    let number = first_digits(alloc, message)?;
+    lines.push(format!(in alloc; "{method} {class} {number}")?)?;
+    for (_, raw) in message.iter_attributes() {
+        if is_of_interest(&raw) {
+            lines.push(attribute_in_words(alloc, &raw, message, names)?)?;
+        }
+    }
+    if let Some(how) = signed_how(message) {
+        lines.push(String::from_str(alloc, how)?)?;
+    }
+    Ok(lines)
+}
+
+/// The first digits of the transaction ID of a message.
+fn first_digits(alloc: Global, message: &Message<'_>) -> Result<String, AllocError> {
+    let number = message.transaction_id();
+    let whole = format!(in alloc; "{number}")?;
+    let mut digits = String::new(alloc);
+    for c in whole.chars().skip(2).take(SHOWN_OF_NUMBER) {
+        digits.push(c)?;
+    }
+    Ok(digits)
+}
+
+/// By which algorithms a message is signed, by the integrity attributes that it shows. None where it shows
+/// none.
+fn signed_how(message: &Message<'_>) -> Option<&'static str> {
+    let by_sha1 = message.has_attribute(MessageIntegrity::TYPE);
+    let by_sha256 = message.has_attribute(MessageIntegritySha256::TYPE);
+    match (by_sha1, by_sha256) {
+        (true, true) => Some("signed by SHA-1 and SHA-256"),
+        (true, false) => Some("signed by SHA-1"),
+        (false, true) => Some("signed by SHA-256"),
+        (false, false) => None,
+    }
+}
+
+/// Whether an attribute is shown.
+fn is_of_interest(raw: &RawAttribute<'_>) -> bool {
+    let atype = raw.get_type();
+    [
+        ErrorCode::TYPE,
+        UnknownAttributes::TYPE,
+        Username::TYPE,
+        Realm::TYPE,
+        Lifetime::TYPE,
+        XorRelayedAddress::TYPE,
+        XorPeerAddress::TYPE,
+        ChannelNumber::TYPE,
+        ConnectionId::TYPE,
+        Data::TYPE,
+    ]
+    .iter()
+    .any(|shown| *shown == atype)
+}
+
+/// The name of an attribute, and its value in words.
+fn attribute_in_words(
+    alloc: Global,
+    raw: &RawAttribute<'_>,
+    message: &Message<'_>,
+    names: &Names,
+) -> Result<String, NoMemory> {
+    let name = raw.get_type().name(names);
+    match value_in_words(alloc, raw, message.transaction_id()) {
+        Ok(words) => {
+            let text = format!(in alloc; "{name} {words}")?;
+            Ok(text)
+        }
+        Err(StunParseError::NoMemory) => Err(NoMemory),
+        Err(error) => {
+            let refusal = Refusal(error);
+            let text = format!(in alloc; "{name} refused {refusal}")?;
+            Ok(text)
+        }
+    }
+}
