@@ -235,7 +235,7 @@ def styles_of(root):
 def ground_of(root):
     """Where the lines stand and the network lies: the upright paths, and the narrower of two rectangles."""
     stands = sorted(int(it) for path in root.findall(f"{XMLNS}path")
-                    for it in re.findall(r"^M(\d+) \d+V\d+$", path.get("d")))
+                    for it in re.findall(r"^M (\d+) \d+ V \d+$", path.get("d")))
     network = min(root.findall(f"{XMLNS}rect"), key=lambda it: int(it.get("width")))
     near, size = int(network.get("x")), int(network.get("width"))
     client, desk = stands
@@ -279,7 +279,7 @@ def label_of(element, styles, ground):
 
 def arrow_of(element):
     """An arrow: a level path."""
-    told = re.fullmatch(r"M(\d+) (\d+)H(\d+)", element.get("d"))
+    told = re.fullmatch(r"M (\d+) (\d+) H (\d+)", element.get("d"))
     if not told:
         raise ValueError(f"the path {element.get('d')} is no arrow")
     start, at, end = map(int, told.groups())

@@ -10,7 +10,7 @@ use program_lines::word::read_words;
 use std::alloc::Global;
 
 /// A line that says something.
-#[derive(Debug, Drop)]
+#[derive(Drop)]
 pub enum Line<'a> {
     /// `user NAME REALM PASSWORD`: what follows is validated under the key of a user in a realm.
     User {

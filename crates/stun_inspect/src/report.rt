@@ -63,7 +63,7 @@ fn inspect_input<I: Read, O: Write>(
 }
 
 /// What is kept from line to line.
-#[derive(Debug, Drop)]
+#[derive(Drop)]
 struct Inspector {
     alloc: Global,
     names: Names,

@@ -3,7 +3,10 @@
 #![tactic(auto)]
 
 pub mod attribute;
+pub mod lines;
 pub mod names;
 pub mod refusal;
 pub(crate) mod registry;
 pub(crate) mod turn;
+
+pub use stun_types::{Names, NoMemory};

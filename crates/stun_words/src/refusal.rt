@@ -4,7 +4,7 @@ use std::fmt;
 use stun_types::message::{StunParseError, ValidateError};
 
 /// Why bytes are no message or no attribute, to be printed as the name of the error and its numbers.
-#[derive(Clone, Copy, Debug)]
+#[derive(Clone, Copy)]
 pub struct Refusal(pub StunParseError);
 
 impl fmt::Display for Refusal {
@@ -36,7 +36,7 @@ impl fmt::Display for Refusal {
 }
 
 /// Why a message is not validated, to be printed alike.
-#[derive(Clone, Copy, Debug)]
+#[derive(Clone, Copy)]
 pub struct Objection(pub ValidateError);
 
 impl fmt::Display for Objection {

@@ -12,23 +12,23 @@ use Rattle.trace_picture.specs.declared.row.Row.{Row}
 
 -- the class of an arrow, and where it begins: at the caller, the client (320), the network (560 to 596), the desk (836)
 abbrev pub arrow_front : Arrow → List ℕ
-arrow_front arrow.Called = codes "c\" d=\"M96"
-arrow_front arrow.Sent = codes "a\" d=\"M320"
-arrow_front arrow.SentLost = codes "x\" d=\"M320"
-arrow_front arrow.Heard = codes "a\" d=\"M560"
-arrow_front arrow.Reached = codes "a\" d=\"M596"
-arrow_front arrow.Replied = codes "a\" d=\"M836"
-arrow_front arrow.ReplyLost = codes "x\" d=\"M836"
+arrow_front arrow.Called = codes "c\" d=\"M 96"
+arrow_front arrow.Sent = codes "a\" d=\"M 320"
+arrow_front arrow.SentLost = codes "x\" d=\"M 320"
+arrow_front arrow.Heard = codes "a\" d=\"M 560"
+arrow_front arrow.Reached = codes "a\" d=\"M 596"
+arrow_front arrow.Replied = codes "a\" d=\"M 836"
+arrow_front arrow.ReplyLost = codes "x\" d=\"M 836"
 
 -- where it ends; of what is lost, in the air
 abbrev pub arrow_back : Arrow → List ℕ
-arrow_back arrow.Called = codes "H318"
-arrow_back arrow.Sent = codes "H558"
-arrow_back arrow.SentLost = codes "H520"
-arrow_back arrow.Heard = codes "H322"
-arrow_back arrow.Reached = codes "H834"
-arrow_back arrow.Replied = codes "H598"
-arrow_back arrow.ReplyLost = codes "H636"
+arrow_back arrow.Called = codes " H 318"
+arrow_back arrow.Sent = codes " H 558"
+arrow_back arrow.SentLost = codes " H 520"
+arrow_back arrow.Heard = codes " H 322"
+arrow_back arrow.Reached = codes " H 834"
+arrow_back arrow.Replied = codes " H 598"
+arrow_back arrow.ReplyLost = codes " H 636"
 
 unfoldable pub mark_text : Mark → List ℕ
 mark_text m = codes "<path class=\"" ++ arrow_front m.arrow ++ codes " " ++ decimal m.at ++ arrow_back m.arrow

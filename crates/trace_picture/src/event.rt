@@ -6,7 +6,7 @@ use program_lines::refusal::LineError;
 use std::alloc::{AllocError, Global};
 
 /// An event line, and what it was answered.
-#[derive(Clone, Copy, Debug)]
+#[derive(Clone, Copy)]
 pub(crate) struct Event<'w, 'l, 't, 'a> {
     /// What the line is.
     pub kind: Kind,

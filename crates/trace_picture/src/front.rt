@@ -23,18 +23,18 @@ path { stroke: #e6edf3 } .l { stroke: #6e7681 } .c { stroke: #6e7681 } .x { stro
 <defs>
 <marker id=\"tip\" viewBox=\"0 0 8 8\" refX=\"8\" refY=\"4\" markerWidth=\"8\" markerHeight=\"8\"
 orient=\"auto\">
-<path class=\"t\" d=\"M0 0L8 4L0 8z\"/></marker>
+<path class=\"t\" d=\"M 0 0 L 8 4 L 0 8 z\"/></marker>
 <marker id=\"end\" viewBox=\"-5 -5 10 10\" markerWidth=\"10\" markerHeight=\"10\">
-<path class=\"g\" d=\"M-4 -4L4 4M-4 4L4 -4\"/></marker>
+<path class=\"g\" d=\"M -4 -4 L 4 4 M -4 4 L 4 -4\"/></marker>
 </defs>
 <rect class=\"p\" width=\"880\" height=\"",
     "\"/>
 <rect class=\"b\" x=\"560\" y=\"32\" width=\"36\" height=\"",
     "\"/>
 <text class=\"m d\" x=\"578\" y=\"22\">network</text>
-<path class=\"l\" d=\"M320 32V",
+<path class=\"l\" d=\"M 320 32 V ",
     "\"/>
-<path class=\"l\" d=\"M836 32V",
+<path class=\"l\" d=\"M 836 32 V ",
     "\"/>\n",
 ];
 

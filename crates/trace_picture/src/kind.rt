@@ -8,7 +8,7 @@ use crate::row::{Arrow, Mark};
 use std::alloc::{AllocError, Global};
 
 /// What a line of a trace is.
-#[derive(Clone, Copy, Debug, PartialEq, Eq)]
+#[derive(Clone, Copy, PartialEq, Eq)]
 pub enum Kind {
     /// It is done before the first event.
     Setup,

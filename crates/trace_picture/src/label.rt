@@ -16,7 +16,7 @@ const BELOW: usize = 4;
 pub(crate) const ARROW: usize = 19;
 
 /// Labels.
-#[derive(Debug, Drop)]
+#[derive(Drop)]
 pub(crate) struct Labels {
     alloc: Global,
     labels: Vec<Label>,

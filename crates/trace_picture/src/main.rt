@@ -10,7 +10,6 @@ mod event;
 mod front;
 mod kind;
 mod label;
-mod message;
 mod pen;
 mod picture;
 mod report;

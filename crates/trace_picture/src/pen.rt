@@ -6,14 +6,14 @@ ghost use Rattle.trace_picture.specs.Lines.{IsMarked};
 use crate::event::Event;
 use crate::kind::{Kind, carries, marks_of};
 use crate::label::{ARROW, Labels, STEP};
-use crate::message::bytes_in_lines;
 use crate::row::{Label, Place, Row};
 use crate::sent::{Handed, answered_by};
 use program_lines::lower_hex::read_hex;
 use program_lines::refusal::LineError;
 use std::alloc::{AllocError, Global};
-use stun_types::{Names, NoMemory};
+use stun_words::lines::bytes_in_lines;
 use stun_words::names::names;
+use stun_words::{Names, NoMemory};
 
 /// How far down the foot of the heads stands, in pixels.
 const HEAD: usize = 22;
@@ -34,7 +34,7 @@ const MOMENT: usize = 4;
 const MILLISECOND: u64 = 1_000_000;
 
 /// What is known while rows are drawn.
-#[derive(Debug, Drop)]
+#[derive(Drop)]
 pub(crate) struct Pen {
     alloc: Global,
     names: Names,
@@ -105,7 +105,7 @@ impl Pen {
     {
         let mut labels = Labels::new(self.alloc);
         let top = self.begin(&mut labels, event)?;
-        let number = (self.answers.len() as u64).saturating_add(1);
+        let number = self.answers.len().saturating_add(1);
         let answered = event.answered(self.alloc)?;
         let (reply, foot) = self.describe(&mut labels, event, answered.as_slice(), top)?;
         self.answers.push(answered)?;
@@ -240,25 +240,31 @@ impl Pen {
 
     /// The bytes that an event line before this one was answered, lines counted from 1. None where there is no
     /// such line, or it was answered none.
-    fn answer(&self, number: u64) -> Option<&[u8]> {
+    fn answer(&self, number: usize) -> Option<&[u8]> {
         if number == 0 {
             return None;
         }
-        match self.answers.get((number - 1) as usize) {
+        match self.answers.get(number - 1) {
             Some(bytes) if !bytes.is_empty() => Some(bytes.as_slice()),
             _ => None,
         }
     }
 }
 
-/// How far apart two rows stand, in pixels: more where there is more time between them, by its logarithm.
+/// How far apart two rows stand, in pixels: more where there is more time between them, by its digits in
+/// milliseconds.
 fn gap_between(before: Option<u64>, now: u64) -> usize {
     let Some(before) = before else {
         return CLOSE;
     };
-    let passed = now.saturating_sub(before) / MILLISECOND;
-    let more = (passed.saturating_add(1).ilog2() as usize).saturating_mul(4);
-    CLOSE.saturating_add(more).min(APART)
+    match now.saturating_sub(before) / MILLISECOND {
+        0 => CLOSE,
+        1..=9 => 16,
+        10..=99 => 24,
+        100..=999 => 32,
+        1_000..=9_999 => 48,
+        _ => APART,
+    }
 }
 
 /// A moment: in seconds from ten on, else in milliseconds. `…` stands for what is less than a millisecond.

@@ -78,6 +78,7 @@ fn note_line(alloc: Global, handed: &mut Handed, line: &[u8]) -> Result<(), Line
     if is_skipped(line) {
         return Ok(());
     }
+    handed.begin_line()?;
     let words = read_words(alloc, line)?;
     match words.as_slice() {
         ["todesk", _, _, bytes, ..] | ["toclient", _, _, _, bytes] => handed.note(alloc, bytes)?,

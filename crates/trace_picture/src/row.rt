@@ -8,7 +8,7 @@ use crate::escape::push_escaped;
 use std::alloc::{AllocError, Global};
 
 /// How an arrow runs.
-#[derive(Clone, Copy, Debug, PartialEq, Eq)]
+#[derive(Clone, Copy)]
 pub enum Arrow {
     /// A call of the client.
     Called,
@@ -27,7 +27,7 @@ pub enum Arrow {
 }
 
 /// An arrow, and how far down it runs, in pixels.
-#[derive(Clone, Copy, Debug)]
+#[derive(Clone, Copy)]
 pub struct Mark {
     /// How it runs.
     pub arrow: Arrow,
@@ -36,7 +36,7 @@ pub struct Mark {
 }
 
 /// Where a label stands.
-#[derive(Clone, Copy, Debug, PartialEq, Eq)]
+#[derive(Clone, Copy)]
 pub enum Place {
     /// The number of an event line.
     Number,
@@ -61,7 +61,7 @@ pub enum Place {
 }
 
 /// A text, where it stands, and how far down its foot is, in pixels.
-#[derive(Debug, Drop)]
+#[derive(Drop)]
 pub struct Label {
     /// Where it stands.
     pub place: Place,
@@ -72,7 +72,7 @@ pub struct Label {
 }
 
 /// What is drawn of one event line.
-#[derive(Debug, Drop)]
+#[derive(Drop)]
 pub struct Row {
     /// The line.
     pub line: String,
@@ -125,13 +125,13 @@ fn arrow_front(arrow: Arrow) -> &'static str
     ensures { result.now ≡ arrow_front arrow }
 {
     match arrow {
-        Arrow::Called => "c\" d=\"M96",
-        Arrow::Sent => "a\" d=\"M320",
-        Arrow::SentLost => "x\" d=\"M320",
-        Arrow::Heard => "a\" d=\"M560",
-        Arrow::Reached => "a\" d=\"M596",
-        Arrow::Replied => "a\" d=\"M836",
-        Arrow::ReplyLost => "x\" d=\"M836",
+        Arrow::Called => "c\" d=\"M 96",
+        Arrow::Sent => "a\" d=\"M 320",
+        Arrow::SentLost => "x\" d=\"M 320",
+        Arrow::Heard => "a\" d=\"M 560",
+        Arrow::Reached => "a\" d=\"M 596",
+        Arrow::Replied => "a\" d=\"M 836",
+        Arrow::ReplyLost => "x\" d=\"M 836",
     }
 }
 
@@ -140,13 +140,13 @@ fn arrow_back(arrow: Arrow) -> &'static str
     ensures { result.now ≡ arrow_back arrow }
 {
     match arrow {
-        Arrow::Called => "H318",
-        Arrow::Sent => "H558",
-        Arrow::SentLost => "H520",
-        Arrow::Heard => "H322",
-        Arrow::Reached => "H834",
-        Arrow::Replied => "H598",
-        Arrow::ReplyLost => "H636",
+        Arrow::Called => " H 318",
+        Arrow::Sent => " H 558",
+        Arrow::SentLost => " H 520",
+        Arrow::Heard => " H 322",
+        Arrow::Reached => " H 834",
+        Arrow::Replied => " H 598",
+        Arrow::ReplyLost => " H 636",
     }
 }
 

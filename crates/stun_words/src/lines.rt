@@ -1,30 +1,26 @@
 //! What bytes are, in a few short lines.
 
+use crate::attribute::value_in_words;
+use crate::names::class_name;
+use crate::refusal::Refusal;
 use program_lines::lower_hex::write_hex;
-use std::alloc::{AllocError, Global};
+use std::alloc::Global;
 use stun_types::attribute::{
     AttributeStaticType, ErrorCode, MessageIntegrity, MessageIntegritySha256, RawAttribute, Realm,
     UnknownAttributes, Username,
 };
 use stun_types::message::{Message, StunParseError};
 use stun_types::{Names, NoMemory};
-use stun_words::attribute::value_in_words;
-use stun_words::names::class_name;
-use stun_words::refusal::Refusal;
 use turn_types::attribute::{
     ChannelNumber, ConnectionId, Data, Lifetime, XorPeerAddress, XorRelayedAddress,
 };
 use turn_types::channel::ChannelData;
 
-/// How many hex digits of a transaction ID are shown.
-const SHOWN_OF_NUMBER: usize = 6;
+/// Which characters of a transaction ID are shown: its first six hex digits, behind `0x`.
+const SHOWN_OF_NUMBER: (usize, usize) = (2, 8);
 
 /// What bytes are: a message, its name and what is of interest in it; a channel frame; or so many bytes.
-pub(crate) fn bytes_in_lines(
-    alloc: Global,
-    bytes: &[u8],
-    names: &Names,
-) -> Result<Vec<String>, NoMemory> {
+pub fn bytes_in_lines(alloc: Global, bytes: &[u8], names: &Names) -> Result<Vec<String>, NoMemory> {
     if let Ok(message) = Message::from_bytes(bytes) {
         return message_in_lines(alloc, &message, names);
     }
@@ -49,8 +45,13 @@ fn message_in_lines(
 ) -> Result<Vec<String>, NoMemory> {
     let mut lines = Vec::new(alloc);
     let (method, class) = (message.method().name(names), class_name(message.class()));
-    let number = first_digits(alloc, message)?;
-    lines.push(format!(in alloc; "{method} {class} {number}")?)?;
+    let number = message.transaction_id();
+    let number = format!(in alloc; "{number}")?;
+    let digits = number
+        .as_str()
+        .get(SHOWN_OF_NUMBER.0..SHOWN_OF_NUMBER.1)
+        .unwrap_or("");
+    lines.push(format!(in alloc; "{method} {class} {digits}")?)?;
     for (_, raw) in message.iter_attributes() {
         if is_of_interest(&raw) {
             lines.push(attribute_in_words(alloc, &raw, message, names)?)?;
@@ -60,17 +61,6 @@ fn message_in_lines(
         lines.push(String::from_str(alloc, how)?)?;
     }
     Ok(lines)
-}
-
-/// The first digits of the transaction ID of a message.
-fn first_digits(alloc: Global, message: &Message<'_>) -> Result<String, AllocError> {
-    let number = message.transaction_id();
-    let whole = format!(in alloc; "{number}")?;
-    let mut digits = String::new(alloc);
-    for c in whole.chars().skip(2).take(SHOWN_OF_NUMBER) {
-        digits.push(c)?;
-    }
-    Ok(digits)
 }
 
 /// By which algorithms a message is signed, by the integrity attributes that it shows. None where it shows
