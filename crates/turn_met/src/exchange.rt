@@ -15,7 +15,7 @@ use turn_desk_world::event::Event;
 use turn_desk_world::world::World;
 
 /// How far an exchange went.
-#[derive(Clone, Copy, Debug)]
+#[derive(Clone, Copy)]
 pub(crate) enum Carried {
     /// The client sent nothing.
     Unsent,

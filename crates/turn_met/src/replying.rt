@@ -24,7 +24,7 @@ use turn_desk_world::event::{ClientCall, Event};
 use turn_desk_world::world::World;
 
 /// What a desk replied.
-#[derive(Clone, Copy, Debug)]
+#[derive(Clone, Copy)]
 pub(crate) enum Reply {
     /// Nothing, or something else.
     Neither,

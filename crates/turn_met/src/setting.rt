@@ -25,7 +25,7 @@ pub(crate) enum Supported {
 }
 
 /// A client's settings, and those of a desk that knows its user.
-#[derive(Clone, Copy, Debug)]
+#[derive(Clone, Copy)]
 pub(crate) struct Setting<'a> {
     /// The name of the user.
     pub(crate) name: &'a str,

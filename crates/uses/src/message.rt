@@ -18,7 +18,7 @@ use turn_types::attribute::{Lifetime, RequestedTransport};
 use turn_types::message::ALLOCATE;
 
 /// What a message tells: its type, its number, whether it is signed, and which user sent it.
-#[derive(Debug, Drop)]
+#[derive(Drop)]
 pub(crate) struct Looked<'a> {
     pub(crate) class: MessageClass,
     pub(crate) method: Method,
