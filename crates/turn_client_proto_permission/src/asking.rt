@@ -26,6 +26,7 @@ pub fn place_of(
 
 /// Whether a permission for an address stands in one of the allocations of this transport that are
 /// not marked as expired.
+#[inline(always)]
 pub fn permits_any(allocations: &[Allocation], transport: TransportType, ip: IpAddr) -> bool
     ensures { result ≡ list_any (permits_over transport ip) allocations.now }
 {

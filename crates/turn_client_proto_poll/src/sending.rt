@@ -84,6 +84,7 @@ fn connection_to(
 
 /// What carries bytes over UDP: the first channel to the peer, where its time is not over, else an
 /// indication under the next number.
+#[inline(always)]
 fn carried<T: AsSlice<u8> + Debug + Drop>(
     protocol: &mut Protocol,
     to: SocketAddr,
@@ -122,7 +123,9 @@ fn carried<T: AsSlice<u8> + Debug + Drop>(
 /// expired; over TCP with `NoTcpSocket` where no connection is bound to the peer; over UDP with
 /// `TooLarge` where there are more than `MAX_PAYLOAD` bytes: then nothing changes. It asks for no
 /// memory. Over UDP a number is drawn where no channel to the peer stands whose time is not over;
-/// `NoMemory` is answered only where every number there is is taken.
+/// `NoMemory` is answered only where every number there is is taken. What it answers is large, so that it is
+/// part of each caller.
+#[inline(always)]
 #[tactic(auto, unfolding(crate::specs::Sending::send_refusal))]
 pub fn send_to<T: AsSlice<u8> + Debug + Drop>(
     protocol: &mut Protocol,

@@ -35,6 +35,7 @@ pub struct TurnAddress {
 impl TurnAddress {
     /// The address; none where the family is neither 4 nor 6. Of IPv6 it has no flow information and no
     /// scope.
+    #[inline]
     #[tactic(auto, unfolding(crate::specs::Addresses::address_of))]
     pub fn to_socket(&self) -> Option<SocketAddr>
         ensures { result ≡ address_of self.now }
