@@ -2,6 +2,7 @@
 
 pub use stun_types_message::credentials::{
     LongTermCredentials, LongTermKeyCredentials, MessageIntegrityCredentials, ShortTermCredentials,
+    ShortTermKeyCredentials,
 };
 pub use stun_types_message::ext::{MessageWriteExt, add_as};
 pub use stun_types_message::hmac::IntegrityHmac;

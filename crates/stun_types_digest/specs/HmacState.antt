@@ -1,7 +1,22 @@
 -- What an HMAC under way has taken.
-use Rattle.std.specs.Prelude.{ℕ, List, ◌++◌}
+use Rattle.std.specs.Prelude.{ℕ, List, [], ◌++◌}
+use Rattle.sha1.specs.declared.Sha1.{Sha1}
+use Rattle.sha2.specs.declared.Sha256.{Sha256}
 use Rattle.stun_types_digest.specs.Hmac.{xor_each, block_key, inner_pad, outer_pad}
 use Rattle.stun_types_digest.specs.declared.hmac.Hmac.{Hmac}
+
+-- an HMAC-SHA1 and an HMAC-SHA256 under way
+abbrev pub BySha1 : Type 0
+BySha1 = Hmac Sha1 64 20
+
+abbrev pub BySha256 : Type 0
+BySha256 = Hmac Sha256 64 32
+
+-- neither digest has taken anything
+pub record IsBlank {D : Type 0} {BLOCK SIZE : ℕ} (has_taken : D → List ℕ → Type 0)
+    (state : Hmac D BLOCK SIZE) : Type 0 where
+  pub inside : has_taken state.inner []
+  pub outside : has_taken state.outer []
 
 -- the inner digest has taken the key with ipad and the text so far, the outer one the key with opad
 pub record HasText {D : Type 0} {BLOCK SIZE : ℕ} (has_taken : D → List ℕ → Type 0) (digest : List ℕ → List ℕ)

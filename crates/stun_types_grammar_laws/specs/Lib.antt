@@ -6,6 +6,7 @@ pub use Rattle.stun_types_wire.specs.Attributes
 pub use Rattle.stun_types_wire.specs.Covered
 pub use Rattle.stun_types_wire.specs.Grammar
 pub use Rattle.stun_types_wire.specs.Hmac
+pub use Rattle.stun_types_wire.specs.HmacState
 pub use Rattle.stun_types_wire.specs.RawBytes
 pub use Rattle.stun_types_wire.specs.Refusals
 pub use Rattle.stun_types_wire.specs.Registry

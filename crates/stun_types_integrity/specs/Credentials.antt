@@ -20,6 +20,11 @@ pub record LongTermSecret : Type 0 where
 pub record ShortTermSecret : Type 0 where
   pub password : List ℕ
 
+-- a password, and the algorithm by which it is used
+pub record ShortTermUse : Type 0 where
+  pub secret : ShortTermSecret
+  pub algorithm : IntegrityAlgorithm
+
 -- the bytes of a key, and the algorithm for which it was made
 pub record Key : Type 0 where
   pub bytes : List ℕ

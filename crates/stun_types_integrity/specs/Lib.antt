@@ -1,3 +1,4 @@
+pub mod Begun
 pub mod Credentials
 pub mod Hmacs
 pub mod Integrity

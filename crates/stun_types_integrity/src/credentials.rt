@@ -9,6 +9,7 @@ use std::alloc::Global;
 use std::fmt;
 use std::marker::Model;
 use stun_types_write::algorithm::IntegrityAlgorithm;
+use stun_types_write::hmac::{HmacSha1, HmacSha256};
 use stun_types_write::memory::NoMemory;
 
 /// A user's name and password, which count in many sessions, and in each realm by another key
@@ -142,6 +143,7 @@ impl LongTermKeyCredentials {
 
     /// The key for an algorithm: a digest of name, realm and password with colons between them, MD5
     /// for `Sha1` and SHA-256 for `Sha256` (RFC 8489, sections 9.2.2 and 18.5.1).
+    #[inline(always)]
     pub fn make_key(&self, algorithm: IntegrityAlgorithm) -> IntegrityKey<'_>
         ensures { result ≡ long_term_key self.now algorithm }
     {
@@ -191,6 +193,7 @@ impl ShortTermCredentials {
     }
 
     /// The key for an algorithm: the bytes of the password (RFC 8489, section 9.1.1), which it borrows.
+    #[inline(always)]
     pub fn make_key(&self, algorithm: IntegrityAlgorithm) -> IntegrityKey<'_>
         ensures { result ≡ short_term_key self.now algorithm }
     {
@@ -202,6 +205,80 @@ impl fmt::Debug for ShortTermCredentials {
     /// Shows nothing of the password.
     fn fmt<W: fmt::Write>(&self, f: &mut fmt::Formatter<W>) -> fmt::Result {
         f.write_str("ShortTermCredentials { password: .. }")
+    }
+}
+
+/// A password that counts in one session, for an algorithm, and what each HMAC under its key begins
+/// with: the key that it gives takes no block of a digest. Contracts see the password's text and the
+/// algorithm.
+#[derive(Drop)]
+pub struct ShortTermKeyCredentials {
+    credentials: ShortTermCredentials,
+    algorithm: IntegrityAlgorithm,
+    by_sha1: HmacSha1,
+    by_sha256: HmacSha256,
+}
+
+impl Model for ShortTermKeyCredentials {
+    ghost use Rattle.stun_types_integrity.specs.Begun.{HasKey};
+    ghost use Rattle.stun_types_integrity.specs.Credentials.{ShortTermUse};
+
+    ghost Value = { ShortTermUse };
+
+    ghost view = { λ c. record { secret = c.credentials; algorithm = c.algorithm } };
+
+    ghost invariant = { λ c. HasKey c.algorithm c.by_sha1 c.by_sha256 c.credentials.password };
+}
+
+impl ShortTermKeyCredentials {
+    /// These credentials, for an algorithm.
+    pub fn new(credentials: ShortTermCredentials, algorithm: IntegrityAlgorithm) -> Self
+        ensures { result ≡ record { secret = credentials; algorithm = algorithm } }
+    {
+        let (by_sha1, by_sha256) = credentials.make_key(algorithm).into_begun();
+        ShortTermKeyCredentials {
+            credentials,
+            algorithm,
+            by_sha1,
+            by_sha256,
+        }
+    }
+
+    /// The credentials.
+    pub fn credentials(&self) -> &ShortTermCredentials
+        ensures { result.now ≡ self.now.secret }
+    {
+        &self.credentials
+    }
+
+    /// The algorithm by which they are used.
+    pub fn algorithm(&self) -> IntegrityAlgorithm
+        ensures { result ≡ self.now.algorithm }
+    {
+        self.algorithm
+    }
+
+    /// The key: the bytes of the password (RFC 8489, section 9.1.1), which it borrows.
+    pub fn key(&self) -> IntegrityKey<'_>
+        ensures { result ≡ short_term_key self.now.secret self.now.algorithm }
+    {
+        IntegrityKey::of_begun(
+            self.credentials.password(),
+            self.algorithm,
+            &self.by_sha1,
+            &self.by_sha256,
+        )
+    }
+}
+
+impl fmt::Debug for ShortTermKeyCredentials {
+    /// Shows the algorithm, and nothing of the password.
+    fn fmt<W: fmt::Write>(&self, f: &mut fmt::Formatter<W>) -> fmt::Result {
+        write!(
+            f,
+            "ShortTermKeyCredentials {{ algorithm: {:?}, password: .. }}",
+            self.algorithm
+        )
     }
 }
 
@@ -218,6 +295,7 @@ impl MessageIntegrityCredentials {
     ghost use Rattle.stun_types_integrity.specs.Keys.{key_of};
 
     /// The key for an algorithm, as the credentials make it. It takes no memory.
+    #[inline(always)]
     pub fn make_key(&self, algorithm: IntegrityAlgorithm) -> IntegrityKey<'_>
         ensures { result ≡ key_of self.now algorithm }
     {

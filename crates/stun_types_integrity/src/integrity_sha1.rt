@@ -10,12 +10,10 @@ use crate::key::IntegrityKey;
 use std::alloc::Global;
 use std::convert::TryFrom;
 use std::marker::Model;
-use stun_types_write::algorithm::IntegrityAlgorithm;
 use stun_types_write::attribute::{
     Attribute, AttributeFromRaw, AttributeStaticType, AttributeWrite,
 };
 use stun_types_write::error::{StunParseError, StunWriteError, ValidateError};
-use stun_types_write::hmac::HmacSha1;
 use stun_types_write::memory::NoMemory;
 use stun_types_write::reading::value_of;
 use stun_types_write::registry;
@@ -79,10 +77,10 @@ impl MessageIntegrity {
             × (hmac ≡ integrity_hmac Sha1 key.now.bytes (head.now ++ middle.now ++ tail.now)))
             (λ error. (error ≡ StunWriteError.IntegrityFailed) × (key.now.algorithm ≢ Sha1)) }
     {
-        if key.algorithm() != IntegrityAlgorithm::Sha1 {
-            return Err(StunWriteError::IntegrityFailed);
+        match key.hmac_sha1(head, middle, tail) {
+            Some(hmac) => Ok(hmac),
+            None => Err(StunWriteError::IntegrityFailed),
         }
-        Ok(HmacSha1::of_pieces(key.bytes(), head, middle, tail))
     }
 
     /// Whether this is the HMAC of a text. Refused with `IntegrityFailed` where it isn't, and where

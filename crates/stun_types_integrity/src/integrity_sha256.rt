@@ -17,7 +17,6 @@ use stun_types_write::attribute::{
     Attribute, AttributeFromRaw, AttributeStaticType, AttributeWrite,
 };
 use stun_types_write::error::{StunParseError, StunWriteError, ValidateError};
-use stun_types_write::hmac::HmacSha256;
 use stun_types_write::memory::NoMemory;
 use stun_types_write::reading::value_of;
 use stun_types_write::registry;
@@ -90,10 +89,10 @@ impl MessageIntegritySha256 {
             × (hmac ≡ integrity_hmac Sha256 key.now.bytes (head.now ++ middle.now ++ tail.now)))
             (λ error. (error ≡ StunWriteError.IntegrityFailed) × (key.now.algorithm ≢ Sha256)) }
     {
-        if key.algorithm() != IntegrityAlgorithm::Sha256 {
-            return Err(StunWriteError::IntegrityFailed);
+        match key.hmac_sha256(head, middle, tail) {
+            Some(hmac) => Ok(hmac),
+            None => Err(StunWriteError::IntegrityFailed),
         }
-        Ok(HmacSha256::of_pieces(key.bytes(), head, middle, tail))
     }
 
     /// Whether this is the HMAC of a text, or a front of it of a length that `new` takes. Refused with

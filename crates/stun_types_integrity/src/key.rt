@@ -1,62 +1,119 @@
 //! Keys of message integrity.
 
-ghost use Rattle.std.specs.Prelude.{◌≡◌, ◌↔◌, ◌++◌, length, IsTrue, codes};
+ghost use Rattle.std.specs.Prelude.{◌≡◌, ◌≢◌, ◌↔◌, ◌++◌, ⊤, length, IsTrue, MatchOption, codes};
 ghost use Rattle.md5.specs.Md5.{md5};
+ghost use Rattle.sha1.specs.Sha1.{Holds};
+ghost use Rattle.sha2.specs.Hashers.{Holds256};
 ghost use Rattle.sha2.specs.Sha256.{sha256};
+ghost use Rattle.stun_types_write.specs.HmacState.{IsBlank};
+ghost use Rattle.stun_types_integrity.specs.Begun.{HasKey};
 ghost use Rattle.stun_types_integrity.specs.Credentials.{long_term_key, short_term_key};
 ghost use Rattle.stun_types_integrity.specs.Hmacs.{hmac_bytes};
+ghost use Rattle.stun_types_integrity.specs.KeyBytes.{bytes_of};
 ghost use Rattle.stun_types_integrity.specs.Integrity.{IsFront, integrity_hmac};
 ghost use Rattle.stun_types_integrity.specs.Signing.{hmac_length};
 
 use crate::hmac::IntegrityHmac;
 use md5::{Digest, Md5};
 use sha2::Sha256;
+use std::alloc::AllocError;
 use std::fmt;
 use std::marker::Model;
 use stun_types_write::algorithm::IntegrityAlgorithm;
 use stun_types_write::hmac::{BlockDigest, HmacSha1, HmacSha256};
 
 /// The bytes of a key: a digest, or the password itself.
-#[derive(Drop)]
+#[derive(Clone, Copy)]
 enum KeyBytes<'a> {
     Md5([u8; 16]),
     Sha256([u8; 32]),
     Password(&'a str),
 }
 
+impl<'a> KeyBytes<'a> {
+    /// The bytes.
+    fn as_slice(&self) -> &[u8]
+        ensures { result.now ≡ bytes_of self.now }
+    {
+        match self {
+            KeyBytes::Md5(digest) => digest,
+            KeyBytes::Sha256(digest) => digest,
+            KeyBytes::Password(password) => password.as_bytes(),
+        }
+    }
+}
+
+/// What a key holds: its bytes, the algorithm for which it was made, and an HMAC by either. That of the
+/// algorithm has taken the key, and no byte of a text; the other one has taken nothing, and is not used.
+#[derive(Drop)]
+struct Held<'a> {
+    bytes: KeyBytes<'a>,
+    algorithm: IntegrityAlgorithm,
+    by_sha1: HmacSha1,
+    by_sha256: HmacSha256,
+}
+
+impl<'a> Held<'a> {
+    /// Has the HMAC of the algorithm take a key, where neither has one. It takes it where it stands.
+    fn take_key(&mut self, key: &[u8])
+        requires sha1 { IsBlank Holds self.old.by_sha1 }
+        requires sha256 { IsBlank Holds256 self.old.by_sha256 }
+        ensures key { HasKey self.new.algorithm self.new.by_sha1 self.new.by_sha256 key.now }
+        ensures bytes { self.new.bytes ≡ self.old.bytes }
+        ensures algorithm { self.new.algorithm ≡ self.old.algorithm }
+    {
+        match self.algorithm {
+            IntegrityAlgorithm::Sha1 => self.by_sha1.take_key(key),
+            IntegrityAlgorithm::Sha256 => self.by_sha256.take_key(key),
+        }
+    }
+}
+
 /// The key of an HMAC, and the algorithm for which it was made. It holds a digest, or borrows the
-/// password: to make it takes no memory. Keys are equal where their bytes are: the algorithm isn't
+/// password, and holds what each HMAC under it begins with: to make it takes no memory, and two blocks
+/// of the digest that no HMAC takes again. Keys are equal where their bytes are: the algorithm isn't
 /// looked at. Contracts see the bytes and the algorithm.
 #[derive(Drop)]
 pub struct IntegrityKey<'a> {
-    bytes: KeyBytes<'a>,
-    algorithm: IntegrityAlgorithm,
+    // It becomes a key where it stands: a move costs a tenth of a block.
+    held: Held<'a>,
 }
 
 impl<'a> Model for IntegrityKey<'a> {
+    ghost use Rattle.stun_types_integrity.specs.Begun.{HasKey};
     ghost use Rattle.stun_types_integrity.specs.Credentials.{Key};
     ghost use Rattle.stun_types_integrity.specs.KeyBytes.{bytes_of};
 
     ghost Value = { Key };
 
-    ghost view = { λ key. record { bytes = bytes_of key.bytes; algorithm = key.algorithm } };
+    ghost view = { λ key.
+        record { bytes = bytes_of key.held.bytes; algorithm = key.held.algorithm } };
+
+    ghost invariant = { λ key. HasKey key.held.algorithm key.held.by_sha1 key.held.by_sha256
+        (bytes_of key.held.bytes) };
 }
 
 impl<'a> IntegrityKey<'a> {
     /// The key of a password that counts in one session, for an algorithm: the bytes of the password
     /// (RFC 8489, section 9.1.1).
+    #[inline(always)]
     pub fn short_term(password: &'a str, algorithm: IntegrityAlgorithm) -> IntegrityKey<'a>
         ensures { result ≡ short_term_key (record { password = password.now }) algorithm }
     {
-        IntegrityKey {
+        let mut held = Held {
             bytes: KeyBytes::Password(password),
             algorithm,
-        }
+            by_sha1: HmacSha1::blank(),
+            by_sha256: HmacSha256::blank(),
+        };
+        held.take_key(password.as_bytes());
+        IntegrityKey { held }
     }
 
     /// The key of a user in a realm, for an algorithm: a digest of name, realm and password with colons
     /// between them, MD5 for `Sha1` and SHA-256 for `Sha256` (RFC 8489, sections 9.2.2 and 18.5.1). It
     /// borrows none of the three texts.
+    #[inline(always)]
     pub fn long_term(
         username: &str,
         realm: &str,
@@ -74,25 +131,56 @@ impl<'a> IntegrityKey<'a> {
             IntegrityAlgorithm::Sha1 => KeyBytes::Md5(md5_of_parts(name, realm, secret)),
             IntegrityAlgorithm::Sha256 => KeyBytes::Sha256(sha256_of_parts(name, realm, secret)),
         };
-        IntegrityKey { bytes, algorithm }
+        let mut held = Held {
+            bytes,
+            algorithm,
+            by_sha1: HmacSha1::blank(),
+            by_sha256: HmacSha256::blank(),
+        };
+        held.take_key(bytes.as_slice());
+        IntegrityKey { held }
+    }
+
+    /// The key of a password for an algorithm, of which these are the HMACs: that of the algorithm has
+    /// taken the password.
+    pub(crate) fn of_begun(
+        password: &'a str,
+        algorithm: IntegrityAlgorithm,
+        by_sha1: &HmacSha1,
+        by_sha256: &HmacSha256,
+    ) -> IntegrityKey<'a>
+        requires { HasKey algorithm by_sha1.now by_sha256.now password.now }
+        ensures { result ≡ short_term_key (record { password = password.now }) algorithm }
+    {
+        IntegrityKey {
+            held: Held {
+                bytes: KeyBytes::Password(password),
+                algorithm,
+                by_sha1: by_sha1.again(),
+                by_sha256: by_sha256.again(),
+            },
+        }
+    }
+
+    /// The HMACs that it holds: that of the algorithm has taken the key.
+    pub(crate) fn into_begun(self) -> (HmacSha1, HmacSha256)
+        ensures { HasKey self.entry.algorithm result.0 result.1 self.entry.bytes }
+    {
+        (self.held.by_sha1, self.held.by_sha256)
     }
 
     /// The bytes of the key.
     pub(crate) fn bytes(&self) -> &[u8]
         ensures { result.now ≡ self.now.bytes }
     {
-        match &self.bytes {
-            KeyBytes::Md5(digest) => digest,
-            KeyBytes::Sha256(digest) => digest,
-            KeyBytes::Password(password) => password.as_bytes(),
-        }
+        self.held.bytes.as_slice()
     }
 
     /// The algorithm for which the key was made.
     pub fn algorithm(&self) -> IntegrityAlgorithm
         ensures { result ≡ self.now.algorithm }
     {
-        self.algorithm
+        self.held.algorithm
     }
 
     /// The HMAC of a text under this key, by the algorithm for which the key was made. The text comes
@@ -103,13 +191,41 @@ impl<'a> IntegrityKey<'a> {
             (head.now ++ middle.now ++ tail.now) }
         ensures size { length (hmac_bytes result) ≡ hmac_length self.now.algorithm }
     {
-        match self.algorithm() {
+        match self.held.algorithm {
             IntegrityAlgorithm::Sha1 => {
-                IntegrityHmac::Sha1(HmacSha1::of_pieces(self.bytes(), head, middle, tail))
+                IntegrityHmac::Sha1(self.held.by_sha1.with_pieces(head, middle, tail))
             }
             IntegrityAlgorithm::Sha256 => {
-                IntegrityHmac::Sha256(HmacSha256::of_pieces(self.bytes(), head, middle, tail))
+                IntegrityHmac::Sha256(self.held.by_sha256.with_pieces(head, middle, tail))
             }
+        }
+    }
+
+    /// The HMAC-SHA1 of a text that comes in three pieces, as for `hmac`. None where the key was made
+    /// for another algorithm.
+    pub(crate) fn hmac_sha1(&self, head: &[u8], middle: &[u8], tail: &[u8]) -> Option<[u8; 20]>
+        ensures { MatchOption result (self.now.algorithm ≢ IntegrityAlgorithm.Sha1)
+            (λ hmac. (self.now.algorithm ≡ IntegrityAlgorithm.Sha1)
+            × (hmac ≡ integrity_hmac IntegrityAlgorithm.Sha1 self.now.bytes
+            (head.now ++ middle.now ++ tail.now))) }
+    {
+        match self.held.algorithm {
+            IntegrityAlgorithm::Sha1 => Some(self.held.by_sha1.with_pieces(head, middle, tail)),
+            IntegrityAlgorithm::Sha256 => None,
+        }
+    }
+
+    /// The HMAC-SHA256 of a text that comes in three pieces, as for `hmac`. None where the key was
+    /// made for another algorithm.
+    pub(crate) fn hmac_sha256(&self, head: &[u8], middle: &[u8], tail: &[u8]) -> Option<[u8; 32]>
+        ensures { MatchOption result (self.now.algorithm ≢ IntegrityAlgorithm.Sha256)
+            (λ hmac. (self.now.algorithm ≡ IntegrityAlgorithm.Sha256)
+            × (hmac ≡ integrity_hmac IntegrityAlgorithm.Sha256 self.now.bytes
+            (head.now ++ middle.now ++ tail.now))) }
+    {
+        match self.held.algorithm {
+            IntegrityAlgorithm::Sha256 => Some(self.held.by_sha256.with_pieces(head, middle, tail)),
+            IntegrityAlgorithm::Sha1 => None,
         }
     }
 
@@ -129,6 +245,24 @@ fn is_front(front: &[u8], whole: &[u8]) -> bool
     ensures { IsTrue result ↔ IsFront front.now whole.now }
 {
     whole.starts_with(front)
+}
+
+impl<'a> Clone for IntegrityKey<'a> {
+    ghost is_clone = { λ x y. y ≡ x };
+
+    ghost is_infallible = { λ _. ⊤ };
+
+    /// The same key. It takes no block of a digest.
+    fn clone(&self) -> Result<Self, AllocError> {
+        Ok(IntegrityKey {
+            held: Held {
+                bytes: self.held.bytes,
+                algorithm: self.held.algorithm,
+                by_sha1: self.held.by_sha1.again(),
+                by_sha256: self.held.by_sha256.again(),
+            },
+        })
+    }
 }
 
 impl<'a> PartialEq for IntegrityKey<'a> {

@@ -21,3 +21,4 @@ pub use Rattle.stun_types_base.specs.Refusals
 pub use Rattle.stun_types_base.specs.SocketAddrs
 pub use Rattle.stun_types_digest.specs.Crc
 pub use Rattle.stun_types_digest.specs.Hmac
+pub use Rattle.stun_types_digest.specs.HmacState

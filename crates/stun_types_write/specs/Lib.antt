@@ -12,6 +12,7 @@ pub use Rattle.stun_types_grammar_laws.specs.Fingerprinted
 pub use Rattle.stun_types_grammar_laws.specs.Grammar
 pub use Rattle.stun_types_grammar_laws.specs.Headers
 pub use Rattle.stun_types_grammar_laws.specs.Hmac
+pub use Rattle.stun_types_grammar_laws.specs.HmacState
 pub use Rattle.stun_types_grammar_laws.specs.MessageReading
 pub use Rattle.stun_types_grammar_laws.specs.RawBytes
 pub use Rattle.stun_types_grammar_laws.specs.Refusals
