@@ -1,5 +1,6 @@
 -- What contracts see of a client's side of long-term authentication (RFC 8489, section 9.2).
 use Rattle.std.specs.Prelude.{ℕ, List, Option, Some, None}
+use Rattle.std.specs.Option.{option_map}
 use Rattle.stun_proto_claim.specs.IntegrityAlgorithms.{IntegrityAlgorithm}
 use Rattle.stun_proto_claim.specs.Credentials.{Key, NameAndPassword, long_term_key}
 use Rattle.stun_proto_claim.specs.declared.feature.Feature.{Feature}
@@ -41,3 +42,7 @@ account_key account realm algorithm =
 -- the key under which a client signs and validates
 abbrev pub standing_key : Standing → Key
 standing_key standing = account_key standing.account standing.challenge.realm standing.challenge.choice
+
+-- the key of a client that has these
+abbrev pub key_by : Option NameAndPassword → Option Challenge → Option Key
+key_by account challenge = option_map standing_key (standing_by account challenge)

@@ -2,7 +2,7 @@
 
 ghost use Rattle.std.specs.Prelude.{◌≡◌, IfOk};
 ghost use Rattle.std.specs.Option.{option_copied, option_map};
-ghost use Rattle.stun_proto_client.specs.Client.{standing_key};
+ghost use Rattle.stun_proto_client.specs.Client.{key_by, standing_key};
 
 use crate::challenge::Told;
 use std::alloc::Global;
@@ -102,6 +102,19 @@ impl KeptChallenge {
             account.password(),
             self.choice,
         )
+    }
+}
+
+/// The key of credentials in the realm of a challenge, where there are both.
+pub(crate) fn key_of_both(
+    account: &Option<LongTermCredentials>,
+    kept: &Option<KeptChallenge>,
+) -> Option<IntegrityKey<'static>>
+    ensures { result ≡ key_by account.now kept.now }
+{
+    match (account, kept) {
+        (Some(account), Some(kept)) => Some(kept.key_of(account)),
+        _ => None,
     }
 }
 

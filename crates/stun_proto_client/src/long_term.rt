@@ -6,18 +6,18 @@ ghost use Rattle.std.specs.Option.{option_copied, option_map};
 ghost use Rattle.stun_proto_claim.specs.IntegrityAlgorithms.{Sha1};
 ghost use Rattle.stun_proto_claim.specs.SupportedAlgorithms.{is_same_algorithm, with_algorithm};
 ghost use Rattle.stun_proto_claim.specs.declared.feature.Feature.TheVariants.{Auto};
-ghost use Rattle.stun_proto_client.specs.Client.{Challenge, Standing, standing_of};
+ghost use Rattle.stun_proto_client.specs.Client.{Challenge, Standing, standing_key, standing_of};
 
-use crate::kept::KeptChallenge;
+use crate::kept::{KeptChallenge, key_of_both};
 use std::alloc::Global;
 use std::marker::Model;
 use stun_proto_claim::feature::Feature;
-use stun_proto_claim::message::{IntegrityAlgorithm, LongTermCredentials};
+use stun_proto_claim::message::{IntegrityAlgorithm, IntegrityKey, LongTermCredentials};
 use stun_proto_claim::supported::SupportedIntegrity;
 
 /// The client's side of long-term authentication: its credentials, what it supports, and the last
-/// challenge that it took. Without credentials it acts as if no challenge were kept. Contracts see
-/// the record `Client` of `specs/Client.antt`.
+/// challenge that it took. Without credentials it acts as if no challenge were kept. It keeps the key
+/// that the two make. Contracts see the record `Client` of `specs/Client.antt`.
 #[derive(Debug, Drop)]
 pub struct LongTermClientAuth {
     pub(crate) alloc: Global,
@@ -26,10 +26,12 @@ pub struct LongTermClientAuth {
     pub(crate) anonymous_username: Feature,
     pub(crate) challenge: Option<KeptChallenge>,
     pub(crate) integrity: Option<IntegrityAlgorithm>,
+    pub(crate) key: Option<IntegrityKey<'static>>,
 }
 
 impl Model for LongTermClientAuth {
-    ghost use Rattle.stun_proto_client.specs.Client.{Client};
+    ghost use Rattle.std.specs.Prelude.{◌≡◌};
+    ghost use Rattle.stun_proto_client.specs.Client.{Client, key_by};
 
     ghost Value = { Client };
 
@@ -40,6 +42,8 @@ impl Model for LongTermClientAuth {
       challenge = c.challenge;
       integrity = c.integrity;
     } };
+
+    ghost invariant = { λ c. c.key ≡ key_by c.account c.challenge };
 }
 
 impl LongTermClientAuth {
@@ -61,6 +65,7 @@ impl LongTermClientAuth {
             anonymous_username: Feature::Auto,
             challenge: None,
             integrity: None,
+            key: None,
         }
     }
 
@@ -69,6 +74,7 @@ impl LongTermClientAuth {
         ensures { self.new ≡ record self.old { account = Some credentials } }
     {
         self.account = Some(credentials);
+        self.key = key_of_both(&self.account, &self.challenge);
     }
 
     /// The credentials, where they are set.
@@ -149,6 +155,13 @@ impl LongTermClientAuth {
         ensures { result ≡ self.now.integrity }
     {
         self.integrity
+    }
+
+    /// The key that the credentials make in the realm of the challenge, where there are both.
+    pub(crate) fn key(&self) -> Option<&IntegrityKey<'static>>
+        ensures { option_copied result ≡ option_map standing_key (standing_of self.now) }
+    {
+        self.key.as_ref()
     }
 
     /// The credentials and the challenge that is kept, where there are both.

@@ -14,6 +14,7 @@ ghost use Rattle.stun_proto_claim.specs.SupportedAlgorithms.{number_by};
 ghost use Rattle.stun_proto_sign.specs.Addition.{addition_refusal, algorithm_of, algorithms_of, nonce_of, realm_of};
 ghost use Rattle.stun_proto_sign.specs.AdditionStages.{IsMade};
 ghost use Rattle.stun_proto_sign.specs.Sizes.{size_of};
+ghost use Rattle.stun_proto_client.specs.Client.{standing_key};
 ghost use Rattle.stun_proto_client.specs.ClientSigning.{addition_for, hides_name, name_part, standing_addition};
 
 use crate::kept::KeptChallenge;
@@ -22,8 +23,8 @@ use stun_proto_claim::NoMemory;
 use stun_proto_claim::attribute::Userhash;
 use stun_proto_claim::feature::Feature;
 use stun_proto_claim::message::{
-    IntegrityAlgorithm, LongTermCredentials, MessageClass, MessageWrite, MessageWriteExt,
-    StunWriteError,
+    IntegrityAlgorithm, IntegrityKey, LongTermCredentials, MessageClass, MessageWrite,
+    MessageWriteExt, StunWriteError,
 };
 use stun_proto_claim::nonce::NonceFeatures;
 use stun_proto_claim::registry::{MD5_NUMBER, SHA256_NUMBER};
@@ -57,12 +58,12 @@ impl LongTermClientAuth {
             (W.draft writer)) result }
         ensures lent { TakesNoMemory (W.draft writer) result }
     {
-        match self.standing() {
-            Some((account, kept)) => {
+        match (self.standing(), self.key()) {
+            (Some((account, kept)), Some(key)) => {
                 let hidden = hides_name(self.anonymous_username, kept.nonce());
-                sign_standing(writer, hidden, account, kept)
+                sign_standing(writer, hidden, account, kept, key)
             }
-            None => sign(writer, &[], None),
+            _ => sign(writer, &[], None),
         }
     }
 
@@ -110,8 +111,11 @@ fn sign_standing<W: MessageWrite + Drop>(
     hidden: bool,
     account: &LongTermCredentials,
     kept: &KeptChallenge,
+    key: &IntegrityKey<'_>,
 ) -> Result<W, StunWriteError>
-    requires { IsBegun (W.draft writer).bytes }
+    requires begun { IsBegun (W.draft writer).bytes }
+    requires key { key.now
+        ≡ standing_key (record { account = account.now; challenge = kept.now }) }
     ensures ok { IfOk result (λ signed. IsMade
         (standing_addition hidden (record { account = account.now; challenge = kept.now })
         (class_of (kind_at (W.draft writer).bytes))) (W.draft writer) (W.draft signed)) }
@@ -121,12 +125,9 @@ fn sign_standing<W: MessageWrite + Drop>(
     ensures lent { TakesNoMemory (W.draft writer) result }
 {
     match writer.class() {
-        MessageClass::Request => sign_request(writer, hidden, account, kept),
+        MessageClass::Request => sign_request(writer, hidden, account, kept, key),
         MessageClass::Indication => sign(writer, &[], None),
-        MessageClass::Success | MessageClass::Error => {
-            let key = kept.key_of(account);
-            sign(writer, &[], Some(&key))
-        }
+        MessageClass::Success | MessageClass::Error => sign(writer, &[], Some(key)),
     }
 }
 
@@ -136,8 +137,11 @@ fn sign_request<W: MessageWrite + Drop>(
     hidden: bool,
     account: &LongTermCredentials,
     kept: &KeptChallenge,
+    key: &IntegrityKey<'_>,
 ) -> Result<W, StunWriteError>
-    requires { IsBegun (W.draft writer).bytes }
+    requires begun { IsBegun (W.draft writer).bytes }
+    requires key { key.now
+        ≡ standing_key (record { account = account.now; challenge = kept.now }) }
     ensures ok { IfOk result (λ signed. IsMade
         (standing_addition hidden (record { account = account.now; challenge = kept.now }) Request)
         (W.draft writer) (W.draft signed)) }
@@ -146,18 +150,17 @@ fn sign_request<W: MessageWrite + Drop>(
         (W.draft writer)) result }
     ensures lent { TakesNoMemory (W.draft writer) result }
 {
-    let key = kept.key_of(account);
     let hash = Userhash::compute(account.username(), kept.realm());
     let entry = entry_of(kept.choice());
     match kept.offered() {
         Some(offered) => {
             let parts = parts_with_list(hidden, account, kept, &hash, offered, &entry);
-            sign(writer, &parts, Some(&key))
+            sign(writer, &parts, Some(key))
         }
         None => sign(
             writer,
             &parts_alone(hidden, account, kept, &hash),
-            Some(&key),
+            Some(key),
         ),
     }
 }

@@ -18,24 +18,17 @@ use crate::validation::is_right;
 use std::marker::Model;
 use stun_proto_claim::NoMemory;
 use stun_proto_claim::message::{
-    IntegrityAlgorithm, IntegrityKey, Message, MessageWrite, ShortTermCredentials, StunWriteError,
-    ValidateError,
+    IntegrityAlgorithm, IntegrityKey, Message, MessageWrite, ShortTermCredentials,
+    ShortTermKeyCredentials, StunWriteError, ValidateError,
 };
 use stun_proto_claim::room::hmac_length;
 use stun_proto_sign::signing::sign;
 
-/// Credentials, and the algorithm by which they are used.
-#[derive(Debug, Drop)]
-struct Account {
-    credentials: ShortTermCredentials,
-    algorithm: IntegrityAlgorithm,
-}
-
-/// Authentication by a password that counts in one session, which both sides know. Contracts see the
-/// record `ShortTerm` of `specs/ShortTerm.antt`.
+/// Authentication by a password that counts in one session, which both sides know. It keeps what the
+/// HMACs under its key begin with. Contracts see the record `ShortTerm` of `specs/ShortTerm.antt`.
 #[derive(Debug, Drop)]
 pub struct ShortTermAuth {
-    account: Option<Account>,
+    account: Option<ShortTermKeyCredentials>,
 }
 
 impl Model for ShortTermAuth {
@@ -45,7 +38,7 @@ impl Model for ShortTermAuth {
     ghost Value = { ShortTerm };
 
     ghost view = { λ auth. record {
-      account = option_map (λ a. record { secret = a.credentials; algorithm = a.algorithm })
+      account = option_map (λ a. record { secret = a.secret; algorithm = a.algorithm })
           auth.account;
     } };
 }
@@ -68,10 +61,7 @@ impl ShortTermAuth {
           account = Some (record { secret = credentials; algorithm = algorithm });
         } }
     {
-        self.account = Some(Account {
-            credentials,
-            algorithm,
-        });
+        self.account = Some(ShortTermKeyCredentials::new(credentials, algorithm));
     }
 
     /// The credentials and their algorithm, where they are set.
@@ -80,7 +70,7 @@ impl ShortTermAuth {
             ≡ self.now.account }
     {
         match &self.account {
-            Some(account) => Some((&account.credentials, account.algorithm)),
+            Some(account) => Some((account.credentials(), account.algorithm())),
             None => None,
         }
     }
@@ -90,8 +80,8 @@ impl ShortTermAuth {
     pub fn integrity_key(&self) -> Option<IntegrityKey<'_>>
         ensures { result ≡ option_map short_key self.now.account }
     {
-        match self.credentials() {
-            Some((credentials, algorithm)) => Some(credentials.make_key(algorithm)),
+        match &self.account {
+            Some(account) => Some(account.key()),
             None => None,
         }
     }
@@ -101,7 +91,7 @@ impl ShortTermAuth {
         ensures { result ≡ size_of (short_addition self.now.account) }
     {
         match &self.account {
-            Some(account) => 4 + hmac_length(account.algorithm),
+            Some(account) => 4 + hmac_length(account.algorithm()),
             None => 0,
         }
     }

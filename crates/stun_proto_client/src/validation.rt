@@ -3,15 +3,14 @@
 ghost use Rattle.std.specs.Prelude.{◌≡◌, MatchResult, MatchOption, Some, None};
 ghost use Rattle.stun_proto_claim.specs.Claims.{claimed};
 ghost use Rattle.std.specs.Bool.{MatchBool};
-ghost use Rattle.std.specs.Option.{option_map};
 ghost use Rattle.stun_proto_client.specs.Challenges.{challenge_shown};
-ghost use Rattle.stun_proto_client.specs.Client.{Standing, standing_key, standing_of};
+ghost use Rattle.stun_proto_client.specs.Client.{standing_key, standing_of};
 ghost use Rattle.stun_proto_client.specs.ClientValidation.{IsAnswerable, IsTaken, IsTurnedDown, IsUnanswerable};
 ghost use Rattle.stun_proto_client.specs.Digests.{IsRight, IsWrong};
 
 use crate::challenge::{Told, is_anonymous_enough};
 use crate::error::LongTermClientAuthError;
-use crate::kept::KeptChallenge;
+use crate::kept::{KeptChallenge, key_of_both};
 use crate::long_term::LongTermClientAuth;
 use crate::strongest::strongest;
 use stun_proto_claim::claim::Claim;
@@ -71,6 +70,7 @@ impl LongTermClientAuth {
         };
         let kept = KeptChallenge::of(self.alloc, told, choice)?;
         self.challenge = Some(kept);
+        self.key = key_of_both(&self.account, &self.challenge);
         self.integrity = Some(choice);
         Ok(LongTermClientValidation::ResendRequest(choice))
     }
@@ -98,26 +98,18 @@ impl LongTermClientAuth {
             (λ answer. IsTaken self.old message.now answer self.new)
             (λ error. IsTurnedDown self.old message.now error self.new) }
     {
-        let (Some(last), Some((choice, key))) = (last, self.chosen_key()) else {
+        let (Some(last), Some(key)) = (last, self.key()) else {
             self.integrity = None;
             return Err(LongTermClientAuthError::Unauthorized);
         };
+        let choice = key.algorithm();
+        let right = is_right(message, last, key);
         self.integrity = Some(choice);
-        if is_right(message, last, &key) {
+        if right {
             Ok(LongTermClientValidation::Validated(choice))
         } else {
             Err(LongTermClientAuthError::IntegrityFailed(last))
         }
-    }
-
-    /// The chosen algorithm and the key that goes with it, where a challenge counts. The key borrows
-    /// nothing.
-    pub(crate) fn chosen_key<'key>(&self) -> Option<(IntegrityAlgorithm, IntegrityKey<'key>)>
-        ensures { result ≡ option_map
-            (λ (s : Standing). (s.challenge.choice, standing_key s)) (standing_of self.now) }
-    {
-        let (account, kept) = self.standing()?;
-        Some((kept.choice(), kept.key_of(account)))
     }
 }
 
