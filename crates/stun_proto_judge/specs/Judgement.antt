@@ -5,7 +5,7 @@ use Rattle.std.specs.Option.{option_or}
 use Rattle.stun_proto_claim.specs.IntegrityAlgorithms.{IntegrityAlgorithm}
 use Rattle.stun_proto_claim.specs.Attributes.{kind_at}
 use Rattle.stun_proto_claim.specs.Types.{class_of, is_response_class}
-use Rattle.stun_proto_claim.specs.Credentials.{long_term_key}
+use Rattle.stun_proto_claim.specs.Credentials.{Key, long_term_key}
 use Rattle.stun_proto_claim.specs.Integrity.{Validates}
 use Rattle.stun_proto_judge.specs.declared.error.LongTermServerAuthError.{LongTermServerAuthError}
 use Rattle.stun_proto_judge.specs.declared.error.LongTermServerAuthError.TheVariants.{Unauthorized, IntegrityFailed, BadRequest, StaleNonce}
@@ -21,6 +21,11 @@ is_response bytes = is_response_class (class_of (kind_at bytes))
 abbrev pub user_key : List ℕ → List ℕ → List ℕ → IntegrityAlgorithm → List ℕ
 user_key realm name password algorithm = (long_term_key
     (record { username = name; password = password; realm = realm }) algorithm).bytes
+
+-- this key, with its algorithm
+abbrev pub full_key : List ℕ → List ℕ → List ℕ → IntegrityAlgorithm → Key
+full_key realm name password algorithm =
+    long_term_key (record { username = name; password = password; realm = realm }) algorithm
 
 -- whether a claim names a user: by name, or by the hash of it
 abbrev pub names_user : Claimed → Bool

@@ -1,13 +1,12 @@
 //! The judgement of a message.
 
-ghost use Rattle.std.specs.Prelude.{◌≡◌, ◌≢◌, ℕ, List, Some, None, Err, IfOk, IfErr, OnOk, MatchResult, false};
+ghost use Rattle.std.specs.Prelude.{◌≡◌, ◌≢◌, ℕ, List, Some, None, Err, IfOk, IfErr, IfSome, OnOk, MatchResult, false};
 ghost use Rattle.stun_proto_claim.specs.Grammar.{shown};
 ghost use Rattle.stun_proto_claim.specs.MessageValidation.{last_algorithm};
 ghost use Rattle.stun_proto_claim.specs.IntegrityAlgorithms.{IntegrityAlgorithm as Algorithm};
-ghost use Rattle.stun_proto_claim.specs.Credentials.{long_term_key};
 ghost use Rattle.stun_proto_claim.specs.Integrity.{Validates};
 ghost use Rattle.stun_proto_claim.specs.Claims.{claimed};
-ghost use Rattle.stun_proto_judge.specs.Judgement.{IsAccepted, IsRefused, ServerAccepts, claim_refusal, is_response, user_key};
+ghost use Rattle.stun_proto_judge.specs.Judgement.{IsAccepted, IsRefused, ServerAccepts, claim_refusal, is_response, full_key, user_key};
 
 use crate::check::{check_algorithms, check_integrity, check_nonce, check_parts};
 use crate::error::LongTermServerAuthError;
@@ -79,6 +78,7 @@ struct Pending<'a> {
     algorithm: IntegrityAlgorithm,
     name: &'a str,
     password: &'a str,
+    kept: Option<&'a IntegrityKey<'static>>,
 }
 
 /// Holds a claim against what is known. Refused as `judge_message` is, but for the digest.
@@ -92,6 +92,8 @@ fn check<'a>(claim: &Claim<'_>, known: &Known<'a>) -> Result<Pending<'a>, LongTe
         }))) }
     ensures refused { IfErr result (λ error. (claim_refusal known.now claim.now ≡ Some error)
         × (error ≢ LongTermServerAuthError.NoMemory)) }
+    ensures kept { IfOk result (λ pending. IfSome pending.kept (λ key. key.now
+        ≡ full_key known.now.realm pending.name.now pending.password.now pending.algorithm)) }
 {
     let algorithm = check_integrity(claim)?;
     check_parts(claim)?;
@@ -102,6 +104,7 @@ fn check<'a>(claim: &Claim<'_>, known: &Known<'a>) -> Result<Pending<'a>, LongTe
             algorithm,
             name: user.name(),
             password: user.password(),
+            kept: user.kept_key(known.realm(), algorithm),
         }),
         None => Err(LongTermServerAuthError::Unauthorized),
     }
@@ -113,7 +116,9 @@ fn validate_user(
     pending: &Pending<'_>,
     realm: &str,
 ) -> Result<(), LongTermServerAuthError>
-    requires { last_algorithm (shown message.now) ≡ Some pending.now.algorithm }
+    requires last { last_algorithm (shown message.now) ≡ Some pending.now.algorithm }
+    requires kept { IfSome pending.now.kept (λ key. key.now ≡ full_key realm.now
+        pending.now.name.now pending.now.password.now pending.now.algorithm) }
     ensures valid { OnOk result ((text : List ℕ)
         × Validates message.now
         (user_key realm.now pending.now.name.now pending.now.password.now pending.now.algorithm)
@@ -124,8 +129,33 @@ fn validate_user(
         (user_key realm.now pending.now.name.now pending.now.password.now pending.now.algorithm)
         pending.now.algorithm text)) }
 {
-    let key = key_in(pending, realm);
-    match message.validate_integrity_with_key(&key) {
+    match pending.kept {
+        Some(key) => validate_under(message, pending, realm, key),
+        None => validate_under(message, pending, realm, &key_in(pending, realm)),
+    }
+}
+
+/// The same under the user's key, whether it was kept or made.
+fn validate_under(
+    message: &Message<'_>,
+    pending: &Pending<'_>,
+    realm: &str,
+    key: &IntegrityKey<'_>,
+) -> Result<(), LongTermServerAuthError>
+    requires last { last_algorithm (shown message.now) ≡ Some pending.now.algorithm }
+    requires key { key.now ≡ full_key realm.now pending.now.name.now
+        pending.now.password.now pending.now.algorithm }
+    ensures valid { OnOk result ((text : List ℕ)
+        × Validates message.now
+        (user_key realm.now pending.now.name.now pending.now.password.now pending.now.algorithm)
+        pending.now.algorithm text) }
+    ensures refused { IfErr result (λ error.
+        (error ≡ LongTermServerAuthError.IntegrityFailed pending.now.algorithm)
+        × ((text : List ℕ) → ¬ Validates message.now
+        (user_key realm.now pending.now.name.now pending.now.password.now pending.now.algorithm)
+        pending.now.algorithm text)) }
+{
+    match message.validate_integrity_with_key(key) {
         Ok(_) => Ok(()),
         Err(error) => Err(LongTermServerAuthError::of_digest(pending.algorithm, error)),
     }
@@ -133,11 +163,8 @@ fn validate_user(
 
 /// The key of the user in a realm.
 fn key_in<'a>(pending: &Pending<'_>, realm: &str) -> IntegrityKey<'a>
-    ensures { result ≡ long_term_key (record {
-      username = pending.now.name.now;
-      password = pending.now.password.now;
-      realm = realm.now;
-    }) pending.now.algorithm }
+    ensures { result ≡ full_key realm.now pending.now.name.now pending.now.password.now
+        pending.now.algorithm }
 {
     IntegrityKey::long_term(pending.name, realm, pending.password, pending.algorithm)
 }

@@ -1,24 +1,45 @@
 //! What a server knows that a claim is held against.
 
-ghost use Rattle.std.specs.Prelude.{◌≡◌};
+ghost use Rattle.std.specs.Prelude.{◌≡◌, IfSome};
 ghost use Rattle.std.specs.Option.{option_copied};
+ghost use Rattle.stun_proto_claim.specs.Credentials.{long_term_key};
+ghost use Rattle.stun_proto_judge.specs.UserKeys.{AreKeysOf};
 
+use crate::keys::UserKeys;
 use std::marker::Model;
+use stun_proto_claim::message::{IntegrityAlgorithm, IntegrityKey};
 use stun_proto_claim::supported::SupportedIntegrity;
 
-/// A user of a server: its name and its password. Contracts see the record `Named`.
+/// The keys of a user that are kept, and the realm in which they are the user's.
+#[derive(Debug, Drop)]
+struct KeptKeys<'a> {
+    realm: &'a str,
+    keys: &'a UserKeys,
+}
+
+/// A user of a server: its name and its password, and its keys in a realm, where they are kept. Contracts
+/// see the record `Named`.
 #[derive(Debug, Drop)]
 pub struct NamedUser<'a> {
     name: &'a str,
     password: &'a str,
+    kept: Option<KeptKeys<'a>>,
 }
 
 impl<'a> Model for NamedUser<'a> {
+    ghost use Rattle.std.specs.Prelude.{IfSome};
     ghost use Rattle.stun_proto_judge.specs.Knowledge.{Named};
+    ghost use Rattle.stun_proto_judge.specs.UserKeys.{AreKeysOf};
 
     ghost Value = { Named };
 
     ghost view = { λ user. record { name = user.name.now; password = user.password.now } };
+
+    ghost invariant = { λ user. IfSome user.kept (λ kept. AreKeysOf (record {
+      username = user.name.now;
+      password = user.password.now;
+      realm = kept.realm.now;
+    }) kept.keys.now) };
 }
 
 impl<'a> NamedUser<'a> {
@@ -26,7 +47,32 @@ impl<'a> NamedUser<'a> {
     pub fn new(name: &'a str, password: &'a str) -> NamedUser<'a>
         ensures { result ≡ record { name = name.now; password = password.now } }
     {
-        NamedUser { name, password }
+        NamedUser {
+            name,
+            password,
+            kept: None,
+        }
+    }
+
+    /// The user of this name and password, whose keys in a realm are kept.
+    pub fn with_keys(
+        name: &'a str,
+        password: &'a str,
+        realm: &'a str,
+        keys: &'a UserKeys,
+    ) -> NamedUser<'a>
+        requires { AreKeysOf (record {
+          username = name.now;
+          password = password.now;
+          realm = realm.now;
+        }) keys.now }
+        ensures { result ≡ record { name = name.now; password = password.now } }
+    {
+        NamedUser {
+            name,
+            password,
+            kept: Some(KeptKeys { realm, keys }),
+        }
     }
 
     /// The user's name.
@@ -41,6 +87,24 @@ impl<'a> NamedUser<'a> {
         ensures { result.now ≡ self.now.password }
     {
         self.password
+    }
+
+    /// The user's key in a realm for an algorithm, where it is kept.
+    pub(crate) fn kept_key(
+        &self,
+        realm: &str,
+        algorithm: IntegrityAlgorithm,
+    ) -> Option<&'a IntegrityKey<'static>>
+        ensures { IfSome result (λ key. key.now ≡ long_term_key (record {
+          username = self.now.name;
+          password = self.now.password;
+          realm = realm.now;
+        }) algorithm) }
+    {
+        match &self.kept {
+            Some(kept) if kept.realm == realm => Some(kept.keys.key(algorithm)),
+            _ => None,
+        }
     }
 }
 

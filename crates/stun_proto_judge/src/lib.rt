@@ -5,6 +5,7 @@
 mod check;
 pub mod error;
 pub mod judgement;
+pub mod keys;
 pub mod known;
 pub mod user;
 

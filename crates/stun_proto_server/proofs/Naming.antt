@@ -1,27 +1,25 @@
 -- The users whom a name, or the hash of one, names.
-use Rattle.std.proofs.Common.{◌≡◌, ℕ, suc, arith, Bool, true, false, cond, List, [], ◌∷◌, Option, Some, None, refl, sym, ap, ◌∙◌, subst}
-use Rattle.std.specs.Prelude.{nat_eq, All}
+use Rattle.std.proofs.Common.{◌≡◌, ℕ, suc, arith, Bool, true, false, cond, List, [], ◌∷◌, Option, Some, None, refl, sym, ap, ◌∙◌, subst, Bor}
+use Rattle.std.specs.Prelude.{nat_eq, All, IfSome}
 use Rattle.std.specs.BTreeMap as tree
 use Rattle.std.specs.Map.{lookup}
 use Rattle.std.specs.Cmp.Lexicographic.{pointwise, same_text, slice_cmp, nat_list_eq_equiv}
 use Rattle.std.specs.FinMap as map
-use Rattle.std.specs.FinMap.{slice_cmp-IsAntisymmetric, nat_cmp-IsAntisymmetric}
 use Rattle.std.specs.List.{find}
 use Rattle.std.specs.Option.{option_map}
 use Rattle.std.specs.Ordering.{is_eq, nat_cmp}
 use Rattle.std.specs.String.{string_bytes, string_cmp}
 use Rattle.std.specs.declared.alloc.Global.{Global}
-use Rattle.std.specs.declared.cmp.Ordering.{Ordering}
-use Rattle.std.specs.declared.cmp.Ordering.TheVariants.{Less, Equal, Greater}
 use Rattle.std.specs.declared.string.String.{String}
-use Rattle.stun_proto_sign.specs.Credentials.{NameAndPassword}
 use Rattle.stun_proto_sign.specs.Userhashes.{userhash_of}
 use Rattle.stun_proto_judge.specs.Knowledge.{Named}
+use Rattle.stun_proto_server.specs.KeptKeys.{AllHaveKeys, HasKeys}
 use Rattle.stun_proto_server.specs.Server.{Server}
 use Rattle.stun_proto_server.specs.Users.{IsClaimedName, IsFoundBy, IsUser, is_hash_of}
-use Rattle.stun_proto_server.specs.View.{named_of, server_of}
+use Rattle.stun_proto_server.specs.View.{named_of, pair_of, server_of}
 use Rattle.stun_proto_server.specs.declared.long_term.LongTermServerAuth.TheInside.{Inside}
-use Rattle.stun_proto_server.proofs.Maps.{get-users, password_of}
+use Rattle.stun_proto_server.specs.declared.users.KeyedUser.{KeyedUser}
+use Rattle.stun_proto_server.proofs.Maps.{get-users, password_of, same_name}
 
 -- ---- by name
 
@@ -39,7 +37,7 @@ none_by_name server name none user is =
 
 -- an entry of a map of users
 abbrev Entry : Type 0
-Entry = String Global × NameAndPassword
+Entry = String Global × KeyedUser
 
 abbrev Entries : Type 0
 Entries = List Entry
@@ -69,7 +67,7 @@ found_kept P test (x ∷ es) e all is =
     inside p = Prim.cc p
 
 -- a user that is looked up by a name passes a test which the entries of that name pass
-looked_up : (same : String Global → Bool) (test : Entry → Bool) (es : Entries) (user : NameAndPassword) → ((e : Entry) → same e.0 ≡ true → test e ≡ true)
+looked_up : (same : String Global → Bool) (test : Entry → Bool) (es : Entries) (user : KeyedUser) → ((e : Entry) → same e.0 ≡ true → test e ≡ true)
     → lookup same es ≡ Some user → find test es ≡ None → ⊥
 looked_up same test [] user passes is none = Prim.cc is
 looked_up same test (x ∷ es) user passes is none =
@@ -81,16 +79,6 @@ looked_up same test (x ∷ es) user passes is none =
             | false ↦ λ other found. looked_up same test es user passes found later
           ] refl is
     ] refl none
-
--- a comparison that ties answers equal
-tie : (answer : Ordering) → is_eq answer ≡ true → answer ≡ Equal
-tie Less is = absurd (Prim.cc is)
-tie Equal is = refl
-tie Greater is = absurd (Prim.cc is)
-
--- texts that tie are the same
-same_name : (a b : List ℕ) → is_eq (slice_cmp nat_cmp a b) ≡ true → a ≡ b
-same_name a b is = slice_cmp-IsAntisymmetric nat_cmp-IsAntisymmetric a b (tie (slice_cmp nat_cmp a b) is)
 
 -- whether an entry's name has a hash
 abbrev has_hash : List ℕ → List ℕ → Entry → Bool
@@ -109,7 +97,7 @@ none_hashed s server hash view_is none user is =
         subst (λ name. pointwise nat_eq hash (userhash_of name server.realm) ≡ true) name_is
         (subst (λ h. pointwise nat_eq hash h ≡ true) hash_is (nat_list_eq_equiv.refl hash))
 
-    by : (found : Option NameAndPassword) → tree.get_by_text s.users user.name ≡ found → option_map password_of found ≡ Some user.password → ⊥
+    by : (found : Option KeyedUser) → tree.get_by_text s.users user.name ≡ found → option_map password_of found ≡ Some user.password → ⊥
     by None has told = Prim.cc told
     by (Some own) has told = looked_up (λ k. is_eq (slice_cmp nat_cmp user.name (string_bytes k))) (has_hash hash server.realm) s.users.entries own passes has none
 
@@ -124,11 +112,38 @@ one_hashed s server hash e view_is kept is =
       named = ap Some (same_text hash (userhash_of (string_bytes e.0) server.realm) passes);
     }
 
+-- a name and a user behind references
+abbrev pub tells : Option (Bor (List ℕ) × Bor KeyedUser) → Option (List ℕ × KeyedUser)
+tells = option_map {U = List ℕ × KeyedUser} (λ user. (user.0.now, user.1.now))
+
+-- the user of a pair
+abbrev pub named_by : List ℕ × KeyedUser → Named
+named_by pair = record { name = pair.0; password = pair.1.credentials.password }
+
+-- the same user, by the pair or by the entry
+named_same : (found : Option Entry) → option_map named_by (option_map pair_of found) ≡ option_map named_of found
+named_same None = refl
+named_same (Some e) = refl
+
+-- what is found for a hash has its own keys
+pub keys_by_hash : (s : Inside) (realm : List ℕ) (test : Entry → Bool) (pair : List ℕ × KeyedUser) → AllHaveKeys realm s.users → All (λ user. tree.get string_cmp s.users user.0 ≡ Some user.1) s.users.entries
+    → Some pair ≡ option_map pair_of (find test s.users.entries) → HasKeys realm pair.0 pair.1
+keys_by_hash s realm test pair have kept is = by (find test s.users.entries) refl is
+  where
+    by : (found : Option Entry) → find test s.users.entries ≡ found → Some pair ≡ option_map pair_of found → HasKeys realm pair.0 pair.1
+    by None told same = Prim.cc same
+    by (Some e) told same =
+        let own : tree.get string_cmp s.users e.0 ≡ Some e.1 = found_kept (λ user. tree.get string_cmp s.users user.0 ≡ Some user.1) test s.users.entries e kept told in
+        let keys : HasKeys realm (string_bytes e.0) e.1 = subst (λ (o : Option KeyedUser). IfSome o (HasKeys realm (string_bytes e.0))) own (have (string_bytes e.0)) in
+        let pairs : pair_of e ≡ pair = Prim.cc same in
+        subst (λ (p : List ℕ × KeyedUser). HasKeys realm p.0 p.1) pairs keys
+
 -- what is found for a hash
-pub by_hash : (s : Inside) (server : Server) (hash realm : List ℕ) (result : Option Named) → server_of s ≡ server → realm ≡ server.realm → All (λ user. tree.get string_cmp s.users user.0 ≡ Some user.1) s.users.entries
-    → result ≡ option_map named_of (find (has_hash hash realm) s.users.entries) → IsFoundBy server (λ other. Some hash ≡ Some (userhash_of other server.realm)) result
+pub by_hash : (s : Inside) (server : Server) (hash realm : List ℕ) (result : Option (List ℕ × KeyedUser)) → server_of s ≡ server → realm ≡ server.realm → All (λ user. tree.get string_cmp s.users user.0 ≡ Some user.1) s.users.entries
+    → result ≡ option_map pair_of (find (has_hash hash realm) s.users.entries) → IsFoundBy server (λ other. Some hash ≡ Some (userhash_of other server.realm)) (option_map named_by result)
 by_hash s server hash realm result view_is same kept told =
-    let own : result ≡ option_map named_of (find (has_hash hash server.realm) s.users.entries) = told ∙ ap (λ r. option_map named_of (find (has_hash hash r) s.users.entries)) same in
+    let own : option_map named_by result ≡ option_map named_of (find (has_hash hash server.realm) s.users.entries) =
+    ap (option_map named_by) told ∙ named_same (find (has_hash hash realm) s.users.entries) ∙ ap (λ r. option_map named_of (find (has_hash hash r) s.users.entries)) same in
     subst (IsFoundBy server (λ other. Some hash ≡ Some (userhash_of other server.realm))) (sym own) (by (find (has_hash hash server.realm) s.users.entries) refl)
   where
     by : (found : Option Entry) → find (has_hash hash server.realm) s.users.entries ≡ found → IsFoundBy server (λ other. Some hash ≡ Some (userhash_of other server.realm)) (option_map named_of found)

@@ -1,9 +1,11 @@
 pub mod AuthCalls
 pub mod AuthRuns
 pub mod Isolation
+pub mod KeptKeys
 pub mod Server
 pub mod ServerSigning
 pub mod ServerValidation
+pub mod SigningUsers
 pub mod Users
 pub mod View
 -- What stands above this crate has these through it.

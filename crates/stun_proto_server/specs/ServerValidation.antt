@@ -13,11 +13,6 @@ use Rattle.stun_proto_server.specs.declared.validation.LongTermServerValidation.
 use Rattle.stun_proto_server.specs.Users.{IsFound, Names}
 use Rattle.stun_proto_server.specs.Server.{Server, has_standing_nonce, nonce_at, refreshed, with_outcome, words_drawn}
 
--- the password of the user of a name, where there is a name and such a user
-abbrev pub password_at : Server → Option (List ℕ) → Option (List ℕ)
-password_at server None = None
-password_at server (Some name) = map.get server.users name
-
 -- what a server knows that concerns a message from an address, where this is the user that it names
 abbrev pub known_of : Server → SocketAddr → Option Named → Knowledge
 known_of server from found = record {

@@ -1,15 +1,15 @@
 -- The server that the fields of a `LongTermServerAuth` hold.
-use Rattle.std.specs.Prelude.{map}
+use Rattle.std.specs.Prelude.{ℕ, List, map}
 use Rattle.std.specs.Duration.{as_nanos}
 use Rattle.std.specs.FinMap as finite
 use Rattle.std.specs.String.{string_bytes}
 use Rattle.std.specs.declared.alloc.Global.{Global}
 use Rattle.std.specs.declared.string.String.{String}
-use Rattle.stun_proto_sign.specs.Credentials.{NameAndPassword}
 use Rattle.stun_proto_judge.specs.Knowledge.{Named}
 use Rattle.stun_proto_server.specs.Server.{Client, Server}
 use Rattle.stun_proto_server.specs.declared.long_term.ClientRecord.{ClientRecord}
 use Rattle.stun_proto_server.specs.declared.long_term.LongTermServerAuth.TheInside.{Inside}
+use Rattle.stun_proto_server.specs.declared.users.KeyedUser.{KeyedUser}
 
 -- what is kept for one address
 abbrev pub client_of : ClientRecord → Client
@@ -19,13 +19,17 @@ client_of kept = record { nonce = kept.nonce; drawn = kept.drawn; outcome = kept
 abbrev pub server_of : Inside → Server
 server_of s = record {
   realm = string_bytes s.realm;
-  users = finite.from_entries (map (λ e. (string_bytes e.0, e.1.password)) s.users.entries);
+  users = finite.from_entries (map (λ e. (string_bytes e.0, e.1.credentials.password)) s.users.entries);
   clients = finite.from_entries (map (λ e. (e.0, client_of e.1)) s.clients.entries);
   nonce_expiry = as_nanos s.nonce_expiry;
   algorithms = s.supported;
   anonymous_username = s.anonymous_username;
 }
 
+-- the name and the user of an entry
+abbrev pub pair_of : String Global × KeyedUser → List ℕ × KeyedUser
+pair_of entry = (string_bytes entry.0, entry.1)
+
 -- the user of an entry
-abbrev pub named_of : String Global × NameAndPassword → Named
-named_of user = record { name = string_bytes user.0; password = user.1.password }
+abbrev pub named_of : String Global × KeyedUser → Named
+named_of user = record { name = string_bytes user.0; password = user.1.credentials.password }

@@ -1,11 +1,11 @@
 //! The server's side of long-term credentials: its users, and a nonce for each client address.
 
-ghost use Rattle.std.specs.Prelude.{◌≡◌, ◌≢◌, ◌*◌, ◌≤◌, nat_lt, length, [], ◌∷◌, Ok, Some, IfSome, OnOk, OnErr, MatchOption, IsTrue};
+ghost use Rattle.std.specs.Prelude.{◌≡◌, ◌≢◌, ◌*◌, ◌≤◌, nat_lt, length, [], ◌∷◌, Ok, Some, IfOk, IfSome, OnOk, OnErr, MatchOption, IsTrue};
 ghost use Rattle.std.specs.BTreeMap as tree;
 ghost use Rattle.std.specs.Duration.{as_nanos};
 ghost use Rattle.std.specs.FinMap as map;
 ghost use Rattle.std.specs.List.{IsDistinct};
-ghost use Rattle.std.specs.Option.{option_copied};
+ghost use Rattle.std.specs.Option.{option_copied, option_map};
 ghost use Rattle.std.specs.String.{string_bytes};
 ghost use Rattle.std.specs.declared.net.socket_addr.SocketAddr.{SocketAddr};
 ghost use Rattle.stun_proto_schedule.specs.Moments.{moment_after};
@@ -16,11 +16,11 @@ ghost use Rattle.stun_proto_sign.specs.Registry.{longest_text};
 ghost use Rattle.stun_proto_sign.specs.IntegrityAlgorithms.{Sha1};
 ghost use Rattle.stun_proto_judge.specs.declared.feature.Feature.TheVariants.{Auto};
 ghost use Rattle.stun_proto_server.specs.Server.{nonce_at, has_standing_nonce, outcome_at, words_drawn, with_new_nonce, with_outcome, refreshed, SameFor};
-ghost use Rattle.stun_proto_server.specs.ServerValidation.{password_at};
+ghost use Rattle.stun_proto_server.specs.KeptKeys.{HasKeys};
 ghost use Rattle.stun_proto_server.specs.Users.{IsFound, IsFoundBy};
 ghost use Rattle.stun_proto_sign.specs.Userhashes.{userhash_of};
 
-use crate::users::user_hashed;
+use crate::users::{KeyedUser, user_hashed};
 use rand_core::Rng;
 use std::alloc::Global;
 use std::collections::BTreeMap;
@@ -29,6 +29,7 @@ use std::net::SocketAddr;
 use std::time::Duration;
 use stun_proto_judge::claim::Claim;
 use stun_proto_judge::feature::Feature;
+use stun_proto_judge::keys::UserKeys;
 use stun_proto_judge::known::NamedUser;
 use stun_proto_judge::nonce::{NONCE_WORDS, NonceFeatures, ServerNonce, write_nonce};
 use stun_proto_judge::supported::SupportedIntegrity;
@@ -49,14 +50,14 @@ struct ClientRecord {
 }
 
 /// The server's side of long-term authentication: a realm, its users, and for each client address
-/// a record of its own, which the calls of other addresses don't touch. The realm has at most 763
-/// bytes, as a nonce has (RFC 8489, sections 14.9 and 14.10). Contracts see the record `Server` of
-/// `specs/Server.antt`.
+/// a record of its own, which the calls of other addresses don't touch. With each user its keys in the
+/// realm are kept, one for each algorithm. The realm has at most 763 bytes, as a nonce has (RFC 8489,
+/// sections 14.9 and 14.10). Contracts see the record `Server` of `specs/Server.antt`.
 #[derive(Debug, Drop)]
 pub struct LongTermServerAuth {
     alloc: Global,
     realm: String,
-    users: BTreeMap<String, LongTermCredentials>,
+    users: BTreeMap<String, KeyedUser>,
     clients: BTreeMap<SocketAddr, ClientRecord>,
     nonce_expiry: Duration,
     supported: SupportedIntegrity,
@@ -77,8 +78,10 @@ impl Model for LongTermServerAuth {
     ghost use Rattle.std.specs.Prelude.{◌≤◌, length};
     ghost use Rattle.std.specs.String.{string_bytes};
     ghost use Rattle.stun_proto_sign.specs.Registry.{longest_text};
+    ghost use Rattle.stun_proto_server.specs.KeptKeys.{AllHaveKeys};
 
-    ghost invariant = { λ server. length (string_bytes server.realm) ≤ longest_text };
+    ghost invariant = { λ server. (length (string_bytes server.realm) ≤ longest_text)
+        × AllHaveKeys (string_bytes server.realm) server.users };
 }
 
 impl LongTermServerAuth {
@@ -115,7 +118,7 @@ impl LongTermServerAuth {
         self.realm.as_str()
     }
 
-    /// Adds a user, in place of one of that name. Where memory is refused, nothing changes.
+    /// Adds a user with its keys, in place of one of that name. Where memory is refused, nothing changes.
     pub fn add_user(&mut self, user: LongTermCredentials) -> Result<(), NoMemory>
         ensures ok { OnOk result
             (self.new ≡ record self.old {
@@ -124,8 +127,21 @@ impl LongTermServerAuth {
         ensures err { OnErr result (self.new ≡ self.old) }
     {
         let name = String::from_str(self.alloc, user.username())?;
-        self.users.insert(name, user)?;
+        let keyed = self.keyed(user)?;
+        self.users.insert(name, keyed)?;
         Ok(())
+    }
+
+    /// A user with its keys in the realm. Where memory is refused, `NoMemory`.
+    fn keyed(&self, user: LongTermCredentials) -> Result<KeyedUser, NoMemory>
+        ensures { IfOk result (λ keyed. (keyed.credentials ≡ user)
+            × HasKeys self.now.realm user.username keyed) }
+    {
+        let keys = UserKeys::new(user.username(), self.realm(), user.password());
+        Ok(KeyedUser {
+            credentials: user,
+            keys: Box::new(self.alloc, keys)?,
+        })
     }
 
     /// Removes the user of a name. One that isn't there changes nothing. What was kept for an address
@@ -303,8 +319,8 @@ impl LongTermServerAuth {
     fn user_named<'a>(&'a self, name: &'a str) -> Option<NamedUser<'a>>
         ensures { IsFoundBy self.now (λ other. other ≡ name.now) result }
     {
-        match self.password(name) {
-            Some(password) => Some(NamedUser::new(name, password)),
+        match self.user(name) {
+            Some(user) => Some(self.named(name, user)),
             None => None,
         }
     }
@@ -314,7 +330,18 @@ impl LongTermServerAuth {
         ensures { IsFoundBy self.now
             (λ other. Some hash.now ≡ Some (userhash_of other self.now.realm)) result }
     {
-        user_hashed(&self.users, self.realm.as_str(), hash)
+        match user_hashed(&self.users, self.realm.as_str(), hash) {
+            Some((name, user)) => Some(self.named(name, user)),
+            None => None,
+        }
+    }
+
+    /// A user by name, with its keys in the realm.
+    fn named<'a>(&'a self, name: &'a str, user: &'a KeyedUser) -> NamedUser<'a>
+        requires { HasKeys self.now.realm name.now user.now }
+        ensures { result ≡ record { name = name.now; password = user.now.credentials.password } }
+    {
+        NamedUser::with_keys(name, user.credentials.password(), self.realm(), &user.keys)
     }
 
     /// The algorithms that are supported.
@@ -324,24 +351,13 @@ impl LongTermServerAuth {
         self.supported
     }
 
-    /// The password of the user of a name, where there is a name and such a user.
-    pub(crate) fn password_of(&self, name: Option<&str>) -> Option<&str>
-        ensures { option_copied result ≡ password_at self.now (option_copied name.entry) }
+    /// The user of a name, where there is such a one.
+    pub(crate) fn user(&self, name: &str) -> Option<&KeyedUser>
+        ensures password { option_map (λ user. user.now.credentials.password) result
+            ≡ map.get self.now.users name.now }
+        ensures keys { IfSome result (λ user. HasKeys self.now.realm name.now user.now) }
     {
-        match name {
-            Some(name) => self.password(name),
-            None => None,
-        }
-    }
-
-    /// The password of the user of a name, where there is such a user.
-    fn password(&self, name: &str) -> Option<&str>
-        ensures { option_copied result ≡ map.get self.now.users name.now }
-    {
-        match self.users.get(name) {
-            Some(user) => Some(user.password()),
-            None => None,
-        }
+        self.users.get(name)
     }
 
     /// The allocator that is kept.

@@ -110,9 +110,14 @@ impl LongTermServerAuth {
         let nonce = self.nonce_for_client(to)?;
         match self.validated_user(to) {
             Some(user) => {
-                let password = self.password_of(Some(user.name()))?;
-                let user = SigningUser::new(user.name(), password, user.algorithm());
-                Some(Party::new(self.realm(), nonce, self.supported(), Some(user)))
+                let keyed = self.user(user.name())?;
+                let signer = SigningUser {
+                    name: user.name(),
+                    password: keyed.credentials.password(),
+                    algorithm: user.algorithm(),
+                    key: keyed.keys.key(user.algorithm()),
+                };
+                Some(Party::new(self.realm(), nonce, self.supported(), Some(signer)))
             }
             None => Some(Party::new(self.realm(), nonce, self.supported(), None)),
         }

@@ -1,6 +1,7 @@
 //! What is known of the party that a message goes to, and what is added to the message for it.
 
-ghost use Rattle.std.specs.Prelude.{◌≡◌, IfOk, IsSomeAnd, None, Some};
+ghost use Rattle.std.specs.Prelude.{◌≡◌, IfOk, IfSome, IsSomeAnd, None, Some};
+ghost use Rattle.std.specs.Option.{option_map};
 ghost use Rattle.stun_proto_sign.specs.Refusals.{RefusesFor};
 ghost use Rattle.stun_proto_sign.specs.Attributes.{kind_at};
 ghost use Rattle.stun_proto_sign.specs.Types.{class_of};
@@ -11,7 +12,8 @@ ghost use Rattle.stun_proto_judge.specs.Nonce.{features_told};
 ghost use Rattle.stun_proto_sign.specs.Addition.{addition_refusal};
 ghost use Rattle.stun_proto_sign.specs.AdditionStages.{IsMade};
 ghost use Rattle.stun_proto_sign.specs.Sizes.{size_of};
-ghost use Rattle.stun_proto_server.specs.ServerSigning.{addition, addition_for_user, addition_unvalidated, key_in, signing_refusal_for, size_for};
+ghost use Rattle.stun_proto_server.specs.ServerSigning.{addition, addition_for_user, addition_unvalidated, signing_refusal_for, size_for};
+ghost use Rattle.stun_proto_server.specs.SigningUsers.{HasKeyIn, signer_of};
 
 use std::marker::Model;
 use stun_proto_judge::nonce::NonceFeatures;
@@ -23,52 +25,19 @@ use stun_proto_sign::part::Part;
 use stun_proto_sign::signing::sign;
 use stun_proto_sign::size::signature_bytes;
 
-/// A user under whose key messages are signed: its name, its password, and the algorithm of the
-/// integrity attribute. Contracts see the record `Signer`.
+/// A user under whose key messages are signed: its name, its password, the algorithm of the integrity
+/// attribute, and the key.
 #[derive(Drop)]
 pub(crate) struct SigningUser<'a> {
-    name: &'a str,
-    password: &'a str,
-    algorithm: IntegrityAlgorithm,
-}
-
-impl<'a> Model for SigningUser<'a> {
-    ghost use Rattle.stun_proto_server.specs.ServerSigning.{Signer};
-
-    ghost Value = { Signer };
-
-    ghost view = { λ user.
-        record { name = user.name.now; password = user.password.now; algorithm = user.algorithm } };
-}
-
-impl<'a> SigningUser<'a> {
-    /// The user of this name and password, by an algorithm.
-    pub(crate) fn new(
-        name: &'a str,
-        password: &'a str,
-        algorithm: IntegrityAlgorithm,
-    ) -> SigningUser<'a>
-        ensures { result
-            ≡ record { name = name.now; password = password.now; algorithm = algorithm } }
-    {
-        SigningUser {
-            name,
-            password,
-            algorithm,
-        }
-    }
-
-    /// The user's key in a realm.
-    fn key_in(&self, realm: &str) -> IntegrityKey<'a>
-        ensures { result ≡ key_in realm.now self.now }
-    {
-        IntegrityKey::long_term(self.name, realm, self.password, self.algorithm)
-    }
+    pub(crate) name: &'a str,
+    pub(crate) password: &'a str,
+    pub(crate) algorithm: IntegrityAlgorithm,
+    pub(crate) key: &'a IntegrityKey<'static>,
 }
 
 /// The party that a message goes to, as its server knows it: the realm, the nonce that is kept for
 /// it, the algorithms that are supported, and the user by whom its last message was validated,
-/// where it was. Contracts see the record `Party`.
+/// where it was, with its key in the realm. Contracts see the record `Party`.
 #[derive(Drop)]
 pub(crate) struct Party<'a> {
     realm: &'a str,
@@ -78,7 +47,10 @@ pub(crate) struct Party<'a> {
 }
 
 impl<'a> Model for Party<'a> {
+    ghost use Rattle.std.specs.Prelude.{IfSome};
+    ghost use Rattle.std.specs.Option.{option_map};
     ghost use Rattle.stun_proto_server.specs.ServerSigning.{Party};
+    ghost use Rattle.stun_proto_server.specs.SigningUsers.{HasKeyIn, signer_of};
 
     ghost Value = { Party };
 
@@ -86,8 +58,10 @@ impl<'a> Model for Party<'a> {
       realm = to.realm.now;
       nonce = to.nonce.now;
       algorithms = to.supported;
-      user = to.user;
+      user = option_map signer_of to.user;
     } };
+
+    ghost invariant = { λ to. IfSome to.user (HasKeyIn to.realm.now) };
 }
 
 impl<'a> Party<'a> {
@@ -98,11 +72,12 @@ impl<'a> Party<'a> {
         supported: SupportedIntegrity,
         user: Option<SigningUser<'a>>,
     ) -> Party<'a>
+        requires { IfSome user (HasKeyIn realm.now) }
         ensures { result ≡ record {
           realm = realm.now;
           nonce = nonce.now;
           algorithms = supported;
-          user = user.entry;
+          user = option_map signer_of user.entry;
         } }
     {
         Party {
@@ -140,11 +115,13 @@ impl<'a> Party<'a> {
         user: &SigningUser<'_>,
         class: MessageClass,
     ) -> Result<W, StunWriteError>
-        requires { IsBegun (W.draft writer).bytes }
-        ensures ok { IfOk result (λ signed. IsMade (addition_for_user self.now user.now class)
+        requires begun { IsBegun (W.draft writer).bytes }
+        requires key { HasKeyIn self.now.realm user.now }
+        ensures ok { IfOk result (λ signed. IsMade
+            (addition_for_user self.now (signer_of user.now) class)
             (W.draft writer) (W.draft signed)) }
         ensures cause { RefusesFor StunWriteError.NoMemory (addition_refusal
-            (addition_for_user self.now user.now class) (W.draft writer)) result }
+            (addition_for_user self.now (signer_of user.now) class) (W.draft writer)) result }
         ensures lent { TakesNoMemory (W.draft writer) result }
     {
         match class {
@@ -154,12 +131,10 @@ impl<'a> Party<'a> {
                     Part::realm(self.realm),
                     Part::nonce(self.nonce),
                 ];
-                sign(writer, &parts, Some(&user.key_in(self.realm)))
+                sign(writer, &parts, Some(user.key))
             }
             MessageClass::Indication => sign(writer, &[], None),
-            MessageClass::Success | MessageClass::Error => {
-                sign(writer, &[], Some(&user.key_in(self.realm)))
-            }
+            MessageClass::Success | MessageClass::Error => sign(writer, &[], Some(user.key)),
         }
     }
 
@@ -202,7 +177,7 @@ impl<'a> Party<'a> {
 
     /// How many bytes are added to a message of a class where the party was validated.
     fn bytes_for_user(&self, user: &SigningUser<'_>, class: MessageClass) -> usize
-        ensures { result ≡ size_of (addition_for_user self.now user.now class) }
+        ensures { result ≡ size_of (addition_for_user self.now (signer_of user.now) class) }
     {
         match class {
             MessageClass::Request => signature_bytes(

@@ -1,32 +1,42 @@
 //! The users of a server, and how a message names one.
 
-ghost use Rattle.std.specs.Prelude.{◌≡◌, All, Some};
+ghost use Rattle.std.specs.Prelude.{◌≡◌, ℕ, List, All, Some};
 ghost use Rattle.std.specs.BTreeMap.{get};
 ghost use Rattle.std.specs.List.{find};
 ghost use Rattle.std.specs.Option.{option_map};
 ghost use Rattle.std.specs.String.{string_bytes, string_cmp};
 ghost use Rattle.stun_proto_server.specs.Users.{is_hash_of};
-ghost use Rattle.stun_proto_server.specs.View.{named_of};
+ghost use Rattle.stun_proto_server.specs.View.{pair_of};
+ghost use Rattle.stun_proto_server.specs.declared.users.KeyedUser.{KeyedUser as Keyed};
 
 use std::collections::BTreeMap;
-use stun_proto_judge::known::NamedUser;
+use stun_proto_judge::keys::UserKeys;
 use stun_proto_sign::attribute::Userhash;
 use stun_proto_sign::message::LongTermCredentials;
 
-/// The first user of a map whose name has this hash in a realm, where there is one (RFC 8489, section
-/// 14.4).
+/// A user, and its keys in the server's realm, which go with it. They have memory of their own, so that
+/// the map moves no keys.
+#[derive(Debug, Drop)]
+pub(crate) struct KeyedUser {
+    pub(crate) credentials: LongTermCredentials,
+    pub(crate) keys: Box<UserKeys>,
+}
+
+/// The first user of a map whose name has this hash in a realm, with its name, where there is one (RFC
+/// 8489, section 14.4).
 pub(crate) fn user_hashed<'a>(
-    users: &'a BTreeMap<String, LongTermCredentials>,
+    users: &'a BTreeMap<String, KeyedUser>,
     realm: &str,
     hash: &[u8],
-) -> Option<NamedUser<'a>>
-    ensures first { result ≡ option_map named_of
+) -> Option<(&'a str, &'a KeyedUser)>
+    ensures first { option_map {U = List ℕ × Keyed} (λ user. (user.0.now, user.1.now)) result
+        ≡ option_map pair_of
         (find (λ user. is_hash_of hash.now realm.now (string_bytes user.0)) users.now.entries) }
     ensures kept { All (λ user. get string_cmp users.now user.0 ≡ Some user.1) users.now.entries }
 {
     for (name, user) in users {
         if is_hash_of(hash, realm, name) {
-            return Some(NamedUser::new(name, user.password()));
+            return Some((name.as_str(), user));
         }
     }
     None

@@ -1,11 +1,21 @@
-use Rattle.std.proofs.Common.{ℕ, List, ap, ◌∙◌}
+use Rattle.std.proofs.Common.{◌≡◌, ℕ, List, sym, ap, ◌∙◌, subst}
 use Rattle.std.specs.FinMap as map
 use Rattle.std.specs.String.{string_bytes}
+use Rattle.stun_proto_server.specs.KeptKeys.{HasKeys}
 use Rattle.stun_proto_server.specs.Server.{Server}
-use Rattle.stun_proto_server.proofs.Maps.{insert-users}
+use Rattle.stun_proto_server.proofs.Maps.{insert-users, keys_inserted}
 use Rattle.stun_proto_server.proofs.long_term.LongTermServerAuth.add_user.Goals as goal
 
 pub returns-clause-ok : goal.returns-clause-ok
 returns-clause-ok c =
-    insert-users c.self.inside c.insert.new.self c.args.self.now (string_bytes c.in_ok-name.name) c.args.user c.self.view_is c.in_ok-insert.ensures.updates
-    ∙ ap {A = List ℕ} {B = Server} (λ name. record c.args.self.now { users = map.insert c.args.self.now.users name c.args.user.password }) (c.in_ok-name.ensures.ok ∙ c.username.ensures)
+    let name = c.in_ok-name.ensures.ok ∙ c.username.ensures in
+    insert-users c.self.inside c.insert.new.self c.args.self.now (string_bytes c.in_ok-name.name) c.in_ok-keyed.keyed c.self.view_is c.in_ok-insert.ensures.updates
+    ∙ (λ i. record c.args.self.now { users = map.insert c.args.self.now.users (name i) (c.in_ok-keyed.ensures.0 i).password })
+
+pub invariant_of-self-2 : goal.invariant_of-self-2
+invariant_of-self-2 c =
+    let name = sym (c.in_ok-name.ensures.ok ∙ c.username.ensures) in
+    let realm = sym (ap (λ (s : Server). s.realm) c.self.view_is) in
+    let keys = subst (λ (r : List ℕ). HasKeys r (string_bytes c.in_ok-name.name) c.in_ok-keyed.keyed) realm
+    (subst (λ (n : List ℕ). HasKeys c.args.self.now.realm n c.in_ok-keyed.keyed) name c.in_ok-keyed.ensures.1) in
+    (c.self.invariant.0, keys_inserted c.self.inside c.insert.new.self (string_bytes c.self.inside.realm) (string_bytes c.in_ok-name.name) c.in_ok-keyed.keyed c.self.invariant.1 keys c.in_ok-insert.ensures.updates)
