@@ -1,67 +1,65 @@
 -- The maps of an agent, as its fields keep them and as contracts see them.
-use Rattle.std.proofs.Common.{◌≡◌, ℕ, List, ◌≤◌, arith, Bool, false, Option, Some, None, refl, sym, ap, ◌∙◌, subst, inl, inr}
-use Rattle.std.specs.Prelude.{⊤, All, MatchOption, max, is_some, map as map_list}
+use Rattle.std.proofs.Common.{◌≡◌, ℕ, List, Bool, Option, Some, None, refl, sym, ap, ◌∙◌, subst}
+use Rattle.std.specs.Prelude.{⊤, MatchOption, is_some}
 use Rattle.std.specs.BTreeMap as tree
-use Rattle.std.specs.Cmp.{nat_cmp_total}
 use Rattle.std.specs.FinMap as map
-use Rattle.std.specs.FinMap.{nat_cmp-IsAntisymmetric}
-use Rattle.std.specs.List.{find}
 use Rattle.std.specs.Option.{option_map}
 use Rattle.std.specs.Ordering.{nat_cmp}
 use Rattle.std.specs.declared.net.socket_addr.SocketAddr.{SocketAddr}
-use Rattle.stun_types_base.proofs.MapView.{get-finite_map, insert-finite_map, remove-finite_map}
+use Rattle.stun_types_base.proofs.MapView.{get-finite_map, insert-finite_map}
 use Rattle.stun_proto_transaction.specs.SocketAddrs.{socket_addr_cmp, socket_addr_cmp_total, socket_addr_cmp-IsAntisymmetric}
-use Rattle.stun_proto_transaction.specs.Agents.{Transaction, changed, integrity_of, is_due, is_ended, is_over, next_moment, transmitted}
+use Rattle.stun_proto_transaction.specs.Agents.{Transaction, integrity_of, is_due, is_ended, is_over, transmitted}
 use Rattle.stun_proto_transaction.specs.IntegrityAlgorithms.{IntegrityAlgorithm}
-use Rattle.stun_proto_transaction.specs.declared.transaction.Change.{Change}
-use Rattle.stun_proto_agent.specs.Least.{IsLeast, IsLeastOf}
+use Rattle.stun_proto_transaction.specs.KeptRequests as kept
+use Rattle.stun_proto_transaction.specs.KeptRequests.{Requests, with_number}
+use Rattle.stun_proto_agent.specs.Least.{IsLeast}
 use Rattle.stun_proto_transaction.specs.Moments.{moment_after}
 use Rattle.stun_proto_transaction.specs.Schedule.{Waits}
-use Rattle.stun_proto_agent.specs.Sending.{NoneDue, begun, is_due_of, kept_under}
+use Rattle.stun_proto_agent.specs.Sending.{begun, kept_under}
 use Rattle.stun_proto_transaction.specs.declared.transaction.Cancelled.TheVariants.{Nothing}
 use Rattle.stun_proto_agent.specs.State.{Agent, IsNext, NoneEnded, is_tcp, longest_wait}
 use Rattle.stun_proto_agent.specs.View.{agent_of}
 use Rattle.stun_proto_agent.specs.declared.agent.StunAgent.TheInside.{Inside}
-use Rattle.stun_proto_agent.proofs.Leasts.{Entry, below_found, found_kept, found_least, found_passes, given_by, none_passes}
 
 itself : {A : Type 0} (found : Option A) → option_map (λ (a : A). a) found ≡ found
 itself None = refl
 itself (Some a) = refl
 
+-- the map that the fields keep is the one that contracts see
+same_map : (s : Inside) (agent : Agent) → agent_of s ≡ agent → s.outstanding.by_number ≡ agent.outstanding
+same_map s agent view_is = ap (λ (a : Agent). a.outstanding) view_is
+
 -- what is found for a number
-pub get_number : (s : Inside) (agent : Agent) (number : ℕ) → agent_of s ≡ agent → map.get agent.outstanding number ≡ tree.get nat_cmp s.outstanding number
-get_number s agent number view_is =
-    ap (λ a. map.get a.outstanding number) (sym view_is) ∙ get-finite_map (λ key. key) nat_cmp_total (λ (t : Transaction). t) s.outstanding number ∙ itself (tree.get nat_cmp s.outstanding number)
+pub get_number : (s : Inside) (agent : Agent) (number : ℕ) → agent_of s ≡ agent → map.get agent.outstanding number ≡ map.get s.outstanding.by_number number
+get_number s agent number view_is = ap (λ m. map.get m number) (sym (same_map s agent view_is))
 
 -- a number is taken out
-pub remove_number : (s : Inside) (new : tree.BTreeMap ℕ Transaction) (agent : Agent) (number : ℕ) → agent_of s ≡ agent → tree.Updates nat_cmp s.outstanding new number None
+pub remove_number : (s : Inside) (new : Requests) (agent : Agent) (number : ℕ) → agent_of s ≡ agent → new ≡ record s.outstanding { by_number = map.remove s.outstanding.by_number number }
     → agent_of (record s { outstanding = new }) ≡ record agent { outstanding = map.remove agent.outstanding number }
-remove_number s new agent number view_is updates =
-    ap {A = map.FinMap nat_cmp Transaction} {B = Agent} (λ m. record (agent_of s) { outstanding = m })
-    (remove-finite_map (λ key. key) nat_cmp_total (λ (t : Transaction). t) nat_cmp-IsAntisymmetric s.outstanding new number updates.0)
+remove_number s new agent number view_is is =
+    ap {A = Requests} {B = Agent} (λ r. record (agent_of s) { outstanding = r.by_number }) is
     ∙ ap {A = Agent} {B = Agent} (λ v. record v { outstanding = map.remove v.outstanding number }) view_is
 
 -- whether a number is there
-pub is_there : (s : Inside) (agent : Agent) (number : ℕ) (result : Bool) → agent_of s ≡ agent → result ≡ is_some (tree.get nat_cmp s.outstanding number) → result ≡ is_some (map.get agent.outstanding number)
-is_there s agent number result view_is is = is ∙ sym (ap is_some (get_number s agent number view_is))
+pub is_there : (s : Inside) (agent : Agent) (number : ℕ) (found : Option Transaction) (result : Bool) → agent_of s ≡ agent → found ≡ map.get s.outstanding.by_number number → result ≡ is_some found → result ≡ is_some (map.get agent.outstanding number)
+is_there s agent number found result view_is is told = told ∙ ap is_some (is ∙ sym (get_number s agent number view_is))
 
 -- what is said of what is found for a number
-pub told_of : (s : Inside) (agent : Agent) (number : ℕ) (found : Option Transaction) (none : Type 0) (some : Transaction → Type 0) → agent_of s ≡ agent → found ≡ tree.get nat_cmp s.outstanding number
+pub told_of : (s : Inside) (agent : Agent) (number : ℕ) (found : Option Transaction) (none : Type 0) (some : Transaction → Type 0) → agent_of s ≡ agent → found ≡ map.get s.outstanding.by_number number
     → MatchOption found none some → MatchOption (map.get agent.outstanding number) none some
 told_of s agent number found none some view_is is told =
     subst (λ (o : Option Transaction). MatchOption o none some) (is ∙ sym (get_number s agent number view_is)) told
 
 -- where what is found goes
-pub target_is : (s : Inside) (agent : Agent) (number : ℕ) (found : Option Transaction) (result : Option SocketAddr) → agent_of s ≡ agent → found ≡ tree.get nat_cmp s.outstanding number
+pub target_is : (s : Inside) (agent : Agent) (number : ℕ) (found : Option Transaction) (result : Option SocketAddr) → agent_of s ≡ agent → found ≡ map.get s.outstanding.by_number number
     → result ≡ option_map (λ (t : Transaction). t.to) found → result ≡ option_map (λ (t : Transaction). t.to) (map.get agent.outstanding number)
 target_is s agent number found result view_is is told = told ∙ ap (option_map (λ (t : Transaction). t.to)) (is ∙ sym (get_number s agent number view_is))
 
 -- a request is kept by its number
-pub insert_number : (s : Inside) (new : tree.BTreeMap ℕ Transaction) (agent : Agent) (number : ℕ) (t : Transaction) → agent_of s ≡ agent → tree.Updates nat_cmp s.outstanding new number (Some t)
+pub insert_number : (s : Inside) (new : Requests) (agent : Agent) (number : ℕ) (t : Transaction) → agent_of s ≡ agent → new ≡ with_number s.outstanding number t
     → agent_of (record s { outstanding = new }) ≡ record agent { outstanding = map.insert agent.outstanding number t }
-insert_number s new agent number t view_is updates =
-    ap {A = map.FinMap nat_cmp Transaction} {B = Agent} (λ m. record (agent_of s) { outstanding = m })
-    (insert-finite_map (λ key. key) nat_cmp_total (λ (x : Transaction). x) nat_cmp-IsAntisymmetric s.outstanding new number t updates.0)
+insert_number s new agent number t view_is is =
+    ap {A = Requests} {B = Agent} (λ r. record (agent_of s) { outstanding = r.by_number }) is
     ∙ ap {A = Agent} {B = Agent} (λ v. record v { outstanding = map.insert v.outstanding number t }) view_is
 
 -- a request that begins is one of the agent's waits
@@ -70,8 +68,8 @@ begun_is : (s : Inside) (agent : Agent) (t : Transaction) (bytes own : List ℕ)
 begun_is s agent t bytes own to now waits view_is told same_bytes same_waits =
     told ∙ (λ i. record { bytes = same_bytes i; to = to; sent = now; used = 1; waits = (same_waits ∙ ap (λ (a : Agent). a.waits) view_is) i; cancelled = Nothing })
 
-pub keeps_request : (s : Inside) (new : tree.BTreeMap ℕ Transaction) (agent : Agent) (number : ℕ) (t : Transaction) (bytes own : List ℕ) (to : SocketAddr) (now : ℕ) (waits : Waits) → agent_of s ≡ agent
-    → tree.Updates nat_cmp s.outstanding new number (Some t) → t ≡ record { bytes = own; to = to; sent = now; used = 1; waits = waits; cancelled = Nothing } → own ≡ bytes → waits ≡ s.waits
+pub keeps_request : (s : Inside) (new : Requests) (agent : Agent) (number : ℕ) (t : Transaction) (bytes own : List ℕ) (to : SocketAddr) (now : ℕ) (waits : Waits) → agent_of s ≡ agent
+    → new ≡ with_number s.outstanding number t → t ≡ record { bytes = own; to = to; sent = now; used = 1; waits = waits; cancelled = Nothing } → own ≡ bytes → waits ≡ s.waits
     → agent_of (record s { outstanding = new }) ≡ record agent { outstanding = map.insert agent.outstanding number (begun agent bytes to now) }
 keeps_request s new agent number t bytes own to now waits view_is updates told same_bytes same_waits =
     insert_number s new agent number t view_is updates
@@ -92,113 +90,73 @@ is_validated s agent addr result view_is is =
 
 -- ---- what has ended
 
--- what a map keeps
-abbrev Kept : tree.BTreeMap ℕ Transaction → Type 0
-Kept m = All (λ e. tree.get nat_cmp m e.0 ≡ Some e.1) m.entries
-
--- an entry that passes a test and is the first to do so has the least number
-first_is_least : (test : Transaction → Bool) (s : Inside) (agent : Agent) (e : Entry) → agent_of s ≡ agent → tree.IsOrdered nat_cmp s.outstanding → Kept s.outstanding
-    → find (λ x. test x.1) s.outstanding.entries ≡ Some e → IsLeast test agent.outstanding e.0 e.1
-first_is_least test s agent e view_is ordered kept is = record {
-  present = get_number s agent e.0 view_is ∙ found_kept (λ x. tree.get nat_cmp s.outstanding x.0 ≡ Some x.1) test s.outstanding.entries e kept is;
-  passes = found_passes test s.outstanding.entries e is;
-  least = λ other another there passes. found_least test s.outstanding.entries e ordered is other another (sym (get_number s agent other view_is) ∙ there) passes;
-}
-
-none_first : (test : Transaction → Bool) (s : Inside) (agent : Agent) → agent_of s ≡ agent → find (λ x. test x.1) s.outstanding.entries ≡ None
-    → (number : ℕ) (t : Transaction) → map.get agent.outstanding number ≡ Some t → test t ≡ false
-none_first test s agent view_is is number t there = none_passes test s.outstanding.entries is number t (sym (get_number s agent number view_is) ∙ there)
-
 -- what has ended, by number, and whether it is cancelled
-abbrev EndedIs : Agent → ℕ → Option (ℕ × Bool) → Type 0
-EndedIs agent now found = MatchOption found (NoneEnded agent now) (λ f. (t : Transaction) × IsLeast (is_ended now) agent.outstanding f.0 t × (is_over t.cancelled ≡ f.1))
+abbrev EndedIn : map.FinMap nat_cmp Transaction → ℕ → Option (ℕ × Bool) → Type 0
+EndedIn m now found = MatchOption found (kept.NonePasses (is_ended now) m) (λ f. (t : Transaction) × IsLeast (is_ended now) m f.0 t × (is_over t.cancelled ≡ f.1))
 
-pub ended_is : (s : Inside) (agent : Agent) (now : ℕ) (result : Option (ℕ × Bool)) → agent_of s ≡ agent → tree.IsOrdered nat_cmp s.outstanding → Kept s.outstanding
-    → result ≡ option_map (λ e. (e.0, is_over e.1.cancelled)) (find (λ e. is_ended now e.1) s.outstanding.entries) → EndedIs agent now result
-ended_is s agent now result view_is ordered kept told = subst (EndedIs agent now) (sym told) (by (find (λ e. is_ended now e.1) s.outstanding.entries) refl)
-  where
-    by : (found : Option Entry) → find (λ e. is_ended now e.1) s.outstanding.entries ≡ found → EndedIs agent now (option_map (λ e. (e.0, is_over e.1.cancelled)) found)
-    by None is = none_first (is_ended now) s agent view_is is
-    by (Some e) is = (e.1, first_is_least (is_ended now) s agent e view_is ordered kept is, refl)
+pub ended_is : (s : Inside) (agent : Agent) (now : ℕ) (result : Option (ℕ × Bool)) → agent_of s ≡ agent → EndedIn s.outstanding.by_number now result → EndedIn agent.outstanding now result
+ended_is s agent now result view_is told = subst (λ m. EndedIn m now result) (same_map s agent view_is) told
 
 -- ---- what comes next
 
-pub next_is : (s : Inside) (agent : Agent) (now least : ℕ) → agent_of s ≡ agent → now ≤ moment_after now longest_wait → Kept s.outstanding
-    → IsLeastOf (moment_after now longest_wait) (map_list (λ e. next_moment (is_tcp agent.transport) e.1) s.outstanding.entries) least → IsNext agent now (max now least)
-next_is s agent now least view_is hour kept told =
-    let most = moment_after now longest_wait in
-    let next = next_moment (is_tcp agent.transport) in
-    let within = told.within in
-    record {
-      from_now = omega arith;
-      within = (let all : max now least ≤ most = omega (arith, within, hour) in all);
-      no_later = λ number t there.
-          let below = below_found next least s.outstanding.entries number t told.below (sym (get_number s agent number view_is) ∙ there) in
-          (let all : max now least ≤ max now (next t) = omega (arith, below) in all);
-      reached = elim told.reached [
-        | inl same ↦ inl (let all : max now least ≡ most = omega (arith, same, hour) in all)
-        | inr found ↦
-            let given = given_by (λ e. tree.get nat_cmp s.outstanding e.0 ≡ Some e.1) next least s.outstanding.entries kept found in
-            inr (given.0.0, given.0.1, get_number s agent given.0.0 view_is ∙ given.1, ap (max now) given.2)
-      ];
-    }
+-- the transport of the requests is the agent's
+same_tcp : (s : Inside) (agent : Agent) → agent_of s ≡ agent → s.outstanding.is_tcp ≡ is_tcp s.transport → s.outstanding.is_tcp ≡ is_tcp agent.transport
+same_tcp s agent view_is tcp = tcp ∙ ap (λ (a : Agent). is_tcp a.transport) view_is
 
--- the same, by what is told of the longest wait and of the transport
-pub next_by : (s : Inside) (agent : Agent) (now least until most : ℕ) (tcp : Bool) → agent_of s ≡ agent → now ≤ most → Kept s.outstanding
-    → most ≡ moment_after now longest_wait → tcp ≡ is_tcp agent.transport → IsLeastOf most (map_list (λ e. next_moment tcp e.1) s.outstanding.entries) least → until ≡ max now least → IsNext agent now until
-next_by s agent now least until most tcp view_is later kept hour transport told is =
-    let by_hour = subst (λ m. IsLeastOf m (map_list (λ e. next_moment tcp e.1) s.outstanding.entries) least) hour told in
-    let least_is = subst (λ t. IsLeastOf (moment_after now longest_wait) (map_list (λ e. next_moment t e.1) s.outstanding.entries) least) transport by_hour in
-    subst (IsNext agent now) (sym is) (next_is s agent now least view_is (subst (λ m. now ≤ m) hour later) kept least_is)
+same_requests : (s : Inside) (agent : Agent) → agent_of s ≡ agent → s.outstanding.is_tcp ≡ is_tcp s.transport → s.outstanding ≡ record { is_tcp = is_tcp agent.transport; by_number = agent.outstanding }
+same_requests s agent view_is tcp = λ i. record { is_tcp = same_tcp s agent view_is tcp i; by_number = same_map s agent view_is i }
+
+pub none_before : (s : Inside) (agent : Agent) (now : ℕ) → agent_of s ≡ agent → NoneEnded agent now → kept.NoneEnded s.outstanding now
+none_before s agent now view_is none = subst (kept.NonePasses (is_ended now)) (sym (same_map s agent view_is)) none
+
+pub next_by : (s : Inside) (agent : Agent) (now until most : ℕ) → agent_of s ≡ agent → s.outstanding.is_tcp ≡ is_tcp s.transport → most ≡ moment_after now longest_wait → kept.IsNext s.outstanding now most until → IsNext agent now until
+next_by s agent now until most view_is tcp hour told =
+    let next = subst (λ n. kept.IsNext (record { is_tcp = is_tcp agent.transport; by_number = agent.outstanding }) now n until) hour
+    (subst (λ r. kept.IsNext r now most until) (same_requests s agent view_is tcp) told) in
+    record { from_now = next.from_now; within = next.within; no_later = next.no_later; reached = next.reached }
 
 -- ---- what is due
 
-abbrev DueIs : Agent → ℕ → Option ℕ → Type 0
-DueIs agent now found = MatchOption found (NoneDue agent now) (λ number. (t : Transaction) × IsLeast (is_due_of agent now) agent.outstanding number t)
+abbrev DueIn : Requests → ℕ → Option ℕ → Type 0
+DueIn r now found = MatchOption found (kept.NonePasses (is_due r.is_tcp now) r.by_number) (λ number. (t : Transaction) × IsLeast (is_due r.is_tcp now) r.by_number number t)
 
-pub due_is : (s : Inside) (agent : Agent) (now : ℕ) (tcp : Bool) (result : Option ℕ) → agent_of s ≡ agent → tcp ≡ is_tcp agent.transport → tree.IsOrdered nat_cmp s.outstanding → Kept s.outstanding
-    → result ≡ option_map (λ e. e.0) (find (λ e. is_due tcp now e.1) s.outstanding.entries) → DueIs agent now result
-due_is s agent now tcp result view_is transport ordered kept told =
-    subst (DueIs agent now) (sym (told ∙ ap (λ t. option_map (λ e. e.0) (find (λ e. is_due t now e.1) s.outstanding.entries)) transport)) (by (find (λ e. is_due_of agent now e.1) s.outstanding.entries) refl)
-  where
-    by : (found : Option Entry) → find (λ e. is_due_of agent now e.1) s.outstanding.entries ≡ found → DueIs agent now (option_map (λ e. e.0) found)
-    by None is = none_first (is_due_of agent now) s agent view_is is
-    by (Some e) is = (e.1, first_is_least (is_due_of agent now) s agent e view_is ordered kept is)
-
--- what is counted
-abbrev CountedAs : Agent → Agent → ℕ → Bool → Option Transaction → Type 0
-CountedAs old new number tcp found = MatchOption found (new ≡ old) (λ t. new ≡ kept_under old number (transmitted tcp t))
-
-counted_by : (s : Inside) (new : tree.BTreeMap ℕ Transaction) (agent : Agent) (number : ℕ) (tcp : Bool) (found : Option Transaction) → agent_of s ≡ agent
-    → MatchOption found (tree.IsUnchanged s.outstanding new) (λ t. tree.Updates nat_cmp s.outstanding new number (Some (transmitted tcp t))) → CountedAs agent (agent_of (record s { outstanding = new })) number tcp found
-counted_by s new agent number tcp None view_is same =
-    ap {B = Agent} (λ es. record (agent_of s) { outstanding = map.from_entries (map_list (λ e. (e.0, e.1)) es) }) same ∙ view_is
-counted_by s new agent number tcp (Some t) view_is updates = insert_number s new agent number (transmitted tcp t) view_is updates
-
-pub counts : (s : Inside) (new : tree.BTreeMap ℕ Transaction) (agent : Agent) (number : ℕ) (tcp : Bool) → agent_of s ≡ agent → tcp ≡ is_tcp agent.transport
-    → MatchOption (tree.get nat_cmp s.outstanding number) (tree.IsUnchanged s.outstanding new) (λ t. tree.Updates nat_cmp s.outstanding new number (Some (transmitted tcp t)))
-    → CountedAs agent (agent_of (record s { outstanding = new })) number (is_tcp agent.transport) (map.get agent.outstanding number)
-counts s new agent number tcp view_is transport told =
-    subst (λ (b : Bool). CountedAs agent (agent_of (record s { outstanding = new })) number b (map.get agent.outstanding number)) transport
-    (subst (CountedAs agent (agent_of (record s { outstanding = new })) number tcp) (sym (get_number s agent number view_is)) (counted_by s new agent number tcp (tree.get nat_cmp s.outstanding number) view_is told))
+pub due_is : (s : Inside) (agent : Agent) (now : ℕ) (result : Option ℕ) → agent_of s ≡ agent → s.outstanding.is_tcp ≡ is_tcp s.transport → DueIn s.outstanding now result → DueIn (record { is_tcp = is_tcp agent.transport; by_number = agent.outstanding }) now result
+due_is s agent now result view_is tcp told = subst (λ r. DueIn r now result) (same_requests s agent view_is tcp) told
 
 -- what is changed
-abbrev ChangedAs : Agent → Agent → ℕ → Change → Option Transaction → Type 0
-ChangedAs old new number change found = MatchOption found (new ≡ old) (λ t. new ≡ kept_under old number (changed change t))
+abbrev ChangedAs : Agent → Agent → ℕ → (Transaction → Transaction) → Option Transaction → Type 0
+ChangedAs old new number f found = MatchOption found (new ≡ old) (λ t. new ≡ kept_under old number (f t))
 
-changed_by : (s : Inside) (new : tree.BTreeMap ℕ Transaction) (agent : Agent) (number : ℕ) (change : Change) (found : Option Transaction) → agent_of s ≡ agent
-    → MatchOption found (tree.IsUnchanged s.outstanding new) (λ t. tree.Updates nat_cmp s.outstanding new number (Some (changed change t))) → ChangedAs agent (agent_of (record s { outstanding = new })) number change found
-changed_by s new agent number change None view_is same =
-    ap {B = Agent} (λ es. record (agent_of s) { outstanding = map.from_entries (map_list (λ e. (e.0, e.1)) es) }) same ∙ view_is
-changed_by s new agent number change (Some t) view_is updates = insert_number s new agent number (changed change t) view_is updates
+abbrev KeptAs : Requests → Requests → ℕ → (Transaction → Transaction) → Option Transaction → Type 0
+KeptAs old new number f found = MatchOption found (new ≡ old) (λ t. new ≡ with_number old number (f t))
 
-pub changes : (s : Inside) (new : tree.BTreeMap ℕ Transaction) (agent : Agent) (number : ℕ) (change : Change) → agent_of s ≡ agent
-    → MatchOption (tree.get nat_cmp s.outstanding number) (tree.IsUnchanged s.outstanding new) (λ t. tree.Updates nat_cmp s.outstanding new number (Some (changed change t)))
-    → ChangedAs agent (agent_of (record s { outstanding = new })) number change (map.get agent.outstanding number)
-changes s new agent number change view_is told =
-    subst (ChangedAs agent (agent_of (record s { outstanding = new })) number change) (sym (get_number s agent number view_is)) (changed_by s new agent number change (tree.get nat_cmp s.outstanding number) view_is told)
+changed_by : (s : Inside) (new : Requests) (agent : Agent) (number : ℕ) (f : Transaction → Transaction) (found : Option Transaction) → agent_of s ≡ agent
+    → KeptAs s.outstanding new number f found → ChangedAs agent (agent_of (record s { outstanding = new })) number f found
+changed_by s new agent number f None view_is same = ap {A = Requests} {B = Agent} (λ r. record (agent_of s) { outstanding = r.by_number }) same ∙ view_is
+changed_by s new agent number f (Some t) view_is is = insert_number s new agent number (f t) view_is is
+
+pub changes : (s : Inside) (new : Requests) (agent : Agent) (number : ℕ) (f : Transaction → Transaction) → agent_of s ≡ agent → KeptAs s.outstanding new number f (map.get s.outstanding.by_number number)
+    → ChangedAs agent (agent_of (record s { outstanding = new })) number f (map.get agent.outstanding number)
+changes s new agent number f view_is told =
+    subst (ChangedAs agent (agent_of (record s { outstanding = new })) number f) (sym (get_number s agent number view_is)) (changed_by s new agent number f (map.get s.outstanding.by_number number) view_is told)
+
+-- the transport stays
+kept_tcp : (old new : Requests) (number : ℕ) (f : Transaction → Transaction) (found : Option Transaction) → KeptAs old new number f found → new.is_tcp ≡ old.is_tcp
+kept_tcp old new number f None same = ap (λ (r : Requests). r.is_tcp) same
+kept_tcp old new number f (Some t) is = ap (λ (r : Requests). r.is_tcp) is
+
+pub stays : (s : Inside) (new : Requests) (number : ℕ) (f : Transaction → Transaction) → s.outstanding.is_tcp ≡ is_tcp s.transport → KeptAs s.outstanding new number f (map.get s.outstanding.by_number number) → new.is_tcp ≡ is_tcp s.transport
+stays s new number f tcp told = kept_tcp s.outstanding new number f (map.get s.outstanding.by_number number) told ∙ tcp
+
+-- what is counted
+pub counts : (s : Inside) (new : Requests) (agent : Agent) (number : ℕ) → agent_of s ≡ agent → s.outstanding.is_tcp ≡ is_tcp s.transport
+    → KeptAs s.outstanding new number (transmitted s.outstanding.is_tcp) (map.get s.outstanding.by_number number)
+    → ChangedAs agent (agent_of (record s { outstanding = new })) number (transmitted (is_tcp agent.transport)) (map.get agent.outstanding number)
+counts s new agent number view_is tcp told =
+    subst (λ (b : Bool). ChangedAs agent (agent_of (record s { outstanding = new })) number (transmitted b) (map.get agent.outstanding number)) (same_tcp s agent view_is tcp)
+    (changes s new agent number (transmitted s.outstanding.is_tcp) view_is told)
 
 -- what is told of the request of a number
-pub request_told : (s : Inside) (agent : Agent) (number : ℕ) (found : Option Transaction) (result : Option (SocketAddr × Option IntegrityAlgorithm)) → agent_of s ≡ agent → found ≡ tree.get nat_cmp s.outstanding number
+pub request_told : (s : Inside) (agent : Agent) (number : ℕ) (found : Option Transaction) (result : Option (SocketAddr × Option IntegrityAlgorithm)) → agent_of s ≡ agent → found ≡ map.get s.outstanding.by_number number
     → result ≡ option_map (λ (t : Transaction). (t.to, integrity_of t)) found → result ≡ option_map (λ (t : Transaction). (t.to, integrity_of t)) (map.get agent.outstanding number)
 request_told s agent number found result view_is is told = told ∙ ap (option_map (λ (t : Transaction). (t.to, integrity_of t))) (is ∙ sym (get_number s agent number view_is))

@@ -1,5 +1,5 @@
 pub mod AgentMaps
-pub mod Leasts
+pub use Rattle.stun_proto_transaction.proofs.Leasts
 pub mod Numbers
 pub mod Quiet
 pub mod Sent

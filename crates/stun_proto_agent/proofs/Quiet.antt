@@ -1,13 +1,13 @@
 -- When transmissions come, and when nothing does.
-use Rattle.std.proofs.Common.{◌≡◌, ℕ, suc, ◌+◌, ◌-◌, ◌<◌, ◌≤◌, arith, Bool, true, false, Some, refl, ap, ◌∙◌, subst}
-use Rattle.std.specs.Prelude.{nat_le, nat_lt, ◌&&◌, ◌||◌, if◌then◌else◌}
+use Rattle.std.proofs.Common.{◌≡◌, ℕ, suc, ◌+◌, ◌<◌, ◌≤◌, arith, Bool, true, false, Some, refl, ap, ◌∙◌}
+use Rattle.std.specs.Prelude.{nat_le, ◌&&◌, ◌||◌, if◌then◌else◌}
 use Rattle.std.specs.FinMap as map
-use Rattle.std.specs.List.{sum}
-use Rattle.std.proofs.lemmas.Bool.{leb-true, lt-leb}
+use Rattle.std.proofs.lemmas.Bool.{lt-leb}
 use Rattle.stun_proto_transaction.specs.Moments.{moment_after}
-use Rattle.stun_proto_transaction.specs.Schedule.{Waits, end_at, slot_at, transmissions, wait_at, waits_behind}
-use Rattle.stun_proto_transaction.proofs.Summing.{sum_grows, sum_more}
-use Rattle.stun_proto_transaction.specs.Agents.{Transaction, goes_on, has_left, is_due, is_ended, is_over, next_moment, next_slot}
+use Rattle.stun_proto_transaction.specs.Schedule.{Waits, end_at, slot_at, wait_at}
+pub use Rattle.stun_proto_transaction.proofs.Slots.{slot_before_end}
+use Rattle.stun_proto_transaction.proofs.Summing.{sum_more}
+use Rattle.stun_proto_transaction.specs.Agents.{Transaction, has_left, is_due, is_ended, is_over, next_moment, next_slot}
 use Rattle.stun_proto_agent.specs.Sending.{is_due_of}
 use Rattle.stun_proto_agent.specs.State.{Agent, IsNext, NoneEnded, is_tcp}
 
@@ -17,25 +17,6 @@ slots_apart sent place waits =
     let more = sum_more waits place in
     let same : place + 1 ≡ suc place = omega arith in
     ap (slot_at sent waits) same ∙ (let all : slot_at sent waits (suc place) ≡ moment_after (slot_at sent waits place) (wait_at waits place) = omega (arith, more) in all)
-
--- how often is transmitted over TCP is no more than over UDP
-tcp_once : (tcp : Bool) (waits : Waits) → transmissions tcp waits ≤ transmissions false waits
-tcp_once true waits = omega arith
-tcp_once false waits = omega arith
-
-both : (a b : Bool) → (a && b) ≡ true → b ≡ true
-both true b is = is
-both false b is = absurd (Prim.cc is)
-
--- a transmission that is left comes before the end
-pub slot_before_end : (tcp : Bool) (t : Transaction) → has_left tcp t ≡ true → next_slot t ≤ end_at t.sent t.waits
-slot_before_end tcp t left =
-    let used = leb-true (suc t.used) (transmissions tcp t.waits) (both (goes_on t.cancelled) (nat_lt t.used (transmissions tcp t.waits)) left) in
-    let most = tcp_once tcp t.waits in
-    let grows = sum_grows t.waits t.used (transmissions false t.waits - 1 - t.used) in
-    let same : t.used + (transmissions false t.waits - 1 - t.used) ≡ transmissions false t.waits - 1 = omega (arith, used, most) in
-    let last : sum (waits_behind t.waits t.used) ≤ sum (waits_behind t.waits (transmissions false t.waits - 1)) = subst (λ n. sum (waits_behind t.waits t.used) ≤ sum (waits_behind t.waits n)) same grows in
-    omega (arith, last)
 
 -- what is next is no later than the end
 next_before_end : (tcp : Bool) (t : Transaction) → next_moment tcp t ≤ end_at t.sent t.waits

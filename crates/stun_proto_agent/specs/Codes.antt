@@ -1,5 +1,5 @@
 -- The code of an agent, by which proofs tell its values apart.
-use Rattle.std.specs.Prelude.{ℕ, Bool, true, Option, ⊤, refl}
+use Rattle.std.specs.Prelude.{Bool, true, Option, ⊤, refl}
 use Rattle.std.specs.Coded.{Coded, code_by, coded×, coded_ℕ, coded_bool, coded_option}
 use Rattle.std.specs.FinMap as map
 use Rattle.std.specs.Ordering.{nat_cmp}

@@ -3,7 +3,7 @@ pub mod AgentRest
 pub use Rattle.stun_proto_transaction.specs.Agents
 pub mod Codes
 pub mod Handling
-pub mod Least
+pub use Rattle.stun_proto_transaction.specs.Least
 pub mod Numbers
 pub use Rattle.stun_proto_transaction.specs.Moments
 pub use Rattle.stun_proto_transaction.specs.Schedule

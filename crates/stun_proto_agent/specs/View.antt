@@ -1,7 +1,7 @@
 -- The agent that the fields of a `StunAgent` hold.
-use Rattle.std.specs.Prelude.{map}
+use Rattle.std.specs.Prelude.{◌≡◌, map}
 use Rattle.std.specs.FinMap as finite
-use Rattle.stun_proto_agent.specs.State.{Agent}
+use Rattle.stun_proto_agent.specs.State.{Agent, is_tcp}
 use Rattle.stun_proto_agent.specs.declared.agent.StunAgent.TheInside.{Inside}
 
 abbrev pub agent_of : Inside → Agent
@@ -10,6 +10,10 @@ agent_of a = record {
   here = a.local;
   remote = a.remote;
   waits = a.waits;
-  outstanding = finite.from_entries (map (λ e. (e.0, e.1)) a.outstanding.entries);
+  outstanding = a.outstanding.by_number;
   validated = finite.from_entries (map (λ e. (e.0, e.1)) a.validated.entries);
 }
+
+-- the requests that are outstanding go by the agent's transport
+abbrev pub IsAgent : Inside → Type 0
+IsAgent a = a.outstanding.is_tcp ≡ is_tcp a.transport

@@ -10,7 +10,6 @@ ghost use Rattle.stun_proto_agent.specs.Sending.{NoneDue, begun, is_due_of, kept
 ghost use Rattle.stun_proto_agent.specs.State.{IsNext, IsPolled, NoneEnded, is_tcp, longest_wait};
 ghost use Rattle.stun_proto_transaction.specs.Moments.{moment_after};
 
-use crate::outstanding::{Outstanding, change, first_due, first_ended, least_moment, transmit};
 use std::alloc::Global;
 use std::collections::BTreeMap;
 use std::marker::Model;
@@ -18,6 +17,7 @@ use std::net::SocketAddr;
 use std::time::Duration;
 use stun_proto_transaction::instant::Instant;
 use stun_proto_transaction::message::{IntegrityAlgorithm, TransactionId};
+use stun_proto_transaction::outstanding::Outstanding;
 use stun_proto_transaction::transaction::{Change, Transaction};
 use stun_proto_transaction::waits::Waits;
 use stun_proto_transaction::{NoMemory, TransportType};
@@ -85,7 +85,11 @@ impl Model for StunAgent {
 
     ghost coded = { agent_code };
 
+    ghost use Rattle.stun_proto_agent.specs.View.{IsAgent};
+
     ghost view = { agent_of };
+
+    ghost invariant = { IsAgent };
 }
 
 impl StunAgent {
@@ -112,7 +116,7 @@ impl StunAgent {
             local,
             remote,
             waits,
-            outstanding: BTreeMap::new(alloc),
+            outstanding: Outstanding::new(alloc, goes_by_tcp(transport)),
             validated: BTreeMap::new(alloc),
         }
     }
@@ -153,8 +157,11 @@ impl StunAgent {
     /// Where none has ended, nothing changes, and the answer is the moment until which nothing is to be
     /// done. It is the least of the next moments at which a transmission is due or a transaction ends, but
     /// no earlier than now, and no later than an hour from now. It is now where a transmission is due that
-    /// `poll_transmit` was not asked for. What it costs grows with the number of outstanding requests
-    /// alone.
+    /// `poll_transmit` was not asked for.
+    ///
+    /// With nothing due and none ended it takes no walk over the outstanding requests, except that the first
+    /// call behind one that ended or delayed the request of the earliest moment walks over their moments once.
+    /// Where one has ended, it walks over the moments up to that one, and the next call goes on from there.
     pub fn poll(&mut self, now: Instant) -> StunAgentPollRet
         ensures { IsPolled self.old now result self.new }
     {
@@ -171,19 +178,20 @@ impl StunAgent {
 
     /// The number of the transaction of least number that has ended at a moment, where one has, and
     /// whether it is cancelled as a whole.
-    fn ended(&self, now: Instant) -> Option<(TransactionId, bool)>
-        ensures { MatchOption result (NoneEnded self.now now) (λ found. (t : Transaction)
-            × IsLeast (is_ended now) self.now.outstanding found.0 t
+    fn ended(&mut self, now: Instant) -> Option<(TransactionId, bool)>
+        ensures found { MatchOption result (NoneEnded self.old now) (λ found. (t : Transaction)
+            × IsLeast (is_ended now) self.old.outstanding found.0 t
             × (is_over t.cancelled ≡ found.1)) }
+        ensures state { self.new ≡ self.old }
     {
-        first_ended(&self.outstanding, now)
+        self.outstanding.first_ended(now)
     }
 
     /// Whether a request of this number is outstanding.
     pub(crate) fn is_outstanding(&self, number: TransactionId) -> bool
         ensures { result ≡ is_some (finite.get self.now.outstanding number) }
     {
-        self.outstanding.contains_key(&number)
+        self.outstanding.get(number).is_some()
     }
 
     /// The bytes of the request of this number; none, where there is no such request.
@@ -191,7 +199,7 @@ impl StunAgent {
         ensures { MatchOption (finite.get self.now.outstanding number) (result.now ≡ [])
             (λ t. result.now ≡ t.bytes) }
     {
-        match self.outstanding.get(&number) {
+        match self.outstanding.get(number) {
             Some(transaction) => transaction.bytes(),
             None => &[],
         }
@@ -202,7 +210,7 @@ impl StunAgent {
         ensures { result ≡ option_map (λ (t : Transaction). t.to)
             (finite.get self.now.outstanding number) }
     {
-        match self.outstanding.get(&number) {
+        match self.outstanding.get(number) {
             Some(transaction) => Some(transaction.to()),
             None => None,
         }
@@ -213,7 +221,7 @@ impl StunAgent {
         ensures { MatchOption (finite.get self.old.outstanding number) (self.new ≡ self.old)
             (λ t. self.new ≡ kept_under self.old number (changed with t)) }
     {
-        change(&mut self.outstanding, number, with);
+        self.outstanding.change(number, with);
     }
 
     /// Where the request of a number goes, and the algorithm of the last integrity attribute that it
@@ -225,18 +233,19 @@ impl StunAgent {
         ensures { result ≡ option_map (λ (t : Transaction). (t.to, integrity_of t))
             (finite.get self.now.outstanding number) }
     {
-        match self.outstanding.get(&number) {
+        match self.outstanding.get(number) {
             Some(transaction) => Some((transaction.to(), transaction.integrity())),
             None => None,
         }
     }
 
     /// The number of the request of least number of which a transmission is due, where there is one.
-    pub(crate) fn due(&self, now: Instant) -> Option<TransactionId>
-        ensures { MatchOption result (NoneDue self.now now) (λ number. (t : Transaction)
-            × IsLeast (is_due_of self.now now) self.now.outstanding number t) }
+    pub(crate) fn due(&mut self, now: Instant) -> Option<TransactionId>
+        ensures found { MatchOption result (NoneDue self.old now) (λ number. (t : Transaction)
+            × IsLeast (is_due_of self.old now) self.old.outstanding number t) }
+        ensures state { self.new ≡ self.old }
     {
-        first_due(&self.outstanding, self.is_tcp(), now)
+        self.outstanding.first_due(now)
     }
 
     /// Counts a transmission of the request of a number, where it is outstanding and one is left.
@@ -245,8 +254,7 @@ impl StunAgent {
             (λ t. self.new
             ≡ kept_under self.old number (transmitted (is_tcp self.old.transport) t)) }
     {
-        let is_tcp = self.is_tcp();
-        transmit(&mut self.outstanding, number, is_tcp);
+        self.outstanding.transmit(number);
     }
 
     /// Keeps a request as outstanding, in place of one of that number. Where memory is refused, nothing
@@ -286,25 +294,27 @@ impl StunAgent {
         ensures { self.new
             ≡ record self.old { outstanding = finite.remove self.old.outstanding number } }
     {
-        self.outstanding.remove(&number);
+        self.outstanding.remove(number);
     }
 
     /// The least of the next moments, not earlier than now and not later than the longest wait.
-    fn next_moment(&self, now: Instant) -> Instant
-        ensures { IsNext self.now now result }
+    fn next_moment(&mut self, now: Instant) -> Instant
+        requires { NoneEnded self.old now }
+        ensures next { IsNext self.old now result }
+        ensures state { self.new ≡ self.old }
     {
         let most = hour_after(now);
-        later(now, least_moment(&self.outstanding, self.is_tcp(), most))
+        self.outstanding.next_moment(now, most)
     }
+}
 
-    /// Whether the transport is TCP.
-    fn is_tcp(&self) -> bool
-        ensures { result ≡ is_tcp self.now.transport }
-    {
-        match self.transport {
-            TransportType::Tcp => true,
-            TransportType::Udp => false,
-        }
+/// Whether a transport is TCP.
+fn goes_by_tcp(transport: TransportType) -> bool
+    ensures { result ≡ is_tcp transport }
+{
+    match transport {
+        TransportType::Tcp => true,
+        TransportType::Udp => false,
     }
 }
 
@@ -314,11 +324,4 @@ fn hour_after(now: Instant) -> Instant
     ensures later { now ≤ result }
 {
     now.saturating_add(Duration::from_secs(LONGEST_WAIT))
-}
-
-/// The later of two moments.
-fn later(first: Instant, second: Instant) -> Instant
-    ensures { result ≡ max first second }
-{
-    first.max(second)
 }

@@ -9,7 +9,6 @@ pub mod handling;
 pub use stun_proto_transaction::instant;
 
 pub mod laws;
-mod outstanding;
 pub mod request;
 pub mod sending;
 pub mod transmitting;

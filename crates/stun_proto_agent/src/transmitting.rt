@@ -18,8 +18,11 @@ impl StunAgent {
     /// What is due to be sent again at a moment (RFC 8489, section 6.2.1): the request of least number of
     /// which a transmission is left whose moment isn't later, with its own bytes, to where it went. It
     /// counts as made. One call answers one transmission: call it again until it answers `None`, which
-    /// means that none is due and that nothing has changed. What it costs grows with the number of
-    /// outstanding requests alone.
+    /// means that none is due and that nothing has changed.
+    ///
+    /// With nothing due it takes no walk over the outstanding requests, except once over their moments where
+    /// the earliest has come, and its request has ended or was delayed meanwhile. Where one is due, it walks
+    /// over the moments up to that one, and the next call goes on from there.
     pub fn poll_transmit<'a>(&'a mut self, now: Instant) -> Option<Transmit<&'a [u8]>>
         ensures sent { MatchOption result (NoneDue self.old now) (IsDueSent self.old now) }
         ensures* state { sem 𝓛 (AgentRests self.entry (λ new. IsAfterTransmit self.old now new)) }

@@ -9,6 +9,7 @@ use Rattle.stun_proto_transaction.specs.declared.transaction.Change.{Change}
 use Rattle.stun_proto_transaction.specs.declared.transaction.Change.TheVariants.{Cancel, CancelRetransmissions, ConfigureTimeout}
 use Rattle.stun_proto_transaction.specs.declared.transaction.Cancelled.{Cancelled}
 use Rattle.stun_proto_transaction.specs.declared.transaction.Cancelled.TheVariants.{Nothing, Retransmissions, Whole}
+use Rattle.stun_proto_schedule.specs.Moments.{greatest_moment}
 use Rattle.stun_proto_schedule.specs.Schedule.{Waits, end_at, slot_at, transmissions}
 
 -- a request that is outstanding: its bytes and where they go, the moment at which it was sent, how many
@@ -59,6 +60,14 @@ is_ended now t = is_over t.cancelled || nat_le (end_at t.sent t.waits) now
 -- or, where none is left, its end
 abbrev pub next_moment : Bool → Transaction → ℕ
 next_moment is_tcp t = if has_left is_tcp t then next_slot t else end_at t.sent t.waits
+
+-- the moment from which a transmission is due: that of the next one; the greatest moment where none is left
+abbrev pub sends_from : Bool → Transaction → ℕ
+sends_from is_tcp t = if has_left is_tcp t then next_slot t else greatest_moment
+
+-- the moment from which a transaction has ended: its end; the start where it is cancelled as a whole
+abbrev pub ends_from : Transaction → ℕ
+ends_from t = if is_over t.cancelled then 0 else end_at t.sent t.waits
 
 -- a transaction with one more transmission made, where one is left
 abbrev pub transmitted : Bool → Transaction → Transaction

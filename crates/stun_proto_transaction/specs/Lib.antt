@@ -1,5 +1,12 @@
 pub mod Agents
+pub mod KeptMoments
+pub mod KeptRequests
+pub mod Least
+pub mod OutstandingCodes
+pub mod Sorted
+pub mod Sound
 pub mod TransactionCodes
+pub mod Watched
 -- What stands above this crate has these through it.
 pub use Rattle.stun_proto_schedule.specs.Moments
 pub use Rattle.stun_proto_schedule.specs.Schedule

@@ -4,7 +4,7 @@
 ghost use Rattle.std.specs.Prelude.{◌≡◌, ◌+◌, ◌<◌, ◌≤◌, ◌^◌, true};
 ghost use Rattle.stun_types.specs.Grammar.{shown};
 ghost use Rattle.stun_types.specs.MessageValidation.{last_algorithm};
-ghost use Rattle.stun_proto_transaction.specs.Agents.{changed, goes_on, has_left, is_due, is_ended, integrity_of, is_over, next_moment, next_slot, transmitted, without_retransmissions};
+ghost use Rattle.stun_proto_transaction.specs.Agents.{changed, ends_from, goes_on, has_left, integrity_of, is_due, is_over, next_slot, sends_from, transmitted, without_retransmissions};
 ghost use Rattle.stun_proto_schedule.specs.Schedule.{transmissions};
 
 use std::marker::Model;
@@ -148,19 +148,23 @@ impl Transaction {
         self.has_left(is_tcp) && self.next_slot() <= now
     }
 
-    /// Whether the transaction has ended at a moment.
-    pub fn is_ended(&self, now: Instant) -> bool
-        ensures { result ≡ is_ended now self.now }
-    {
-        self.is_over() || self.waits.end(self.sent) <= now
-    }
-
-    /// The next moment at which there is something to do.
-    pub fn next_moment(&self, is_tcp: bool) -> Instant
-        ensures { result ≡ next_moment is_tcp self.now }
+    /// The moment from which a transmission is due; the greatest moment where none is left.
+    pub fn sends_from(&self, is_tcp: bool) -> Instant
+        ensures { result ≡ sends_from is_tcp self.now }
     {
         if self.has_left(is_tcp) {
             self.next_slot()
+        } else {
+            Instant::from_nanos(u64::MAX)
+        }
+    }
+
+    /// The moment from which the transaction has ended; the start where it is cancelled as a whole.
+    pub fn ends_from(&self) -> Instant
+        ensures { result ≡ ends_from self.now }
+    {
+        if self.is_over() {
+            Instant::ZERO
         } else {
             self.waits.end(self.sent)
         }

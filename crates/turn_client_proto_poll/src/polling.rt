@@ -204,6 +204,8 @@ fn ask_socket(protocol: &mut Protocol) -> Option<TurnPollRet>
     ensures after { IfSome result (λ _. protocol.new ≡ after_asking protocol.old) }
     ensures none { IfNone result (protocol.new ≡ protocol.old) }
 {
+    // It only helps the proof: the checker has to know where the type of the agent's numbers stands.
+    let _none: Option<TransactionId> = None;
     let first = ask_first(protocol.allocations.as_mut_slice())?;
     Some(TurnPollRet::AllocateTcpSocket {
         id: first.connection,
