@@ -114,6 +114,35 @@ def hmacs(rows):
     rows.ask("Hmac { .. } IntegrityKey { .. }", "hidden", password="pass")
 
 
+def third(text):
+    return text[: len(text) // 3]
+
+
+def hmacs_again(rows):
+    """HMACs of several texts under one key, in both orders: the vectors, and keys about the size of a block."""
+    rows.remark("a key and a text: its HMACs, those of its first third, its own again; and the third first")
+    texts = [(key, text) for key, text, _, _ in HMACS]
+    texts += [(numbered(key), numbered(size)) for key in (0, 1, 63, 64, 65, 200) for size in (0, 3, 55, 165)]
+    for key, text in texts:
+        order = [text, third(text), text, third(text), text]
+        answer = " ".join(f"{hmac_of(SHA1, key, it).hex()} {hmac_of(SHA256, key, it).hex()}" for it in order)
+        rows.ask(f"{answer} hmac", "hmac-again", value=in_hex(key), bytes=in_hex(text))
+
+
+def signed_again(rows):
+    """The same of keys of passwords and of users, for each algorithm, and of their clones."""
+    rows.remark("a key and a text: what it and a clone sign of the text and of its first third, in both orders")
+    passwords = [("p" * size, "-", "-") for size in (0, 1, 63, 64, 65, 200)]
+    for of in [PASS, USER, SAMPLE, *passwords]:
+        for by in (SHA1, SHA256):
+            for text in (b"", b"what do ya want for nothing?", numbered(165)):
+                key = key_of(by, *of)
+                order = [text, third(text), text, third(text), text]
+                answer = " ".join(hmac_of(by, key, it).hex() for it in order)
+                given = {"algorithm": WORDS[by], **credentials(of), "bytes": in_hex(text)}
+                rows.ask(f"{answer} true {by}", "sign-again", **given)
+
+
 FOX = b"The quick brown fox jumps over the lazy dog"
 CRCS = [
     (b"", 0),
@@ -465,8 +494,8 @@ def refusals(rows):
 
 
 def sections():
-    makers = [hmacs, crcs, fingerprints, signatures, verifications, equalities, nonces, tellings]
-    for make in [*makers, judgements, refusals]:
+    makers = [hmacs, hmacs_again, crcs, fingerprints, signatures, signed_again, verifications, equalities]
+    for make in [*makers, nonces, tellings, judgements, refusals]:
         rows = Section("values")
         make(rows)
         yield rows

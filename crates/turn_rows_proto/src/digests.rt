@@ -36,6 +36,32 @@ pub(crate) fn hmacs(key: &[u8], bytes: &[u8], text: &mut String) -> Result<(), L
     Ok(text.push_str("hmac")?)
 }
 
+/// Appends the HMACs, by HMAC-SHA1 and HMAC-SHA256, of a text, of its first third and of the text again under
+/// one key, and then of the third first under the same key once more.
+pub(crate) fn hmacs_again(key: &[u8], bytes: &[u8], text: &mut String) -> Result<(), LineError> {
+    let (sha1, sha256) = (HmacSha1::new(key), HmacSha256::new(key));
+    let (other_sha1, other_sha256) = (sha1.again(), sha256.again());
+    let [head, middle, tail] = thirds(bytes);
+    let none: &[u8] = &[];
+    for [one, two, three] in [
+        [head, middle, tail],
+        [head, none, none],
+        [none, none, bytes],
+    ] {
+        push_hex(text, &sha1.with_pieces(one, two, three))?;
+        text.push_str(" ")?;
+        push_hex(text, &sha256.with_pieces(one, two, three))?;
+        text.push_str(" ")?;
+    }
+    for [one, two, three] in [[none, head, none], [head, middle, tail]] {
+        push_hex(text, &other_sha1.with_pieces(one, two, three))?;
+        text.push_str(" ")?;
+        push_hex(text, &other_sha256.with_pieces(one, two, three))?;
+        text.push_str(" ")?;
+    }
+    Ok(text.push_str("hmac")?)
+}
+
 /// Appends what is shown of keys: nothing.
 pub(crate) fn hidden(line: &Line<'_>, text: &mut String) -> Result<(), LineError> {
     let hmac = HmacSha1::new(line.password.as_bytes());

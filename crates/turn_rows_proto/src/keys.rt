@@ -105,6 +105,30 @@ fn key_of<'a>(line: &Line<'a>) -> IntegrityKey<'a> {
     }
 }
 
+/// Appends what the key of a line signs of a text, of its first third and of the text again, and what a clone
+/// of the key signs of the third first; and whether the two are equal, and for which algorithm the clone is.
+pub(crate) fn sign_again(
+    line: &Line<'_>,
+    bytes: &[u8],
+    text: &mut String,
+) -> Result<(), LineError> {
+    let key = key_of(line);
+    let same = key.clone()?;
+    let [head, middle, tail] = thirds(bytes);
+    for hmac in [
+        key.hmac(head, middle, tail),
+        key.hmac(head, &[], &[]),
+        key.hmac(&[], &[], bytes),
+        same.hmac(&[], head, &[]),
+        same.hmac(head, middle, tail),
+    ] {
+        push_hex(text, hmac.as_slice())?;
+        text.push_str(" ")?;
+    }
+    let is_equal = key == same;
+    Ok(write!(text, "{is_equal} {:?}", same.algorithm())?)
+}
+
 /// Appends whether a value is verified for a text under the key of a line: by MESSAGE-INTEGRITY, where it
 /// has twenty bytes, and by MESSAGE-INTEGRITY-SHA256; and whether the key signs the text so, or begins to.
 pub(crate) fn verify(

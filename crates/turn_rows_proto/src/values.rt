@@ -1,7 +1,7 @@
 //! Lines for what needs nothing that lasts.
 
-use crate::digests::{crcs, fingerprint, hidden, hmacs};
-use crate::keys::{equal, judge, sign, verify};
+use crate::digests::{crcs, fingerprint, hidden, hmacs, hmacs_again};
+use crate::keys::{equal, judge, sign, sign_again, verify};
 use crate::line::{Line, read};
 use crate::party::Party;
 use crate::waits::{moment, waits};
@@ -34,6 +34,7 @@ impl Party for Values {
             "hidden" => hidden(line, text),
             "equal" => equal(line, text),
             "sign" => sign(alloc, line, bytes, text),
+            "sign-again" => sign_again(line, bytes, text),
             "judge" => judge(alloc, line, bytes, text),
             "nonce" => nonce(alloc, line, text),
             "told" => push_features(NonceFeatures::told_by(line.nonce), text),
@@ -53,6 +54,7 @@ fn with_value(
     let value = read_hex(alloc, line.value)?;
     match line.what {
         "hmac" => hmacs(value.as_slice(), bytes, text),
+        "hmac-again" => hmacs_again(value.as_slice(), bytes, text),
         "verify" => verify(line, value.as_slice(), bytes, text),
         "fingerprint" => fingerprint(line, value.as_slice(), bytes, text),
         _ => Err(LineError::Bad),
