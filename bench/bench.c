@@ -1,14 +1,12 @@
 // Times the library through the static library stun_bench, and counts what it allocates. `run` builds
 // and runs it; docs/SPEED.md says how its lines are read.
 #include <float.h>
-#include <stdbool.h>
-#include <stddef.h>
-#include <stdint.h>
 #include <stdio.h>
 #include <stdlib.h>
 #include <string.h>
 #include <time.h>
 
+#include "bench.h"
 #include "samples.h"
 
 // ---- sizes in bytes, and other numbers of the format
@@ -16,8 +14,6 @@
 enum {
     SHA1_SIZE = 20,
     SHA256_SIZE = 32,
-    HEADER_SIZE = 20,           // of a message
-    ATTRIBUTE_HEADER_SIZE = 4,
     LIFETIME_SIZE = 8,          // with its header
     FINGERPRINT_SIZE = 8,       // with its header
     ERROR_CODE_SIZE = 28,       // of 420 with its reason, header and padding
@@ -34,7 +30,6 @@ enum {
     LIFETIME = 0x000d,
     MESSAGE_INTEGRITY_SHA256 = 0x001c,
     CHANNEL = 0x4001,
-    PAYLOAD = 1200,             // of a frame that is written
     FRAME_DATA = 60,            // of each frame of a stream
     FRAME_SIZE = 64,            // with its header
     FRAMES_FEW = 10,            // in one piece
@@ -47,11 +42,6 @@ enum {
 
 struct answer {
     bool known, holds;
-};
-
-struct allocation {
-    uint32_t relayed_ip, mapped_ip, lifetime;
-    uint16_t relayed_port, mapped_port;
 };
 
 void stun_bench_sha1(const uint8_t *text, size_t len, uint8_t digest[SHA1_SIZE]);
@@ -90,6 +80,16 @@ size_t stun_bench_sign_request_sha1(const uint8_t *password, size_t password_len
                                     const uint8_t *nonce, size_t nonce_len, uint8_t *out,
                                     size_t out_len);
 
+size_t stun_bench_build_request_lent(uint32_t lifetime, uint64_t number, const uint8_t *user,
+                                     size_t user_len, const uint8_t *realm, size_t realm_len,
+                                     const uint8_t *nonce, size_t nonce_len, uint8_t *out,
+                                     size_t out_len);
+size_t stun_bench_sign_request_lent_sha1(const uint8_t *password, size_t password_len,
+                                         uint32_t lifetime, uint64_t number, const uint8_t *user,
+                                         size_t user_len, const uint8_t *realm, size_t realm_len,
+                                         const uint8_t *nonce, size_t nonce_len, uint8_t *out,
+                                         size_t out_len);
+
 size_t stun_bench_build_lent(const struct allocation *told, uint64_t number,
                              const uint8_t *software, size_t software_len, uint8_t *out,
                              size_t out_len);
@@ -104,15 +104,10 @@ size_t stun_bench_write_channel(uint16_t id, const uint8_t *data, size_t data_le
                                 size_t out_len);
 size_t stun_bench_feed(const uint8_t *bytes, size_t len, size_t size);
 size_t stun_bench_check_types(const uint8_t *bytes, size_t len, uint8_t *out, size_t out_len);
-size_t stun_bench_take(size_t channels, size_t rounds, const uint8_t *bytes, size_t len);
-size_t stun_bench_drain(size_t channels, size_t rounds, const uint8_t *bytes, size_t len,
-                        size_t size);
-size_t stun_bench_send(size_t channels, size_t rounds, uint16_t port, const uint8_t *bytes,
-                       size_t len, uint8_t *out, size_t out_len);
 
 // ---- what is counted: the linker sends each call of malloc and realloc here (--wrap)
 
-static size_t allocations;
+size_t allocations;
 
 void *__real_malloc(size_t size);
 void *__real_realloc(void *at, size_t size);
@@ -190,7 +185,8 @@ TIMED(look_up_request, sink += stun_bench_shows(WHOLE(request_sha1), ELEMENTS(re
 TIMED(parse_whole, sink += stun_bench_parse(WHOLE(response_whole)))
 TIMED(look_up_whole, sink += stun_bench_shows(WHOLE(response_whole), ELEMENTS(whole_types)))
 TIMED(read_whole, sink += stun_bench_read(WHOLE(response_whole), &told, &fingerprint))
-TIMED(key_alone, sink += stun_bench_validate_sha1(KEY, response_sha1, 0).known)
+TIMED(key_sha1, sink += stun_bench_validate_sha1(KEY, response_sha1, 0).known)
+TIMED(key_sha256, sink += stun_bench_validate_sha256(KEY, response_sha256, 0).known)
 TIMED(validate_response_sha1, sink += stun_bench_validate_sha1(KEY, WHOLE(response_sha1)).holds)
 TIMED(validate_whole_sha1, sink += stun_bench_validate_sha1(KEY, WHOLE(response_whole)).holds)
 TIMED(validate_request_sha1, sink += stun_bench_validate_sha1(KEY, WHOLE(request_sha1)).holds)
@@ -206,6 +202,8 @@ TIMED(mark_lent_sha1, sink += stun_bench_mark_lent_sha1(KEY, RESPONSE))
 TIMED(sign_sha256, sink += stun_bench_sign_sha256(KEY, RESPONSE))
 TIMED(build_request, sink += stun_bench_build_request(REQUEST))
 TIMED(sign_request_sha1, sink += stun_bench_sign_request_sha1(KEY, REQUEST))
+TIMED(build_request_lent, sink += stun_bench_build_request_lent(REQUEST))
+TIMED(sign_request_lent_sha1, sink += stun_bench_sign_request_lent_sha1(KEY, REQUEST))
 TIMED(fingerprint_response, sink += stun_bench_fingerprint(COVERED(response_whole)))
 TIMED(fingerprint_request, sink += stun_bench_fingerprint(COVERED(request_whole)))
 TIMED(parse_channel, sink += stun_bench_parse_channel(stream, FRAME_SIZE))
@@ -231,10 +229,10 @@ struct row {
 // Those behind SMALL_ROWS fill the caches, and are timed in rounds of their own.
 enum {
     SHA1_FIVE, SHA256_FIVE, CRC_LONG, CRC_SHORT, PARSE_RESPONSE, READ_RESPONSE, PARSE_REQUEST,
-    LOOK_UP_REQUEST, PARSE_WHOLE, LOOK_UP_WHOLE, READ_WHOLE, KEY_ALONE, VALIDATE_RESPONSE_SHA1,
+    LOOK_UP_REQUEST, PARSE_WHOLE, LOOK_UP_WHOLE, READ_WHOLE, KEY_SHA1, KEY_SHA256, VALIDATE_RESPONSE_SHA1,
     VALIDATE_WHOLE_SHA1, VALIDATE_REQUEST_SHA1, VALIDATE_RESPONSE_SHA256, VALIDATE_REQUEST_SHA256,
     BUILD, BUILD_LENT, SIGN_SHA1, MARK_SHA1, MARK_LENT_SHA1, SIGN_SHA256, BUILD_REQUEST,
-    SIGN_REQUEST_SHA1, FINGERPRINT_RESPONSE, FINGERPRINT_REQUEST,
+    SIGN_REQUEST_SHA1, BUILD_REQUEST_LENT, SIGN_REQUEST_LENT_SHA1, FINGERPRINT_RESPONSE, FINGERPRINT_REQUEST,
     PARSE_CHANNEL, WRITE_CHANNEL, FEED_FEW, FEED_MORE, SMALL_ROWS,
     ADD_1 = SMALL_ROWS, ADD_18, ADD_899, ADD_1100, PARSE_UNKNOWNS, CHECK_UNKNOWNS, FEED_MANY,
     FEED_MOST, FEED_BYTES, ROWS
@@ -252,7 +250,8 @@ static const struct row rows[ROWS] = {
     [PARSE_WHOLE] = {"parse response, with FINGERPRINT", parse_whole, 64},
     [LOOK_UP_WHOLE] = {"parse it and look up six", look_up_whole, 64},
     [READ_WHOLE] = {"parse it and read it", read_whole, 64},
-    [KEY_ALONE] = {"key", key_alone, 128},
+    [KEY_SHA1] = {"key, SHA-1", key_sha1, 64},
+    [KEY_SHA256] = {"key, SHA-256", key_sha256, 64},
     [VALIDATE_RESPONSE_SHA1] = {"key, validate response, SHA-1", validate_response_sha1, 16},
     [VALIDATE_WHOLE_SHA1] = {"key, validate response with FINGERPRINT, SHA-1", validate_whole_sha1,
                              16},
@@ -267,6 +266,9 @@ static const struct row rows[ROWS] = {
     [SIGN_SHA256] = {"key, build and sign response, SHA-256", sign_sha256, 16},
     [BUILD_REQUEST] = {"build request", build_request, 64},
     [SIGN_REQUEST_SHA1] = {"key, build and sign request, SHA-1", sign_request_sha1, 16},
+    [BUILD_REQUEST_LENT] = {"build request into a slice", build_request_lent, 64},
+    [SIGN_REQUEST_LENT_SHA1] = {"key, build and sign request into a slice, SHA-1",
+                                sign_request_lent_sha1, 16},
     [FINGERPRINT_RESPONSE] = {"FINGERPRINT of the response, over 92 bytes", fingerprint_response,
                               128},
     [FINGERPRINT_REQUEST] = {"FINGERPRINT of the request, over 116 bytes", fingerprint_request,
@@ -292,7 +294,7 @@ static size_t taken[ROWS];
 
 // ---- whether the answers are right
 
-static void must(bool holds, const char *what) {
+void must(bool holds, const char *what) {
     if (!holds) {
         fprintf(stderr, "wrong answer: %s\n", what);
         exit(1);
@@ -307,7 +309,7 @@ static void must_be(size_t size, const uint8_t *text, size_t text_size, const ch
 // the number in two bytes, the higher first
 static uint16_t short_at(const uint8_t *bytes) { return (uint16_t)(bytes[0] << 8 | bytes[1]); }
 
-static void write_short(uint8_t *bytes, unsigned value) {
+void write_short(uint8_t *bytes, unsigned value) {
     bytes[0] = (uint8_t)(value >> 8);
     bytes[1] = (uint8_t)value;
 }
@@ -406,6 +408,10 @@ static void check_writing_into_slices(void) {
     must_be(stun_bench_build_lent(RESPONSE), WHOLE(response_unsigned), "build into a slice");
     memset(out, 0, sizeof out);
     must_be(stun_bench_mark_lent_sha1(KEY, RESPONSE), WHOLE(response_whole), "sign into a slice");
+    memset(out, 0, sizeof out);
+    must_be(stun_bench_build_request_lent(REQUEST), WHOLE(request_unsigned), "build into a slice");
+    memset(out, 0, sizeof out);
+    must_be(stun_bench_sign_request_lent_sha1(KEY, REQUEST), WHOLE(request_sha1), "sign into a slice");
     must(stun_bench_build_lent(&granted, number, TEXT(software), out,
                                sizeof response_unsigned) == sizeof response_unsigned,
          "build into a slice of its size");
@@ -482,7 +488,7 @@ static void check_answers(void) {
 
 // ---- timing
 
-static double now(void) {
+double now(void) {
     static const double SECOND = 1e9;
     struct timespec at;
     clock_gettime(CLOCK_MONOTONIC, &at);
@@ -511,14 +517,15 @@ static void time_rows(unsigned first, unsigned end, unsigned rounds) {
 
 // ---- what is told
 
-// what is wanted at most; where nothing is asked of a number, NO_BOUND
-static const double NO_BOUND = -1;
+// what is wanted at most
 static const double MOST_OF_FIVE_BLOCKS = 1.3;
 static const double MOST_OF_VALIDATION = 0.1;
 static const double MOST_OF_PARSE = 5;
 static const double MOST_A_BYTE = 1.5;
 static const double MOST_INTO_SLICE = 0.08;
 static const double MOST_INTO_VECTOR = 0.15;
+static const double MOST_REQUEST_INTO_SLICE = 0.06;
+static const double MOST_SIGNED_REQUEST = 0.75;
 static const double MOST_OF_10TH_ADD = 1.2;
 static const double MOST_OF_FEW_FRAMES = 1.5;
 // nanoseconds that a block of SHA-1 takes on the processor to which the bound of CRC-32 is scaled
@@ -527,8 +534,7 @@ static const double BLOCKS = 5;
 
 static bool missed;
 
-// a number, and the greatest that is wanted beside it
-static void tell(const char *name, double wanted, double measured) {
+void tell(const char *name, double wanted, double measured) {
     printf("%-96s ", name);
     if (wanted == NO_BOUND) {
         printf("%14s", "");
@@ -541,7 +547,8 @@ static void tell(const char *name, double wanted, double measured) {
 }
 
 // the time of a row that makes a key for each message, without the key's own
-static double under_key(unsigned row) { return least[row] - least[KEY_ALONE]; }
+static double under_key(unsigned row) { return least[row] - least[KEY_SHA1]; }
+static double under_key_sha256(unsigned row) { return least[row] - least[KEY_SHA256]; }
 
 static void tell_integrity(void) {
     double sha1 = least[SHA1_FIVE];
@@ -559,21 +566,21 @@ static void tell_integrity(void) {
          under_key(MARK_LENT_SHA1) / sha1);
     double sha256 = least[SHA256_FIVE];
     tell("validate the response, SHA-256, to five SHA-256 blocks", NO_BOUND,
-         under_key(VALIDATE_RESPONSE_SHA256) / sha256);
-    tell("validate the request, SHA-256", NO_BOUND, under_key(VALIDATE_REQUEST_SHA256) / sha256);
+         under_key_sha256(VALIDATE_RESPONSE_SHA256) / sha256);
+    tell("validate the request, SHA-256", NO_BOUND, under_key_sha256(VALIDATE_REQUEST_SHA256) / sha256);
     tell("sign the response, SHA-256", NO_BOUND,
-         (under_key(SIGN_SHA256) - least[BUILD]) / sha256);
+         (under_key_sha256(SIGN_SHA256) - least[BUILD]) / sha256);
 }
 
 static void tell_reading(void) {
     double crc = least[CRC_SHORT];
     double look_up = least[LOOK_UP_WHOLE] - crc;
-    tell("parse the request with six look-ups, to its validation with SHA-1", MOST_OF_VALIDATION,
-         least[LOOK_UP_REQUEST] / under_key(VALIDATE_REQUEST_SHA1));
-    tell("parse the response of six attributes with six look-ups, to its validation, both but for CRC-32",
-         MOST_OF_VALIDATION, look_up / (under_key(VALIDATE_WHOLE_SHA1) - crc));
-    tell("the same, to the validation of the response without FINGERPRINT", MOST_OF_VALIDATION,
-         look_up / under_key(VALIDATE_RESPONSE_SHA1));
+    tell("parse the request with six look-ups, to a key and its validation with SHA-1", MOST_OF_VALIDATION,
+         least[LOOK_UP_REQUEST] / least[VALIDATE_REQUEST_SHA1]);
+    tell("parse the response of six attributes with six look-ups, to a key and its validation, both but for CRC-32",
+         MOST_OF_VALIDATION, look_up / (least[VALIDATE_WHOLE_SHA1] - crc));
+    tell("the same, to a key and the validation of the response without FINGERPRINT", MOST_OF_VALIDATION,
+         look_up / least[VALIDATE_RESPONSE_SHA1]);
     tell("check 16,383 unknown types, to their parse", MOST_OF_PARSE,
          (least[CHECK_UNKNOWNS] - least[PARSE_UNKNOWNS]) / least[PARSE_UNKNOWNS]);
     double each = least[CRC_LONG] / sizeof large;
@@ -585,6 +592,10 @@ static void tell_building(void) {
     tell("build the response into a slice, to five SHA-1 blocks", MOST_INTO_SLICE,
          least[BUILD_LENT] / least[SHA1_FIVE]);
     tell("build the response into a vector", MOST_INTO_VECTOR, least[BUILD] / least[SHA1_FIVE]);
+    tell("build the request of 92 bytes into a slice", MOST_REQUEST_INTO_SLICE,
+         least[BUILD_REQUEST_LENT] / least[SHA1_FIVE]);
+    tell("build and sign the request of 116 bytes into a slice, SHA-1, under its key",
+         MOST_SIGNED_REQUEST, under_key(SIGN_REQUEST_LENT_SHA1) / least[SHA1_FIVE]);
     // the 2nd to the 18th add, and the 900th to the 1100th: their means are the 10th and the 1000th
     double around_10th = (least[ADD_18] - least[ADD_1]) / (ADDS_FEW - 1);
     double around_1000th = (least[ADD_1100] - least[ADD_899]) / (ADDS_MOST - ADDS_MANY);
@@ -618,9 +629,9 @@ static void tell_allocations(void) {
                                           VALIDATE_REQUEST_SHA1, VALIDATE_RESPONSE_SHA256,
                                           VALIDATE_REQUEST_SHA256};
     static const unsigned marks[] = {FINGERPRINT_RESPONSE, FINGERPRINT_REQUEST};
-    static const unsigned into_slices[] = {BUILD_LENT, ADD_1, ADD_18, ADD_899, ADD_1100,
-                                           PARSE_CHANNEL, WRITE_CHANNEL};
-    static const unsigned signed_slices[] = {MARK_LENT_SHA1};
+    static const unsigned into_slices[] = {BUILD_LENT, BUILD_REQUEST_LENT, ADD_1, ADD_18, ADD_899,
+                                           ADD_1100, PARSE_CHANNEL, WRITE_CHANNEL};
+    static const unsigned signed_slices[] = {MARK_LENT_SHA1, SIGN_REQUEST_LENT_SHA1};
     static const unsigned into_vectors[] = {BUILD, BUILD_REQUEST};
     static const unsigned signed_vectors[] = {SIGN_SHA1, MARK_SHA1, SIGN_SHA256, SIGN_REQUEST_SHA1};
     tell("allocations of parse and look-ups", 0, most_taken(ELEMENTS(reading)));
@@ -632,187 +643,26 @@ static void tell_allocations(void) {
     tell("of a key, building and signing into a vector", 1, most_taken(ELEMENTS(signed_vectors)));
 }
 
-// ---- a client that holds channels, the i-th to 10.1.0.0 + i, port 9000
-
-enum client_call { TAKE_FRAME, TAKE_INDICATION, SEND_FRAME, SEND_INDICATION };
-
-struct client_row {
-    const char *name;
-    enum client_call call;
-    size_t channels;
-    double wanted; // nanoseconds at most
-};
-
-enum {
-    CLIENT_ROUNDS = 200000,
-    CLIENT_RUNS = 7,
-    LEAST_CHANNEL = 0x4000,
-    CHANNEL_PORT = 9000,
-    OTHER_PORT = 9001,
-    DATA_INDICATION = 0x0017,
-    XOR_PEER_ADDRESS = 0x0012,
-    DATA = 0x0013,
-    PEER_SIZE = 8,              // of XOR-PEER-ADDRESS of IPv4
-    INDICATION_SIZE = HEADER_SIZE + ATTRIBUTE_HEADER_SIZE + PEER_SIZE + ATTRIBUTE_HEADER_SIZE + PAYLOAD,
-    COOKIE_HIGH = 0x2112,
-    COOKIE_LOW = 0xa442,
-    FIRST_PEER_HIGH = 0x0a01,   // 10.1.0.0
-    IPV4 = 1,
-};
-
-// nanoseconds on model 85, beside one channel and beside 1000
-static const double MOST_OF_ONE = 100, MOST_OF_MANY = 2000;
-
-static const struct client_row client_rows[] = {
-    {"take a frame of 1200 bytes, 1 channel", TAKE_FRAME, 1, MOST_OF_ONE},
-    {"take a frame of 1200 bytes, 100 channels", TAKE_FRAME, 100, NO_BOUND},
-    {"take a frame of 1200 bytes, 1000 channels", TAKE_FRAME, 1000, MOST_OF_MANY},
-    {"take a DATA indication of 1200 bytes, 1 permission", TAKE_INDICATION, 1, NO_BOUND},
-    {"take a DATA indication of 1200 bytes, 1000 permissions", TAKE_INDICATION, 1000, NO_BOUND},
-    {"send 1200 bytes by a channel into a buffer, 1 channel", SEND_FRAME, 1, MOST_OF_ONE},
-    {"send 1200 bytes by a channel into a buffer, 100 channels", SEND_FRAME, 100, NO_BOUND},
-    {"send 1200 bytes by a channel into a buffer, 1000 channels", SEND_FRAME, 1000, MOST_OF_MANY},
-    {"send 1200 bytes by an indication into a buffer, 1 channel", SEND_INDICATION, 1, NO_BOUND},
-    {"send 1200 bytes by an indication into a buffer, 1000 channels", SEND_INDICATION, 1000, NO_BOUND},
-};
-
-// the frame of a channel, or the indication of its peer's data
-static size_t make_datagram(const struct client_row *row, uint8_t *at) {
-    uint16_t last = (uint16_t)(row->channels - 1);
-    if (row->call == TAKE_FRAME) {
-        write_short(at, (uint16_t)(LEAST_CHANNEL + last));
-        write_short(at + 2, PAYLOAD);
-        return ATTRIBUTE_HEADER_SIZE + PAYLOAD;
-    }
-    write_short(at, DATA_INDICATION);
-    write_short(at + 2, INDICATION_SIZE - HEADER_SIZE);
-    write_short(at + 4, COOKIE_HIGH);
-    write_short(at + 6, COOKIE_LOW);
-    uint8_t *peer = at + HEADER_SIZE;
-    write_short(peer, XOR_PEER_ADDRESS);
-    write_short(peer + 2, PEER_SIZE);
-    write_short(peer + 4, IPV4);
-    write_short(peer + 6, CHANNEL_PORT ^ COOKIE_HIGH);
-    write_short(peer + 8, FIRST_PEER_HIGH ^ COOKIE_HIGH);
-    write_short(peer + 10, last ^ COOKIE_LOW);
-    uint8_t *data = peer + ATTRIBUTE_HEADER_SIZE + PEER_SIZE;
-    write_short(data, DATA);
-    write_short(data + 2, PAYLOAD);
-    return INDICATION_SIZE;
-}
-
-static size_t call_client(const struct client_row *row, size_t rounds) {
-    static uint8_t datagram[INDICATION_SIZE];
-    if (row->call == TAKE_FRAME || row->call == TAKE_INDICATION) {
-        size_t size = make_datagram(row, datagram);
-        return stun_bench_take(row->channels, rounds, datagram, size);
-    }
-    uint16_t port = row->call == SEND_FRAME ? CHANNEL_PORT : OTHER_PORT;
-    return stun_bench_send(row->channels, rounds, port, WHOLE(payload), WHOLE(wide));
-}
-
-// what a call takes and allocates is the difference that so many of them make; answers that of the first row
-static double tell_client(void) {
-    double start = now(), datagram = 0;
-    for (unsigned i = 0; i < CLIENT_ROUNDS; i++) {
-        memcpy(wide, payload, PAYLOAD);
-        sink += wide[i % PAYLOAD];
-    }
-    tell("copy 1200 bytes by memcpy, ns", NO_BOUND, (now() - start) / CLIENT_ROUNDS);
-    for (size_t i = 0; i < sizeof client_rows / sizeof client_rows[0]; i++) {
-        const struct client_row *row = &client_rows[i];
-        double least_none = DBL_MAX, least_all = DBL_MAX;
-        size_t taken_by_none = 0, taken_by_all = 0;
-        for (unsigned run = 0; run < CLIENT_RUNS; run++) {
-            size_t before = allocations;
-            double begun = now();
-            must(call_client(row, 0) == 0, row->name);
-            double between = now();
-            taken_by_none = allocations - before;
-            before = allocations;
-            must(call_client(row, CLIENT_ROUNDS) == CLIENT_ROUNDS, row->name);
-            double ended = now() - between;
-            taken_by_all = allocations - before;
-            least_none = between - begun < least_none ? between - begun : least_none;
-            least_all = ended < least_all ? ended : least_all;
-        }
-        double least = (least_all - least_none) / CLIENT_ROUNDS;
-        datagram = i ? datagram : least;
-        tell(row->name, row->wanted, least);
-        tell("  its allocations", 0, (double)(taken_by_all - taken_by_none));
-    }
-    return datagram;
-}
-
-// ---- a client over TCP: frames of a channel, one behind another in a stream
-
-enum {
-    STREAM_FRAME = ATTRIBUTE_HEADER_SIZE + PAYLOAD,
-    STREAM_FRAMES = 54,         // some 64 kB
-    STREAM_ROUNDS = 4000,
-    BYTE_FRAMES = 8,            // that come byte by byte, and twice as many
-    BYTE_ROUNDS = 40,
-};
-
-// a frame in a stream to a datagram; twice as many bytes, one by one, to so many
-static const double MOST_OF_STREAM = 2, MOST_OF_TWICE = 2.5;
-
-// what a frame of these takes, in pieces of a size, in nanoseconds, and how many allocations one makes
-static double drained(const uint8_t *stream, size_t frames, size_t size, size_t rounds, double *taken) {
-    double least_none = DBL_MAX, least_all = DBL_MAX;
-    size_t len = frames * STREAM_FRAME, by_none = 0, by_all = 0;
-    for (unsigned run = 0; run < CLIENT_RUNS; run++) {
-        size_t before = allocations;
-        double begun = now();
-        must(stun_bench_drain(1, 0, stream, len, size) == 0, "nothing comes in a stream");
-        double between = now();
-        by_none = allocations - before;
-        before = allocations;
-        must(stun_bench_drain(1, rounds, stream, len, size) == rounds * frames, "frames of a stream");
-        double ended = now() - between;
-        by_all = allocations - before;
-        least_none = between - begun < least_none ? between - begun : least_none;
-        least_all = ended < least_all ? ended : least_all;
-    }
-    double all = (double)(rounds * frames);
-    *taken = (double)(by_all - by_none) / all;
-    return (least_all - least_none) / all;
-}
-
-static void tell_drained(double datagram) {
-    static uint8_t stream[STREAM_FRAMES * STREAM_FRAME];
-    for (size_t i = 0; i < STREAM_FRAMES; i++) {
-        write_short(stream + i * STREAM_FRAME, LEAST_CHANNEL);
-        write_short(stream + i * STREAM_FRAME + 2, PAYLOAD);
-    }
-    double taken;
-    double frame = drained(stream, STREAM_FRAMES, sizeof stream, STREAM_ROUNDS, &taken);
-    tell("take a frame of 1200 bytes in a piece of 54 over TCP, ns", NO_BOUND, frame);
-    tell("  its allocations", 1, taken);
-    tell("  to a datagram over UDP", MOST_OF_STREAM, frame / datagram);
-    double few = drained(stream, BYTE_FRAMES, 1, BYTE_ROUNDS, &taken);
-    double many = drained(stream, 2 * BYTE_FRAMES, 1, BYTE_ROUNDS, &taken);
-    tell("8 frames byte by byte over TCP, ns a byte", NO_BOUND, few / STREAM_FRAME);
-    tell("  16 frames to 8", MOST_OF_TWICE, 2 * many / few);
-}
-
 int main(int argc, char **argv) {
     enum { ROUNDS = 20000 };
     unsigned rounds = argc > 1 ? (unsigned)strtoul(argv[1], 0, 10) : ROUNDS;
     check_answers();
     time_rows(0, SMALL_ROWS, rounds);
     time_rows(SMALL_ROWS, ROWS, rounds);
+    time_kept(rounds);
     printf("%-56s %10s %12s\n", "", "ns", "allocations");
     for (unsigned i = 0; i < ROWS; i++) {
         printf("%-56s %10.1f %12zu\n", rows[i].name, least[i], taken[i]);
     }
     printf("\n%-96s %14s %9s\n", "", "wanted at most", "measured");
     tell_integrity();
+    tell_kept();
     tell_reading();
     tell_building();
     tell_streams();
     tell_allocations();
-    tell_drained(tell_client());
+    tell_clients();
+    tell_agents();
     if (missed) {
         printf("\nA bound is missed.\n");
     }

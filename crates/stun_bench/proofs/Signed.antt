@@ -25,6 +25,10 @@ is_signed bytes key (Err error) valid accepted = (
       (let e = accepted signed.0 signed.1 in cc),
 )
 
+-- a key of these bytes
+abbrev pub key_of : List ℕ → IntegrityAlgorithm → Key
+key_of bytes algorithm = record { bytes = bytes; algorithm = algorithm }
+
 pub holds_signed : (bytes message password : List ℕ) (algorithm : IntegrityAlgorithm) (key : Key)
     (answered : Result IntegrityAlgorithm ValidateError) (holds : Bool)
     → key ≡ record { bytes = password; algorithm = algorithm }

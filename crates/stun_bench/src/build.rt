@@ -7,7 +7,7 @@ ghost use Rattle.stun_types.specs.Text.{message_text};
 ghost use Rattle.stun_bench.specs.Allocated.{BeginsResponse, WritesOut, allocated_text, marked_text, signed_text};
 
 use crate::allocation::Allocation;
-use crate::key::key_of_password;
+use crate::key::text_of_password;
 use crate::response::{add_response, mark_response, response_type};
 use std::alloc::Global;
 use stun_types::NoMemory;
@@ -91,9 +91,10 @@ pub extern "C" fn stun_bench_mark_sha1(
     ensures { WritesOut
         (marked_text Sha1 password.now told.now number software.now) out.old out.new result }
 {
-    let Some(key) = key_of_password(password, IntegrityAlgorithm::Sha1) else {
+    let Some(text) = text_of_password(password) else {
         return 0;
     };
+    let key = IntegrityKey::short_term(text, IntegrityAlgorithm::Sha1);
     match begin(alloc, response_type(), number) {
         Ok(mut writer) => {
             let size = mark(&mut writer, &key, told, number, software, out);
@@ -131,9 +132,10 @@ fn sign(
     ensures { WritesOut
         (signed_text algorithm password.now told.now number software.now) out.old out.new result }
 {
-    let Some(key) = key_of_password(password, algorithm) else {
+    let Some(text) = text_of_password(password) else {
         return 0;
     };
+    let key = IntegrityKey::short_term(text, algorithm);
     match begin(alloc, response_type(), number) {
         Ok(mut writer) => {
             let size = add_signed(&mut writer, &key, told, number, software, out);

@@ -6,10 +6,10 @@ ghost use Rattle.stun_types.specs.Lent.{lent_draft};
 ghost use Rattle.stun_bench.specs.Allocated.{BeginsResponse, IsSizeOf, allocated_text, marked_text};
 
 use crate::allocation::Allocation;
-use crate::key::key_of_password;
+use crate::key::text_of_password;
 use crate::response::{add_response, mark_response, response_type};
 use stun_types::message::{
-    IntegrityAlgorithm, Message, MessageHeader, MessageWriteMutSlice, TransactionId,
+    IntegrityAlgorithm, IntegrityKey, Message, MessageHeader, MessageWriteMutSlice, TransactionId,
 };
 use stun_types::prelude::MessageWrite;
 
@@ -47,9 +47,10 @@ pub extern "C" fn stun_bench_mark_lent_sha1(
 ) -> usize
     ensures { IsSizeOf (marked_text Sha1 password.now told.now number software.now) result }
 {
-    let Some(key) = key_of_password(password, IntegrityAlgorithm::Sha1) else {
+    let Some(text) = text_of_password(password) else {
         return 0;
     };
+    let key = IntegrityKey::short_term(text, IntegrityAlgorithm::Sha1);
     let Some(begun) = begin_into(number, out) else {
         return 0;
     };

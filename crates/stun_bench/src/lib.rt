@@ -1,14 +1,14 @@
 //! What C calls to time the library: digests, and the reading, validation, building and signing of a
-//! message, channel frames and streams, and a client that takes and sends. Most functions call the
-//! library's and state again what that states.
+//! message, channel frames and streams. Most functions call the library's and state again what that
+//! states. A client and an agent are in `stun_bench_client`.
 #![tactic(auto)]
 
 pub mod adds;
 pub mod allocation;
 pub mod build;
 pub mod check;
-pub mod client;
 pub mod digest;
+pub mod kept;
 mod key;
 pub mod lent;
 pub mod read;

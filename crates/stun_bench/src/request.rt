@@ -8,7 +8,7 @@ ghost use Rattle.stun_bench.specs.Allocated.{WritesOut};
 ghost use Rattle.stun_bench.specs.Asked.{asked_text, asked_type, signed_asked_text};
 
 use crate::build::{begin, copy_out};
-use crate::key::key_of_password;
+use crate::key::text_of_password;
 use crate::response::add_text;
 use std::alloc::Global;
 use stun_types::message::{
@@ -21,7 +21,7 @@ use turn_types::attribute::{Lifetime, RequestedTransport};
 use turn_types::message::ALLOCATE;
 
 /// Writes the ALLOCATE request of this number to the front of `out`: REQUESTED-TRANSPORT of UDP,
-/// LIFETIME, registry::USERNAME, REALM and NONCE. Answers how many bytes it has; 0, with nothing written, where a
+/// LIFETIME, USERNAME, REALM and NONCE. Answers how many bytes it has; 0, with nothing written, where a
 /// text has more than 763 bytes, where `out` has not the room, and where memory is refused.
 #[unsafe(no_mangle)]
 pub extern "C" fn stun_bench_build_request(
@@ -63,9 +63,10 @@ pub extern "C" fn stun_bench_sign_request_sha1(
         (signed_asked_text Sha1 password.now lifetime number user.now realm.now nonce.now)
         out.old out.new result }
 {
-    let Some(key) = key_of_password(password, IntegrityAlgorithm::Sha1) else {
+    let Some(text) = text_of_password(password) else {
         return 0;
     };
+    let key = IntegrityKey::short_term(text, IntegrityAlgorithm::Sha1);
     match begin(alloc, request_type(), number) {
         Ok(mut writer) => {
             let size = sign(&mut writer, &key, lifetime, user, realm, nonce, out);
@@ -122,7 +123,7 @@ fn sign(
 }
 
 /// The type of the request.
-fn request_type() -> MessageType
+pub(crate) fn request_type() -> MessageType
     ensures { result ≡ asked_type }
 {
     MessageType::from_class_method(MessageClass::Request, ALLOCATE)
@@ -130,7 +131,7 @@ fn request_type() -> MessageType
 
 /// Adds what the request shows to one that was begun: REQUESTED-TRANSPORT of UDP, LIFETIME, USERNAME,
 /// REALM and NONCE. Refused with `TooLarge` where a text has more than 763 bytes, and as an add is.
-fn add_request<W: MessageWrite>(
+pub(crate) fn add_request<W: MessageWrite>(
     writer: &mut W,
     lifetime: u32,
     user: &[u8],

@@ -5,8 +5,8 @@ ghost use Rattle.std.specs.Str.{IsUtf8};
 ghost use Rattle.stun_types.specs.IntegrityAlgorithms.{Sha1, Sha256};
 ghost use Rattle.stun_types.specs.Integrity.{IsSigned};
 
-use crate::key::key_of_password;
-use stun_types::message::{IntegrityAlgorithm, Message};
+use crate::key::text_of_password;
+use stun_types::message::{IntegrityAlgorithm, IntegrityKey, Message};
 
 /// What C is told of a question that may have no answer.
 #[repr(C)]
@@ -47,7 +47,8 @@ fn validates(password: &[u8], bytes: &[u8], algorithm: IntegrityAlgorithm) -> Op
     ensures { MatchOption result (¬ IsUtf8 password.now) (λ holds. IsTrue holds
         ↔ ((text : List ℕ) × IsSigned bytes.now password.now algorithm text)) }
 {
-    let key = key_of_password(password, algorithm)?;
+    let text = text_of_password(password)?;
+    let key = IntegrityKey::short_term(text, algorithm);
     match Message::from_bytes(bytes) {
         Ok(message) => Some(message.validate_integrity_with_key(&key).is_ok()),
         Err(_) => Some(false),

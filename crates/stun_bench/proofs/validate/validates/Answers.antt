@@ -1,7 +1,10 @@
-use Rattle.stun_bench.proofs.Signed.{holds_signed}
+use Rattle.std.specs.Prelude.{ℕ, List}
+use Rattle.std.proofs.Common.{ap, ◌∙◌}
+use Rattle.stun_bench.proofs.Signed.{holds_signed, key_of}
 use Rattle.stun_bench.proofs.validate.validates.Goals as goal
 
 pub returns-in-Ok : goal.returns-in-Ok
 returns-in-Ok c =
     let valid = c.validate_integrity_with_key.ensures in
-    holds_signed c.args.bytes.now _ c.args.password.now c.args.algorithm _ c.validate_integrity_with_key.result c.is_ok.result c.in_ok-key.ensures c.in-Ok.ensures.0 valid.valid valid.accepted c.is_ok.ensures.value
+    let is = c.short_term-key.ensures ∙ ap (λ (b : List ℕ). key_of b c.args.algorithm) c.in_ok-text.ensures in
+    holds_signed c.args.bytes.now _ c.args.password.now c.args.algorithm _ c.validate_integrity_with_key.result c.is_ok.result is c.in-Ok.ensures.0 valid.valid valid.accepted c.is_ok.ensures.value

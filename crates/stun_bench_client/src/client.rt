@@ -24,7 +24,7 @@ use turn_types::prelude::DelayedTransmitBuild;
 const CADENCE: u64 = 50_000_000;
 
 /// A moment so many requests behind the first.
-fn moment(requests: usize) -> Instant {
+pub(crate) fn moment(requests: usize) -> Instant {
     Instant::from_nanos((requests as u64).saturating_mul(CADENCE))
 }
 
@@ -34,7 +34,7 @@ fn address(host: u32, port: u16) -> SocketAddr {
 }
 
 /// A port of the peer of a channel: each is a host of its own, from 10.1.0.0 on.
-fn peer(channel: usize, port: u16) -> SocketAddr {
+pub(crate) fn peer(channel: usize, port: u16) -> SocketAddr {
     address(0x0a01_0000u32.wrapping_add((channel % 65_536) as u32), port)
 }
 
@@ -44,7 +44,7 @@ const HERE: (u32, u16) = (0xc0a8_0001, 1000);
 const SERVER: (u32, u16) = (0x0a00_0002, 2000);
 
 /// A client over UDP.
-fn over_udp(alloc: Global) -> Result<TurnClientUdp, NoMemory> {
+pub(crate) fn over_udp(alloc: Global) -> Result<TurnClientUdp, NoMemory> {
     match TurnCredentials::new(alloc, "user", "pass") {
         Ok(user) => {
             let (here, server) = (address(HERE.0, HERE.1), address(SERVER.0, SERVER.1));
@@ -66,7 +66,7 @@ fn over_tcp(alloc: Global) -> Result<TurnClientTcp, NoMemory> {
 }
 
 /// A desk that knows the client's user.
-fn desk(alloc: Global) -> Result<Desk, NoMemory> {
+pub(crate) fn desk(alloc: Global) -> Result<Desk, NoMemory> {
     let Ok(realm) = String::from_str(alloc, "realm") else {
         return Err(NoMemory);
     };
@@ -123,7 +123,7 @@ fn exchange(
 }
 
 /// Hands a client bytes of its server's. Answers whether they gave data of a peer.
-fn hand_in(client: &mut impl TurnClientApi, bytes: &[u8], now: Instant) -> bool {
+pub(crate) fn hand_in(client: &mut impl TurnClientApi, bytes: &[u8], now: Instant) -> bool {
     let came = Transmit::new(
         bytes,
         client.transport(),
@@ -134,7 +134,7 @@ fn hand_in(client: &mut impl TurnClientApi, bytes: &[u8], now: Instant) -> bool 
 }
 
 /// A client is granted an hour, and so many channels, each with a permission.
-fn hold(
+pub(crate) fn hold(
     alloc: Global,
     client: &mut impl TurnClientApi,
     desk: &mut Desk,

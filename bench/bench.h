@@ -1,0 +1,47 @@
+// What the parts of the measure share. A slice is a pointer and a length.
+#ifndef BENCH_H
+#define BENCH_H
+
+#include <stdbool.h>
+#include <stddef.h>
+#include <stdint.h>
+
+#define SLICE(name) const uint8_t *name, size_t name##_len
+#define OUT uint8_t *out, size_t out_len
+
+struct allocation {
+    uint32_t relayed_ip, mapped_ip, lifetime;
+    uint16_t relayed_port, mapped_port;
+};
+
+// sizes in bytes
+enum {
+    HEADER_SIZE = 20,           // of a message
+    ATTRIBUTE_HEADER_SIZE = 4,  // and of a channel frame's
+    PAYLOAD = 1200,             // of a frame that is written
+    ROOM_MORE = 64,             // what carries a payload has at most so many bytes more
+};
+
+// where nothing is asked of a number
+#define NO_BOUND (-1.0)
+
+// nanoseconds
+double now(void);
+// ends the run where an answer is wrong
+void must(bool holds, const char *what);
+// a number, and the greatest that is wanted beside it
+void tell(const char *name, double wanted, double measured);
+// two bytes of a message
+void write_short(uint8_t *bytes, unsigned value);
+// how many calls of malloc and realloc there were
+extern size_t allocations;
+
+// what a key saves that is kept (kept.c)
+void time_kept(unsigned rounds);
+void tell_kept(void);
+
+// what a client's calls cost (clients.c), and an agent's (agents.c)
+void tell_clients(void);
+void tell_agents(void);
+
+#endif
