@@ -38,7 +38,7 @@ fn attributes_outlive_their_message(rt: HostRuntime) -> Result<(), Fail> {
 fn bytes_are_changed_in_place(rt: HostRuntime) -> Result<(), Fail> {
     let header = MessageHeader::from_bytes(REQUEST)?;
     let realm = Realm::new(rt.alloc(), "q")?;
-    let writer = MessageWriteVec::new(rt.alloc());
+    let writer = MessageWriteVec::with_capacity(rt.alloc(), 28)?;
     let mut writer = Message::builder(header.get_type(), header.transaction_id(), writer)?;
     writer.add_attribute(&realm)?;
     let all = writer.mut_all();
