@@ -44,66 +44,31 @@ struct answer {
     bool known, holds;
 };
 
-void stun_bench_sha1(const uint8_t *text, size_t len, uint8_t digest[SHA1_SIZE]);
-void stun_bench_sha256(const uint8_t *text, size_t len, uint8_t digest[SHA256_SIZE]);
-uint32_t stun_bench_crc32(const uint8_t *text, size_t len);
-uint32_t stun_bench_fingerprint(const uint8_t *text, size_t len);
-bool stun_bench_parse(const uint8_t *bytes, size_t len);
-bool stun_bench_shows(const uint8_t *bytes, size_t len, const uint16_t *types, size_t count);
-bool stun_bench_read(const uint8_t *bytes, size_t len, struct allocation *told, bool *fingerprint);
-struct answer stun_bench_validate_sha1(const uint8_t *password, size_t password_len,
-                                       const uint8_t *bytes, size_t len);
-struct answer stun_bench_validate_sha256(const uint8_t *password, size_t password_len,
-                                         const uint8_t *bytes, size_t len);
-size_t stun_bench_build(const struct allocation *told, uint64_t number, const uint8_t *software,
-                        size_t software_len, uint8_t *out, size_t out_len);
-size_t stun_bench_sign_sha1(const uint8_t *password, size_t password_len,
-                            const struct allocation *told, uint64_t number,
-                            const uint8_t *software, size_t software_len, uint8_t *out,
-                            size_t out_len);
-size_t stun_bench_sign_sha256(const uint8_t *password, size_t password_len,
-                              const struct allocation *told, uint64_t number,
-                              const uint8_t *software, size_t software_len, uint8_t *out,
-                              size_t out_len);
-
-size_t stun_bench_mark_sha1(const uint8_t *password, size_t password_len,
-                            const struct allocation *told, uint64_t number,
-                            const uint8_t *software, size_t software_len, uint8_t *out,
-                            size_t out_len);
-size_t stun_bench_build_request(uint32_t lifetime, uint64_t number, const uint8_t *user,
-                                size_t user_len, const uint8_t *realm, size_t realm_len,
-                                const uint8_t *nonce, size_t nonce_len, uint8_t *out,
-                                size_t out_len);
-size_t stun_bench_sign_request_sha1(const uint8_t *password, size_t password_len,
-                                    uint32_t lifetime, uint64_t number, const uint8_t *user,
-                                    size_t user_len, const uint8_t *realm, size_t realm_len,
-                                    const uint8_t *nonce, size_t nonce_len, uint8_t *out,
-                                    size_t out_len);
-
-size_t stun_bench_build_request_lent(uint32_t lifetime, uint64_t number, const uint8_t *user,
-                                     size_t user_len, const uint8_t *realm, size_t realm_len,
-                                     const uint8_t *nonce, size_t nonce_len, uint8_t *out,
-                                     size_t out_len);
-size_t stun_bench_sign_request_lent_sha1(const uint8_t *password, size_t password_len,
-                                         uint32_t lifetime, uint64_t number, const uint8_t *user,
-                                         size_t user_len, const uint8_t *realm, size_t realm_len,
-                                         const uint8_t *nonce, size_t nonce_len, uint8_t *out,
-                                         size_t out_len);
-
-size_t stun_bench_build_lent(const struct allocation *told, uint64_t number,
-                             const uint8_t *software, size_t software_len, uint8_t *out,
-                             size_t out_len);
-size_t stun_bench_mark_lent_sha1(const uint8_t *password, size_t password_len,
-                                 const struct allocation *told, uint64_t number,
-                                 const uint8_t *software, size_t software_len, uint8_t *out,
-                                 size_t out_len);
-size_t stun_bench_add_lifetimes(const uint32_t *each, size_t count, uint64_t number, uint8_t *out,
-                                size_t out_len);
-bool stun_bench_parse_channel(const uint8_t *bytes, size_t len);
-size_t stun_bench_write_channel(uint16_t id, const uint8_t *data, size_t data_len, uint8_t *out,
-                                size_t out_len);
-size_t stun_bench_feed(const uint8_t *bytes, size_t len, size_t size);
-size_t stun_bench_check_types(const uint8_t *bytes, size_t len, uint8_t *out, size_t out_len);
+uint32_t stun_bench_crc32(SLICE(text));
+uint32_t stun_bench_fingerprint(SLICE(text));
+bool stun_bench_parse(SLICE(bytes));
+bool stun_bench_shows(SLICE(bytes), const uint16_t *types, size_t count);
+bool stun_bench_read(SLICE(bytes), struct allocation *told, bool *fingerprint);
+struct answer stun_bench_validate_sha1(SLICE(password), SLICE(bytes));
+struct answer stun_bench_validate_sha256(SLICE(password), SLICE(bytes));
+size_t stun_bench_build(const struct allocation *told, uint64_t number, SLICE(software), OUT);
+size_t stun_bench_mark_sha1(SLICE(password), const struct allocation *told, uint64_t number,
+                            SLICE(software), OUT);
+size_t stun_bench_build_request(uint32_t lifetime, uint64_t number, SLICE(user), SLICE(realm),
+                                SLICE(nonce), OUT);
+size_t stun_bench_sign_request_sha1(SLICE(password), uint32_t lifetime, uint64_t number,
+                                    SLICE(user), SLICE(realm), SLICE(nonce), OUT);
+size_t stun_bench_build_request_lent(uint32_t lifetime, uint64_t number, SLICE(user), SLICE(realm),
+                                     SLICE(nonce), OUT);
+size_t stun_bench_sign_request_lent_sha1(SLICE(password), uint32_t lifetime, uint64_t number,
+                                         SLICE(user), SLICE(realm), SLICE(nonce), OUT);
+size_t stun_bench_mark_lent_sha1(SLICE(password), const struct allocation *told, uint64_t number,
+                                 SLICE(software), OUT);
+size_t stun_bench_add_lifetimes(const uint32_t *each, size_t count, uint64_t number, OUT);
+bool stun_bench_parse_channel(SLICE(bytes));
+size_t stun_bench_write_channel(uint16_t id, SLICE(data), OUT);
+size_t stun_bench_feed(SLICE(bytes), size_t size);
+size_t stun_bench_check_types(SLICE(bytes), OUT);
 
 // ---- what is counted: the linker sends each call of malloc and realloc here (--wrap)
 

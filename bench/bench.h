@@ -22,6 +22,15 @@ enum {
     ROOM_MORE = 64,             // what carries a payload has at most so many bytes more
 };
 
+// of the static library
+void stun_bench_sha1(SLICE(text), uint8_t *digest);
+void stun_bench_sha256(SLICE(text), uint8_t *digest);
+size_t stun_bench_sign_sha1(SLICE(password), const struct allocation *told, uint64_t number,
+                            SLICE(software), OUT);
+size_t stun_bench_sign_sha256(SLICE(password), const struct allocation *told, uint64_t number,
+                              SLICE(software), OUT);
+size_t stun_bench_build_lent(const struct allocation *told, uint64_t number, SLICE(software), OUT);
+
 // where nothing is asked of a number
 #define NO_BOUND (-1.0)
 

@@ -4,11 +4,9 @@
 
 #include "bench.h"
 
-size_t stun_bench_take(size_t channels, size_t rounds, const uint8_t *bytes, size_t len);
-size_t stun_bench_drain(size_t channels, size_t rounds, const uint8_t *bytes, size_t len,
-                        size_t size);
-size_t stun_bench_send(size_t channels, size_t rounds, uint16_t port, const uint8_t *bytes,
-                       size_t len, uint8_t *out, size_t out_len);
+size_t stun_bench_take(size_t channels, size_t rounds, SLICE(bytes));
+size_t stun_bench_drain(size_t channels, size_t rounds, SLICE(bytes), size_t size);
+size_t stun_bench_send(size_t channels, size_t rounds, uint16_t port, SLICE(bytes), OUT);
 
 static uint8_t payload[PAYLOAD], sent[PAYLOAD + ROOM_MORE];
 static volatile unsigned sink;

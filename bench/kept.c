@@ -6,19 +6,12 @@
 
 #include "bench.h"
 
-void stun_bench_sha1(SLICE(text), uint8_t *digest);
-void stun_bench_sha256(SLICE(text), uint8_t *digest);
 size_t stun_bench_validate_all_sha1(SLICE(password), SLICE(messages), size_t size);
 size_t stun_bench_validate_all_sha256(SLICE(password), SLICE(messages), size_t size);
-size_t stun_bench_build_lent(const struct allocation *told, uint64_t number, SLICE(software), OUT);
 size_t stun_bench_sign_all_sha1(SLICE(password), const struct allocation *told, SLICE(numbers),
                                 SLICE(software), OUT);
 size_t stun_bench_sign_all_sha256(SLICE(password), const struct allocation *told, SLICE(numbers),
                                   SLICE(software), OUT);
-size_t stun_bench_sign_sha1(SLICE(password), const struct allocation *told, uint64_t number,
-                            SLICE(software), OUT);
-size_t stun_bench_sign_sha256(SLICE(password), const struct allocation *told, uint64_t number,
-                              SLICE(software), OUT);
 size_t stun_bench_take_successes(size_t asked, size_t taken);
 
 enum {
