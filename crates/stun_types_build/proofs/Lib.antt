@@ -1,6 +1,7 @@
 pub mod Added
 pub mod Adds
 pub mod Begun
+pub mod Pieces
 pub mod Taken
 -- What stands above this crate has these through it.
 pub use Rattle.stun_types_integrity.proofs.Keys

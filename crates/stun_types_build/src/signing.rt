@@ -22,6 +22,7 @@ use stun_types_wire::error::StunWriteError;
 use stun_types_wire::header::MessageHeader;
 use stun_types_write::attribute::{Attribute, AttributeWrite};
 use stun_types_write::memory::NoMemory;
+use stun_types_write::text::front_told;
 use stun_types_write::writer::MessageWrite;
 
 /// Adds the integrity attribute of an algorithm under a key. What it refuses stands at
@@ -54,16 +55,15 @@ pub(crate) fn sign<W: MessageWrite>(
 }
 
 /// The HMAC of a message under a key, as if its header told this length.
-#[tactic(auto, unfolding(stun_types_wire::specs::Covered::with_length))]
+#[tactic(auto, using(crate::proofs::Pieces::told_front))]
 fn hmac_told(bytes: &[u8], len: u16, key: &IntegrityKey<'_>) -> IntegrityHmac
     requires { header_size ≤ length bytes.now }
     ensures bytes { hmac_bytes result
         ≡ integrity_hmac key.now.algorithm key.now.bytes (with_length bytes.now len) }
     ensures size { length (hmac_bytes result) ≡ length_of_hmac key.now.algorithm }
 {
-    let (head, _) = bytes.split_at(2);
-    let (_, tail) = bytes.split_at(4);
-    key.hmac(head, &len.to_be_bytes(), tail)
+    let (_, behind) = bytes.split_at(4);
+    key.hmac(&front_told(bytes, len), behind, &[])
 }
 
 /// `push_attribute_unchecked` of an attribute whose type is known. The two are one value, as a `dyn`

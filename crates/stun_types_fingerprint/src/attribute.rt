@@ -1,6 +1,6 @@
 //! FINGERPRINT (RFC 8489, section 14.7).
 
-ghost use Rattle.std.specs.Prelude.{◌≡◌, ◌≤◌, ◌∷◌, None, length, slice_index, bit_xor, bytes_eq, MatchResult};
+ghost use Rattle.std.specs.Prelude.{◌≡◌, ◌≤◌, None, length, bit_xor, bytes_eq, MatchResult};
 ghost use Rattle.stun_types_write.specs.ValueReading.{IsNamed};
 ghost use Rattle.byteorder.specs.Endian.{big_bytes, big_number};
 ghost use Rattle.stun_types_wire.specs.Covered.{with_length};
@@ -22,7 +22,7 @@ use stun_types_write::attribute::{
 };
 use stun_types_write::memory::NoMemory;
 use stun_types_write::reading::value_of;
-use stun_types_write::text::write_attribute;
+use stun_types_write::text::{front_told, write_attribute};
 
 /// The CRC-32 of a message as it stands before the attribute, its length counted through the
 /// attribute (RFC 8489, section 14.7). Contracts see the CRC-32 as a number of 32 bits.
@@ -101,15 +101,6 @@ impl Fingerprint {
             crc: Crc32::of_pieces(front_told(bytes, len), tail),
         }
     }
-}
-
-/// The first four bytes of a message, as if its header told this length.
-fn front_told(bytes: &[u8], len: u16) -> [u8; 4]
-    requires { header_size ≤ length bytes.now }
-    ensures { result ≡ slice_index bytes.now 0 ∷ slice_index bytes.now 1 ∷ big_bytes 2 len }
-{
-    let [high, low] = len.to_be_bytes();
-    [bytes[0], bytes[1], high, low]
 }
 
 impl AttributeStaticType for Fingerprint {

@@ -1,10 +1,11 @@
 -- The bytes of what a message shows hold just these attributes.
-use Rattle.std.proofs.Common.{◌≡◌, ℕ, zero, suc, ◌+◌, ◌-◌, ◌≤◌, true, false, eqb, Some, None, List, [], ◌∷◌, length, take, drop, refl, sym, ap, ◌∙◌, arith, inl, inr}
+use Rattle.std.proofs.Common.{◌≡◌, ℕ, zero, suc, ◌+◌, ◌-◌, ◌≤◌, Bool, true, false, eqb, Some, None, List, [], ◌∷◌, length, take, drop, refl, sym, ap, ◌∙◌, arith, inl, inr}
 use Rattle.std.specs.Prelude.{find, sum_by}
+use Rattle.std.specs.Option.{option_map}
 use Rattle.std.proofs.lemmas.Bool.{cases_Bool}
 use Rattle.std.proofs.lemmas.List.{drop-take, length-drop, length-take}
 use Rattle.std.proofs.lemmas.List.Sums.{sum_by-cons}
-use Rattle.stun_types_wire.specs.Attributes.{Attr, attr_at, attr_size, attributes, first_attributes, is_whole, kind_at, length_at, padded, size_at}
+use Rattle.stun_types_wire.specs.Attributes.{Attr, attr_at, attr_size, attributes, first_attributes, is_whole, kind_at, length_at, numbered, padded, size_at}
 use Rattle.stun_types_wire.specs.Shape.{behind_shown, may_follow, rank, shown_after}
 use Rattle.stun_types_wire.specs.Grammar.{shown}
 use Rattle.stun_types_grammar_laws.proofs.Scan.{Continues, behind_stops, shown_short, shown_step, shown_stops}
@@ -124,6 +125,9 @@ shown_text bytes front text end end-is long front-is text-is =
 
 -- ---- one attribute after another
 
+abbrev of_kind : ℕ → ℕ × Attr → Bool
+of_kind kind x = eqb x.1.kind kind
+
 -- what is left of such a text begins with a whole attribute, while there is some
 pub begins_whole : (left : List ℕ) → (length left ≡ 0 → ⊥) → sum_by attr_size (attributes left) ≡ length left → is_whole left ≡ true
 begins_whole left some sum =
@@ -149,11 +153,26 @@ attribute_is left attribute behind_header value raw kind size len raw-kind raw-v
     ap (λ n. let a : Attr = record { kind = n; value = raw.value } in a) (raw-kind ∙ kind-is) ∙ ap (λ (v : List ℕ). let a : Attr = record { kind = kind_at left; value = v } in a) (raw-value ∙ text)
 
 -- the first of a type is at the front, or behind it
-pub first_is : (left : List ℕ) (kind : ℕ) → is_whole left ≡ true → eqb (kind_at left) kind ≡ true → find (λ (a : Attr). eqb a.kind kind) (attributes left) ≡ Some (attr_at left)
-first_is left kind whole same = rw (attributes_whole left whole, same) refl
+pub first_at : (left : List ℕ) (offset kind : ℕ) → is_whole left ≡ true → eqb (kind_at left) kind ≡ true → find (of_kind kind) (numbered offset (attributes left)) ≡ Some (offset, attr_at left)
+first_at left offset kind whole same = rw (attributes_whole left whole, same) refl
 
-pub first_is_behind : (left : List ℕ) (kind : ℕ) → is_whole left ≡ true → eqb (kind_at left) kind ≡ false → find (λ (a : Attr). eqb a.kind kind) (attributes left) ≡ find (λ (a : Attr). eqb a.kind kind) (attributes (drop (size_at left) left))
-first_is_behind left kind whole other = rw (attributes_whole left whole, other) refl
+pub first_at_behind : (left : List ℕ) (offset kind : ℕ) → is_whole left ≡ true → eqb (kind_at left) kind ≡ false → find (of_kind kind) (numbered offset (attributes left)) ≡ find (of_kind kind) (numbered (offset + size_at left) (attributes (drop (size_at left) left)))
+first_at_behind left offset kind whole other = rw (attributes_whole left whole, other, size_whole left whole) refl
 
-pub none_left : (left : List ℕ) (kind : ℕ) → length left ≡ 0 → find (λ (a : Attr). eqb a.kind kind) (attributes left) ≡ None
-none_left left kind empty = rw (attributes_short left (not_whole left (inl (omega (arith, empty))))) refl
+pub none_at : (left : List ℕ) (offset kind : ℕ) → length left ≡ 0 → find (of_kind kind) (numbered offset (attributes left)) ≡ None
+none_at left offset kind empty = rw (attributes_short left (not_whole left (inl (omega (arith, empty))))) refl
+
+-- without the places the same is found
+alone : (offset kind : ℕ) (all : List Attr) → option_map (λ x. x.1) (find (of_kind kind) (numbered offset all)) ≡ find (λ (a : Attr). eqb a.kind kind) all
+alone offset kind [] = refl
+alone offset kind (a ∷ all) =
+    elim (cases_Bool (eqb a.kind kind)) [
+      | inl told ↦ rw (told) refl
+      | inr untold ↦ rw (untold) (alone (offset + attr_size a) kind all)
+    ]
+
+pub found_alone : (offset kind : ℕ) (all : List Attr) (e : ℕ × Attr) → find (of_kind kind) (numbered offset all) ≡ Some e → find (λ (a : Attr). eqb a.kind kind) all ≡ Some e.1
+found_alone offset kind all e h = sym (alone offset kind all) ∙ ap (option_map (λ (x : ℕ × Attr). x.1)) h
+
+pub none_alone : (offset kind : ℕ) (all : List Attr) → find (of_kind kind) (numbered offset all) ≡ None → find (λ (a : Attr). eqb a.kind kind) all ≡ None
+none_alone offset kind all h = sym (alone offset kind all) ∙ ap (option_map (λ (x : ℕ × Attr). x.1)) h

@@ -1,9 +1,9 @@
 -- The attribute that is validated: where it stands, and that it is the only one of its type.
-use Rattle.std.proofs.Common.{◌≡◌, ℕ, zero, suc, ◌+◌, ◌-◌, ◌<◌, ◌≤◌, Bool, true, ltb, eqb, cond, List, [], ◌∷◌, ◌++◌, length, take, drop, Option, Some, None, refl, sym, ap, subst, ◌∙◌, arith, inl, inr}
+use Rattle.std.proofs.Common.{◌≡◌, ℕ, zero, suc, ◌+◌, ◌-◌, ◌<◌, ◌≤◌, Bool, true, ltb, eqb, cond, List, [], ◌∷◌, ◌++◌, length, take, drop, get_or, Option, Some, None, refl, sym, ap, subst, ◌∙◌, arith, inl, inr}
 use Rattle.std.specs.Prelude.{find, map, IsSomeAnd, IfOk, IfErr, OnOk, Result, Ok, Err}
 use Rattle.std.proofs.lemmas.Bool.{cases_Bool, ltb-true, ltb-false, eqb-true, ne_eqb, eq-eqb}
 use Rattle.std.specs.Option.{option_or}
-use Rattle.std.proofs.lemmas.List.{length-drop, drop-drop}
+use Rattle.std.proofs.lemmas.List.{length-drop, length-take}
 use Rattle.byteorder.specs.Endian.{big_bytes}
 use Rattle.stun_types_wire.specs.declared.error.StunParseError.{StunParseError}
 use Rattle.stun_types_wire.specs.declared.algorithm.IntegrityAlgorithm.{IntegrityAlgorithm}
@@ -25,6 +25,7 @@ use Rattle.stun_types_build.specs.Integrity.{IsSigned, Validates, algorithm_of, 
 use Rattle.stun_types_build.specs.Credentials.{Key}
 use Rattle.stun_types_build.specs.Keys.{key_of}
 use Rattle.stun_types_build.proofs.Keys.{key_for}
+use Rattle.stun_types_build.proofs.Pieces.{told_front}
 use Rattle.stun_types_build.specs.declared.credentials.MessageIntegrityCredentials.{MessageIntegrityCredentials}
 use Rattle.stun_types_message.specs.Parsed.{IsParsed}
 use Rattle.stun_types_message.specs.MessageValidation.{HasDigest, IsLawful, IsRefused, IsRight, StandsAt, first_of_kind, last_algorithm}
@@ -147,16 +148,14 @@ last_step (Some a) own last = refl
 
 -- ---- what is covered
 
--- the pieces of the covered text, with the length between them
-pub covered_pieces : (bytes front head behind tail len : List ℕ) (offset n : ℕ) (value : List ℕ) → StandsAt bytes offset value → front ≡ take offset bytes → head ≡ take 2 front → behind ≡ drop 2 front → tail ≡ drop 2 behind → len ≡ big_bytes 2 n → n + 20 ≡ offset + 4 + padded (length value)
-    → head ++ len ++ tail ≡ covered_text bytes offset
-unfolding covered_text with_length
-covered_pieces bytes front head behind tail len offset n value stands front-is head-is behind-is tail-is len-is n-is =
-    let told : n ≡ offset - 20 + size_at (drop offset bytes) = omega (arith, stands.behind_header, stands.size) in
-    let four : drop 2 (drop 2 front) ≡ drop 4 front = drop-drop 2 2 front in
-    let last : tail ≡ drop 4 (take offset bytes) = tail-is ∙ ap (λ (l : List ℕ). drop 2 l) behind-is ∙ four ∙ ap (λ (l : List ℕ). drop 4 l) front-is in
-    let first : head ≡ take 2 (take offset bytes) = head-is ∙ ap (λ (l : List ℕ). take 2 l) front-is in
-    rw (first, last, len-is, told) refl
+-- the pieces of the covered text: its front with the length, and what stands behind it
+pub covered_pieces : (bytes covered front behind : List ℕ) (offset n : ℕ) (value : List ℕ) → StandsAt bytes offset value → covered ≡ take offset bytes → front ≡ get_or covered 0 0 ∷ get_or covered 1 0 ∷ big_bytes 2 n → behind ≡ drop 4 covered
+    → n + 20 ≡ offset + 4 + padded (length value) → front ++ behind ++ [] ≡ covered_text bytes offset
+unfolding covered_text
+covered_pieces bytes covered front behind offset n value stands covered-is front-is behind-is n-is =
+    let told : n ≡ offset - 20 + size_at (drop offset bytes) = omega (arith, stands.behind_header, stands.size, n-is) in
+    let long : 20 ≤ length covered = (let size = ap length covered-is in omega (arith, size, length-take offset bytes, stands.behind_header, stands.whole)) in
+    told_front covered front behind n long front-is behind-is ∙ ap (λ (l : List ℕ). with_length l n) covered-is ∙ ap (λ m. with_length (take offset bytes) m) told
 
 -- ---- what validates
 

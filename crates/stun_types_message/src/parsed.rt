@@ -1,9 +1,10 @@
 //! Messages over borrowed bytes.
 
-ghost use Rattle.std.specs.Prelude.{◌≡◌, ◌==◌, ◌+◌, ◌<◌, ◌≤◌, ◌^◌, ◌↔◌, IsTrue, None, Some, MatchResult, drop, find, is_some, length, sum_by, take, IfOk};
+ghost use Rattle.std.specs.Prelude.{◌≡◌, ◌==◌, ◌+◌, ◌<◌, ◌≤◌, ◌^◌, ◌↔◌, IsTrue, None, Some, MatchResult, drop, find, is_some, length, sum_by, take, IfOk, IfSome};
 ghost use Rattle.stun_types_wire.specs.Attributes.{attr_size, kind_at, numbered};
 ghost use Rattle.stun_types_wire.specs.Types.{class_of, method_of, is_response_class};
-ghost use Rattle.stun_types_wire.specs.Grammar.{body_refusal, refusal, shown, number_at};
+ghost use Rattle.stun_types_wire.specs.Grammar.{IsMessage, body_refusal, refusal, shown, number_at};
+ghost use Rattle.stun_types_message.specs.MessageValidation.{StandsAt, first_of_kind};
 ghost use Rattle.stun_types_message.specs.Shows.{IsShownText};
 ghost use Rattle.stun_types_wire.specs.Registry.{greatest_size, header_size};
 
@@ -167,6 +168,21 @@ impl<'a> Message<'a> {
     pub fn raw_attribute(&self, atype: AttributeType) -> Option<RawAttribute<'a>>
         ensures { result ≡ find (λ a. a.kind == atype.0) (shown self.now) }
     {
+        match self.first_of_type(atype) {
+            Some((_, attribute)) => Some(attribute),
+            None => None,
+        }
+    }
+
+    /// The first attribute of a type, with the offset at which it stands. It goes over what is shown, and
+    /// is part of each caller, so that its answer isn't written and read again.
+    #[inline(always)]
+    pub(crate) fn first_of_type(&self, atype: AttributeType) -> Option<(usize, RawAttribute<'a>)>
+        ensures message { IsMessage self.now }
+        ensures found { result ≡ first_of_kind atype.0 self.now }
+        ensures stands { IfSome result (λ entry. StandsAt self.now entry.0 entry.1.value) }
+    {
+        let mut offset = MessageHeader::LENGTH;
         let mut left = self.shown;
         while !left.is_empty() {
             let front = Front::at(left);
@@ -174,8 +190,9 @@ impl<'a> Message<'a> {
             if front.atype == atype {
                 let (_, behind_header) = attribute.split_at(4);
                 let (value, _) = behind_header.split_at(front.length);
-                return Some(RawAttribute::new(front.atype, value));
+                return Some((offset, RawAttribute::new(front.atype, value)));
             }
+            offset += front.size;
             left = behind;
         }
         None

@@ -1,21 +1,21 @@
 //! Whether a message is what a holder of a key has sent.
 
-ghost use Rattle.std.specs.Prelude.{◌≡◌, ◌↔◌, ◌-◌, ℕ, List, Ok, Some, None, IsTrue, IsSomeAnd, IfOk, IfErr, IfSome, OnOk};
+ghost use Rattle.std.specs.Prelude.{◌≡◌, ◌↔◌, ◌-◌, ℕ, List, Ok, Some, None, IsTrue, IsSomeAnd, IfOk, IfErr, OnOk};
 ghost use Rattle.stun_types_wire.specs.declared.algorithm.IntegrityAlgorithm.{IntegrityAlgorithm as Algorithm};
 ghost use Rattle.stun_types_wire.specs.Grammar.{IsMessage, shown};
 ghost use Rattle.stun_types_build.specs.Integrity.{IsSigned, Validates, attribute_kind};
 ghost use Rattle.stun_types_build.specs.Keys.{key_of};
 ghost use Rattle.stun_types_message.specs.MessageValidation.{HasDigest, IsNotValid, IsRefused, IsRight, StandsAt, first_of_kind, last_algorithm};
 
-use crate::iter::MessageAttributesIter;
 use crate::parsed::Message;
 use stun_types_build::credentials::MessageIntegrityCredentials;
 use stun_types_build::integrity_algorithm::{algorithm_of, attribute_type, is_lawful_length};
 use stun_types_build::key::IntegrityKey;
 use stun_types_wire::algorithm::IntegrityAlgorithm;
-use stun_types_wire::attribute::{AttributeType, RawAttribute, pad_attribute_len};
+use stun_types_wire::attribute::pad_attribute_len;
 use stun_types_wire::error::{StunParseError, ValidateError};
 use stun_types_wire::registry::MESSAGE_INTEGRITY;
+use stun_types_write::text::front_told;
 
 impl<'a> Message<'a> {
     /// The algorithm of the last integrity attribute that the message shows, where it shows one.
@@ -101,21 +101,6 @@ impl<'a> Message<'a> {
         }
     }
 
-    /// The first attribute of a type, with the offset at which it stands.
-    #[tactic(auto, using(crate::proofs::Validating::stands))]
-    fn first_of_type(&self, atype: AttributeType) -> Option<(usize, RawAttribute<'a>)>
-        ensures message { IsMessage self.now }
-        ensures found { result ≡ first_of_kind atype.0 self.now }
-        ensures stands { IfSome result (λ entry. StandsAt self.now entry.0 entry.1.value) }
-    {
-        for (offset, attribute) in MessageAttributesIter::new(self.as_ref()) {
-            if attribute.get_type() == atype {
-                return Some((offset, attribute));
-            }
-        }
-        None
-    }
-
     /// Whether the value at an offset is the digest of what it covers, or a front of it.
     #[tactic(auto, using(crate::proofs::Validating::covered_pieces))]
     fn has_digest(&self, offset: usize, value: &[u8], key: &IntegrityKey<'_>) -> bool
@@ -123,11 +108,10 @@ impl<'a> Message<'a> {
         ensures { IsTrue result
             ↔ HasDigest self.now key.now.bytes key.now.algorithm offset value.now }
     {
-        let (front, _) = self.as_ref().split_at(offset);
+        let (covered, _) = self.as_ref().split_at(offset);
         let end = offset + 4 + pad_attribute_len(value.len());
-        let (head, behind_type) = front.split_at(2);
-        let (_, tail) = behind_type.split_at(2);
-        let len = self.length_up_to(end).to_be_bytes();
-        key.signs(head, &len, tail, value)
+        let front = front_told(covered, self.length_up_to(end));
+        let (_, behind) = covered.split_at(4);
+        key.signs(&front, behind, &[], value)
     }
 }

@@ -1,4 +1,5 @@
 pub mod Lent
+mod Padding
 pub mod Types
 pub mod Values
 pub mod Walked

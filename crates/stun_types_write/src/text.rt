@@ -1,6 +1,6 @@
 //! The texts of attributes and lengths, into bytes that are there.
 
-ghost use Rattle.std.specs.Prelude.{◌≡◌, ◌+◌, ◌<◌, ◌≤◌, ◌^◌, ◌++◌, length, drop};
+ghost use Rattle.std.specs.Prelude.{◌≡◌, ◌+◌, ◌<◌, ◌≤◌, ◌^◌, ◌∷◌, ◌++◌, length, drop, slice_index};
 ghost use Rattle.byteorder.specs.Endian.{big_bytes};
 ghost use Rattle.stun_types_grammar_laws.specs.Attributes.{padded};
 ghost use Rattle.stun_types_grammar_laws.specs.Text.{attribute_text};
@@ -33,7 +33,10 @@ pub fn write_attribute(atype: AttributeType, value: &[u8], dest: &mut [u8])
     write_attribute_in_two(atype, &[], value, dest);
 }
 
-/// The same, of a value that stands in two pieces.
+/// The same, of a value that stands in two pieces. Zeros are written to the last four bytes, and then what
+/// stands before the padding: so no number of zeros is counted. It is part of each caller, so that one with
+/// a value in one piece copies no other.
+#[inline(always)]
 pub fn write_attribute_in_two(atype: AttributeType, front: &[u8], back: &[u8], dest: &mut [u8])
     requires short { length (front.now ++ back.now) < 2 ^ 16 }
     requires room { 4 + padded (length (front.now ++ back.now)) ≤ length dest.old }
@@ -41,14 +44,25 @@ pub fn write_attribute_in_two(atype: AttributeType, front: &[u8], back: &[u8], d
         ++ drop (4 + padded (length (front.now ++ back.now))) dest.old }
 {
     let len = front.len() + back.len();
-    let (text, _) = dest.split_at_mut(4 + pad_attribute_len(len));
+    let before_last = pad_attribute_len(len);
+    let (text, _) = dest.split_at_mut(4 + before_last);
+    let (_, last) = text.split_at_mut(before_last);
+    last.copy_from_slice(&[0; 4]);
     write_attribute_header(atype, len as u16, text);
     let (_, behind_header) = text.split_at_mut(4);
     let (first, behind_front) = behind_header.split_at_mut(front.len());
-    let (second, padding) = behind_front.split_at_mut(back.len());
+    let (second, _) = behind_front.split_at_mut(back.len());
     first.copy_from_slice(front);
     second.copy_from_slice(back);
-    padding.fill(0);
+}
+
+/// The first four bytes of a message, as if its header told this length.
+pub fn front_told(bytes: &[u8], len: u16) -> [u8; 4]
+    requires { header_size ≤ length bytes.now }
+    ensures { result ≡ slice_index bytes.now 0 ∷ slice_index bytes.now 1 ∷ big_bytes 2 len }
+{
+    let [high, low] = len.to_be_bytes();
+    [bytes[0], bytes[1], high, low]
 }
 
 /// Writes the length of a message into its header.

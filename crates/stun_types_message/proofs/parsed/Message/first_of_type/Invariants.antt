@@ -1,11 +1,15 @@
-use Rattle.std.proofs.Common.{◌≡◌, eqb}
-use Rattle.std.specs.Prelude.{find}
+use Rattle.std.proofs.Common.{◌≡◌, ◌+◌, eqb, length}
+use Rattle.std.specs.Prelude.{find, sum_by}
+use Rattle.stun_types_wire.specs.Attributes.{attr_size, attributes, numbered}
 use Rattle.stun_types_message.specs.MessageValidation.{first_of_kind}
 use Rattle.stun_types_message.proofs.parsed.Message.first_of_type.Given as goal
 
--- the first of what is left is the first of what is shown
-abbrev pub invariant-loop-offset : goal.invariant-loop-offset
-invariant-loop-offset l =
-    (goal.iterator-loop-offset).can_next l.offset-iterator ×
-    (goal.iterator-loop-offset).is_finite l.offset-iterator ×
-    (find (λ x. eqb x.1.kind l.atype.0) l.offset-iterator ≡ first_of_kind l.atype.0 l.fn.self)
+-- the first of what is left is the first of what is shown, and what is left is whole and stands at the offset
+abbrev pub invariant-loop-left : goal.invariant-loop-left
+invariant-loop-left l =
+    (find (λ x. eqb x.1.kind l.atype.0) (numbered l.offset (attributes l.left)) ≡ first_of_kind l.atype.0 l.fn.self) ×
+    (sum_by attr_size (attributes l.left) ≡ length l.left) ×
+    (l.offset + length l.left ≡ l.initial.offset + length l.initial.left)
+
+abbrev pub decreases-loop-left : goal.decreases-loop-left
+decreases-loop-left l = length l.left

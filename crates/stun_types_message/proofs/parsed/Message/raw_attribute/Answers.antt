@@ -1,41 +1,10 @@
-use Rattle.std.proofs.Common.{rules, ◌≡◌, true, false, eqb, Some, length, drop, sym, ap, ◌∙◌, arith}
-use Rattle.stun_types_wire.specs.Attributes.{Attr, kind_at, size_at}
-use Rattle.stun_types_grammar_laws.proofs.Whole.{whole_long}
-use Rattle.stun_types_message.proofs.Shows.{attribute_is, begins_whole, first_is, first_is_behind, left_sum, none_left}
+use Rattle.std.proofs.Common.{sym}
+use Rattle.stun_types_wire.specs.Grammar.{shown}
+use Rattle.stun_types_message.proofs.Shows.{found_alone, none_alone}
 use Rattle.stun_types_message.proofs.parsed.Message.raw_attribute.Goals as goal
 
-pub at-front-requires : goal.at-front-requires
-at-front-requires c =
-    let some : length c.loop-left.left.now ≡ 0 → ⊥ = search rules in
-    let long = whole_long c.loop-left.left.now (begins_whole c.loop-left.left.now some c.loop-left.invariant.1) in
-    omega (arith, long)
+pub returns-in-Some : goal.returns-in-Some
+returns-in-Some c = sym (found_alone 20 c.args.atype.0 (shown c.args.self.now) (c.in-Some.field-0-0, c.in-Some.attribute) (sym c.in-Some.ensures.found))
 
-pub split_at-requires : goal.split_at-requires
-split_at-requires c =
-    let some : length c.loop-left.left.now ≡ 0 → ⊥ = search rules in
-    let long = whole_long c.loop-left.left.now (begins_whole c.loop-left.left.now some c.loop-left.invariant.1) in
-    let size = c.at-front.ensures.size in
-    omega (arith, long, size)
-
-pub returns-then-eq : goal.returns-then-eq
-returns-then-eq c =
-    let left = c.loop-left.left.now in
-    let some : length left ≡ 0 → ⊥ = search rules in
-    let whole = begins_whole left some c.loop-left.invariant.1 in
-    let same : eqb (kind_at left) c.args.atype.0 ≡ true = search rules in
-    let raw = attribute_is left _ _ _ c.new.result _ _ _ c.new.ensures.kind c.new.ensures.value c.at-front.ensures.kind c.at-front.ensures.size c.at-front.ensures.len c.split_at.ensures.front c.split_at-then-eq.ensures.back c.split_at-then-eq-2.ensures.front in
-    ap (λ (a : Attr). Some a) raw ∙ sym (first_is left c.args.atype.0 whole same) ∙ c.loop-left.invariant.0
-
-pub loop-left-preserved : goal.loop-left-preserved
-loop-left-preserved c =
-    let left = c.loop-left.left.now in
-    let some : length left ≡ 0 → ⊥ = search rules in
-    let whole = begins_whole left some c.loop-left.invariant.1 in
-    let other : eqb (kind_at left) c.args.atype.0 ≡ false = search rules in
-    let behind : c.split_at.result.1.now ≡ drop (size_at left) left = c.split_at.ensures.back ∙ ap (λ n. drop n left) c.at-front.ensures.size in
-    rw behind (sym (first_is_behind left c.args.atype.0 whole other) ∙ c.loop-left.invariant.0, left_sum left whole c.loop-left.invariant.1)
-
-pub returns : goal.returns
-returns c =
-    let empty : length c.loop-left.left.now ≡ 0 = search rules in
-    sym (none_left c.loop-left.left.now c.args.atype.0 empty) ∙ c.loop-left.invariant.0
+pub returns-in-None : goal.returns-in-None
+returns-in-None c = sym (none_alone 20 c.args.atype.0 (shown c.args.self.now) (sym c.in-None.ensures.found))
