@@ -1,5 +1,5 @@
 -- What is kept of moments, after each change of them.
-use Rattle.std.proofs.Common.{◌≡◌, ℕ, ◌+◌, ◌-◌, ◌<◌, ◌≤◌, Bool, true, List, length, get_or, set, sym, ap, ◌∙◌, inl, inr, arith, ◌⊎◌}
+use Rattle.std.proofs.Common.{◌≡◌, ℕ, ◌+◌, ◌-◌, ◌<◌, ◌≤◌, Bool, true, List, length, get_or, set, sym, ap, subst, ◌∙◌, inl, inr, arith, ◌⊎◌}
 use Rattle.std.specs.List.{insert, remove}
 use Rattle.std.proofs.lemmas.Bool.{cases_lt}
 use Rattle.std.proofs.lemmas.List.{get_or-set_same, get_or-set_other, length-set}
@@ -92,4 +92,36 @@ module _ (moments : List ℕ) (place : ℕ) (within : place < length moments) wh
     most = (let old = kept.most in (let all : moment ≤ greatest_moment = omega (arith, old, lower) in all));
     below = λ k less. grind (arith, get_or-set_same moments place moment 0 within, get_or-set_other moments place k moment 0, kept.below k less);
     reached = λ _. inr (place, before, get_or-set_same moments place moment 0 within);
+  }
+
+module _ (moments : List ℕ) (passed : ℕ) (within : passed < length moments) where
+  -- what holds of those before a place and of the one there holds of those up to it
+  up_to : (P : ℕ → Type 0) → ((k : ℕ) → k < passed → P (get_or moments k 0)) → P (get_or moments passed 0) → (k : ℕ) → k < passed + 1 → P (get_or moments k 0)
+  up_to P all here k less = elim (cases_lt k passed) [
+    | inl lower ↦ all k lower
+    | inr not_lower ↦ subst P (sym (at_place moments k passed (omega (arith, less, not_lower)))) here
+  ]
+
+  pub all_later : (now moment : ℕ) → ((k : ℕ) → k < passed → now < get_or moments k 0) → get_or moments passed 0 ≡ moment → now < moment → (k : ℕ) → k < passed + 1 → now < get_or moments k 0
+  all_later now moment all is later = up_to (λ m. now < m) all (omega (arith, is, later))
+
+  -- the next moment is the bound now
+  pub passed_lower : (least moment : ℕ) (exact : Bool) → IsKept moments passed least exact → get_or moments passed 0 ≡ moment → moment ≤ least → IsKept moments (passed + 1) moment true
+  passed_lower least moment exact kept is lower = record {
+    within = omega (arith, within);
+    most = (let old = kept.most in (let all : moment ≤ greatest_moment = omega (arith, old, lower) in all));
+    below = up_to (λ m. moment ≤ m) (λ k less. let old = kept.below k less in omega (arith, old, lower)) (omega (arith, is));
+    reached = λ _. inr (passed, (let some : passed < passed + 1 = omega arith in some), is);
+  }
+
+  -- the next moment is later than the bound
+  pub passed_later : (least moment : ℕ) (exact : Bool) → IsKept moments passed least exact → get_or moments passed 0 ≡ moment → least < moment → IsKept moments (passed + 1) least exact
+  passed_later least moment exact kept is later = record {
+    within = omega (arith, within);
+    most = kept.most;
+    below = up_to (λ m. least ≤ m) kept.below (omega (arith, is, later));
+    reached = λ told. elim (kept.reached told) [
+      | inl most ↦ inl most
+      | inr (k, less, same) ↦ inr (k, (let some : k < passed + 1 = omega (arith, less) in some), same)
+    ];
   }

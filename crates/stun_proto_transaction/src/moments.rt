@@ -102,7 +102,8 @@ impl Moments {
     }
 
     /// The first place whose moment has come, or `None` where each is later. It goes on from the cursor; where
-    /// the bound has come it goes from the front.
+    /// the bound has come it goes from the front. So what has come is no later than the bound: each moment is
+    /// held against that one alone.
     pub fn first_until(&mut self, now: Instant) -> Option<usize>
         ensures first { MatchOption result (AllLater now self.old)
             (λ place. IsFirst now self.old place) }
@@ -115,10 +116,11 @@ impl Moments {
         }
         while self.passed < self.moments.len() {
             let moment = self.moments[self.passed];
-            if moment <= now {
-                return Some(self.passed);
-            }
-            if moment <= self.least {
+            // As numbers: none is above the greatest, with which the bound begins.
+            if moment.as_nanos() <= self.least.as_nanos() {
+                if moment <= now {
+                    return Some(self.passed);
+                }
                 self.least = moment;
                 self.is_exact = true;
             }

@@ -1,0 +1,31 @@
+use Rattle.std.proofs.Common.{rules, arith, ◌≡◌, ◌<◌, ◌≤◌, length, get_or, inl, inr}
+use Rattle.std.proofs.lemmas.List.{get_or_default}
+use Rattle.stun_proto_schedule.specs.Moments.{greatest_moment}
+use Rattle.stun_proto_transaction.proofs.Bounds.{all_later, passed_later, passed_lower}
+use Rattle.stun_proto_transaction.proofs.moments.Moments.first_until.Goals.{then-as_nanos+else-le-2, else-as_nanos}
+use Rattle.stun_proto_transaction.proofs.moments.Moments.first_until.Goals as goal
+
+pub loop-self-preserved : goal.loop-self-preserved
+loop-self-preserved c =
+    let before = c.loop-self.self-inside in
+    let moment = c.index.result.now in
+    let within : before.passed < length before.moments.items = search rules in
+    let read = get_or_default before.moments.items before.passed moment 0 within in
+    let told = c.index.ensures in
+    let is : get_or before.moments.items before.passed 0 ≡ moment = omega (arith, read, told) in
+    let kept = c.loop-self.invariant.0 in
+    let same = c.loop-self.invariant.1 in
+    let later = c.loop-self.invariant.2 in
+    elim c.if-as_nanos.branch [
+      | then-as_nanos+else-le-2 w ↦
+          let lower : moment ≤ before.least = search rules in
+          let ahead : c.args.now < moment = search rules in
+          rw w.self-inside-is (passed_lower _ _ within _ _ _ kept is lower, same, all_later _ _ within _ _ later is ahead, inl ahead)
+      | else-as_nanos w ↦
+          let higher : before.least < moment = search rules in
+          let ahead : c.args.now < moment = elim c.loop-self.invariant.3 [
+            | inl less ↦ omega (arith, less, higher)
+            | inr most ↦ absurd (let fits : moment ≤ greatest_moment = search rules in omega (arith, most, higher, fits))
+          ] in
+          rw w.self-inside-is (passed_later _ _ within _ _ _ kept is higher, same, all_later _ _ within _ _ later is ahead, c.loop-self.invariant.3)
+    ]
