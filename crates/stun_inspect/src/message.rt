@@ -7,8 +7,8 @@ use stun_types::attribute::{
     RawAttribute,
 };
 use stun_types::message::{
-    IntegrityAlgorithm, Message, MessageHeader, MessageIntegrityCredentials, TransactionId,
-    ValidateError,
+    IntegrityAlgorithm, Message, MessageHeader, MessageIntegrityCredentials, StunParseError,
+    TransactionId, ValidateError,
 };
 use stun_types::{Names, NoMemory};
 use stun_words::attribute::push_attribute;
@@ -35,10 +35,7 @@ pub(crate) fn push_message(
             }
             push_fingerprint(text, &message)?;
         }
-        Err(error) => {
-            let refusal = Refusal(error);
-            writeln!(text, "refused {refusal}")?;
-        }
+        Err(error) => push_refused(text, error)?,
     }
     Ok(())
 }
@@ -54,11 +51,27 @@ pub(crate) fn push_raw(
     writeln!(text, "raw {size} bytes")?;
     match RawAttribute::from_bytes(bytes) {
         Ok(raw) => push_attribute(alloc, text, &raw, TransactionId::from(0u128), names)?,
-        Err(error) => {
-            let refusal = Refusal(error);
-            writeln!(text, "refused {refusal}")?;
-        }
+        Err(error) => push_refused(text, error)?,
     }
+    Ok(())
+}
+
+/// Appends a line that says why bytes are not what they are given as.
+pub(crate) fn push_refused(text: &mut String, error: StunParseError) -> Result<(), NoMemory> {
+    let refusal = Refusal(error);
+    writeln!(text, "refused {refusal}")?;
+    Ok(())
+}
+
+/// Appends a line of a name and bytes in hex.
+pub(crate) fn push_named(
+    alloc: Global,
+    text: &mut String,
+    name: &str,
+    bytes: &[u8],
+) -> Result<(), NoMemory> {
+    let hex = write_hex(alloc, bytes)?;
+    writeln!(text, "{name} {hex}")?;
     Ok(())
 }
 
@@ -87,9 +100,7 @@ fn push_shown(
         push_attribute(alloc, text, &raw, message.transaction_id(), names)?;
         behind = behind.get(raw.padded_len()..).unwrap_or(&[]);
     }
-    let rest = write_hex(alloc, behind)?;
-    writeln!(text, "behind {rest}")?;
-    Ok(())
+    push_named(alloc, text, "behind", behind)
 }
 
 /// Appends what each integrity attribute that is shown comes to under the credentials, and the

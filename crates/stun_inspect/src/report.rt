@@ -82,40 +82,60 @@ impl Inspector {
     }
 
     /// What is printed of a line: nothing of one that gives credentials.
-    fn in_words(&mut self, line: Line<'_>) -> Result<String, NoMemory> {
+    fn in_words(&mut self, line: &Line<'_>) -> Result<String, NoMemory> {
         let mut text = String::new(self.alloc);
+        self.push_line(&mut text, line)?;
+        Ok(text)
+    }
+
+    /// Keeps the credentials of a line that gives some, and appends what bytes are of one that gives bytes.
+    fn push_line(&mut self, text: &mut String, line: &Line<'_>) -> Result<(), NoMemory> {
         match line {
             Line::User {
                 name,
                 realm,
                 password,
-            } => {
-                let name = String::from_str(self.alloc, name)?;
-                let realm = String::from_str(self.alloc, realm)?;
-                let password = String::from_str(self.alloc, password)?;
-                let key = LongTermCredentials::new(name, password).to_key(self.alloc, realm)?;
-                self.credentials = Some(MessageIntegrityCredentials::from(key));
-            }
+            } => self.credentials = Some(credentials_of_user(self.alloc, name, realm, password)?),
             Line::Password(password) => {
-                let password = String::from_str(self.alloc, password)?;
-                let credentials = ShortTermCredentials::new(password);
-                self.credentials = Some(MessageIntegrityCredentials::from(credentials));
+                self.credentials = Some(credentials_of_password(self.alloc, password)?)
             }
             Line::Message(bytes) => {
                 let (credentials, names) = (self.credentials.as_ref(), &self.names);
-                push_message(self.alloc, &mut text, bytes.as_slice(), credentials, names)?;
+                push_message(self.alloc, text, bytes.as_slice(), credentials, names)?;
             }
-            Line::Raw(bytes) => {
-                push_raw(self.alloc, &mut text, bytes.as_slice(), &self.names)?;
-            }
-            Line::Frame(bytes) => push_frame(self.alloc, &mut text, bytes.as_slice())?,
+            Line::Raw(bytes) => push_raw(self.alloc, text, bytes.as_slice(), &self.names)?,
+            Line::Frame(bytes) => push_frame(self.alloc, text, bytes.as_slice())?,
             Line::Stream(bytes) => {
                 let (credentials, names) = (self.credentials.as_ref(), &self.names);
-                push_stream(self.alloc, &mut text, bytes.as_slice(), credentials, names)?;
+                push_stream(self.alloc, text, bytes.as_slice(), credentials, names)?;
             }
         }
-        Ok(text)
+        Ok(())
     }
+}
+
+/// The credentials of a user in a realm.
+fn credentials_of_user(
+    alloc: Global,
+    name: &str,
+    realm: &str,
+    password: &str,
+) -> Result<MessageIntegrityCredentials, NoMemory> {
+    let name = String::from_str(alloc, name)?;
+    let password = String::from_str(alloc, password)?;
+    let user = LongTermCredentials::new(name, password);
+    let key = user.to_key(alloc, String::from_str(alloc, realm)?)?;
+    Ok(MessageIntegrityCredentials::from(key))
+}
+
+/// The credentials of a password alone.
+fn credentials_of_password(
+    alloc: Global,
+    password: &str,
+) -> Result<MessageIntegrityCredentials, NoMemory> {
+    let password = String::from_str(alloc, password)?;
+    let credentials = ShortTermCredentials::new(password);
+    Ok(MessageIntegrityCredentials::from(credentials))
 }
 
 /// Prints what the lines of a text give.
@@ -157,7 +177,7 @@ fn inspect_line<O: Write>(
         return Ok(());
     }
     match read_line(inspector.alloc, line) {
-        Ok(read) => match inspector.in_words(read) {
+        Ok(read) => match inspector.in_words(&read) {
             Ok(words) => print(words.as_str(), output),
             Err(NoMemory) => Err(Stop::NoMemory),
         },

@@ -1,12 +1,10 @@
 //! Channel frames, by themselves and among the messages of a stream (RFC 8656, sections 12.4 and 12.5).
 
-use crate::message::push_message;
-use program_lines::lower_hex::write_hex;
+use crate::message::{push_message, push_named, push_refused};
 use std::alloc::Global;
 use stun_types::attribute::pad_attribute_len;
 use stun_types::message::MessageIntegrityCredentials;
 use stun_types::{Names, NoMemory};
-use stun_words::refusal::Refusal;
 use turn_types::channel::ChannelData;
 use turn_types::registry::CHANNEL_HEADER_LENGTH;
 use turn_types::tcp::{Front, front_of};
@@ -18,18 +16,13 @@ pub(crate) fn push_frame(alloc: Global, text: &mut String, bytes: &[u8]) -> Resu
     match ChannelData::parse(bytes) {
         Ok(frame) => {
             let channel = frame.id();
-            let data = write_hex(alloc, frame.data())?;
-            let behind = write_hex(alloc, bytes.get(frame.len()..).unwrap_or(&[]))?;
             writeln!(text, "channel 0x{channel:04x}")?;
-            writeln!(text, "data {data}")?;
-            writeln!(text, "behind {behind}")?;
+            push_named(alloc, text, "data", frame.data())?;
+            let behind = bytes.get(frame.len()..).unwrap_or(&[]);
+            push_named(alloc, text, "behind", behind)
         }
-        Err(error) => {
-            let refusal = Refusal(error);
-            writeln!(text, "refused {refusal}")?;
-        }
+        Err(error) => push_refused(text, error),
     }
-    Ok(())
 }
 
 /// Appends what bytes are as the front of a stream: each whole message, under some credentials where
@@ -59,14 +52,10 @@ pub(crate) fn push_stream(
                 rest = behind;
             }
             Front::Partial => {
-                let partial = write_hex(alloc, rest)?;
-                writeln!(text, "rest {partial}")?;
-                return Ok(());
+                return push_named(alloc, text, "rest", rest);
             }
             Front::Broken => {
-                let broken = write_hex(alloc, rest)?;
-                writeln!(text, "broken {broken}")?;
-                return Ok(());
+                return push_named(alloc, text, "broken", rest);
             }
         }
     }

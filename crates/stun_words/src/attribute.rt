@@ -1,15 +1,16 @@
 //! One attribute: its type, its name, and its value in words.
 
 use crate::refusal::Refusal;
-use crate::turn::turn_in_words;
+use crate::turn::push_turn;
 use program_lines::lower_hex::write_hex;
-use std::alloc::Global;
+use std::alloc::{AllocError, Global};
 use std::convert::TryFrom;
+use std::net::SocketAddr;
 use stun_types::attribute::{
-    AlternateDomain, AlternateServer, AttributeFromRaw, AttributeStaticType, ErrorCode,
-    Fingerprint, MessageIntegrity, MessageIntegritySha256, Nonce, PasswordAlgorithm,
-    PasswordAlgorithms, RawAttribute, Realm, Software, UnknownAttributes, Userhash, Username,
-    XorMappedAddress,
+    AlternateDomain, AlternateServer, AttributeFromRaw, AttributeStaticType, AttributeType,
+    ErrorCode, Fingerprint, MessageIntegrity, MessageIntegritySha256, Nonce, PasswordAlgorithm,
+    PasswordAlgorithmValue, PasswordAlgorithms, RawAttribute, Realm, Software, UnknownAttributes,
+    Userhash, Username, XorMappedAddress, text_of,
 };
 use stun_types::message::{StunParseError, TransactionId};
 use stun_types::{Names, NoMemory};
@@ -26,174 +27,193 @@ pub fn push_attribute(
     let atype = raw.get_type();
     let (value, name) = (atype.value(), atype.name(names));
     write!(text, "attribute 0x{value:04x} {name} ")?;
-    match value_in_words(alloc, raw, number) {
-        Ok(words) => text.push_str(words.as_str())?,
-        Err(StunParseError::NoMemory) => return Err(NoMemory),
-        Err(error) => {
-            let refusal = Refusal(error);
-            let bytes = write_hex(alloc, raw.value())?;
-            write!(text, "refused {refusal} of {bytes}")?;
-        }
+    if !push_value(alloc, text, raw, number)? {
+        text.push_str(" of ")?;
+        push_hex(alloc, text, raw.value())?;
     }
     text.push_str("\n")?;
     Ok(())
 }
 
-/// The value of an attribute in words, in a message of this number. Refused as the type's own
-/// `from_raw` refuses it. The value of a type that this repository does not read is its bytes.
-pub fn value_in_words(
+/// Appends the value of an attribute in words, in a message of this number; or `refused`, and why it is no
+/// value of that type. Answers whether it is one.
+pub(crate) fn push_value(
     alloc: Global,
+    text: &mut String,
     raw: &RawAttribute<'_>,
     number: TransactionId,
-) -> Result<String, StunParseError> {
-    if let Some(words) = text_in_words(alloc, raw)? {
-        return Ok(words);
-    }
-    if let Some(words) = address_in_words(alloc, raw, number)? {
-        return Ok(words);
-    }
-    if let Some(words) = algorithms_in_words(alloc, raw)? {
-        return Ok(words);
-    }
-    if let Some(words) = number_in_words(alloc, raw)? {
-        return Ok(words);
-    }
-    if let Some(words) = digest_in_words(alloc, raw)? {
-        return Ok(words);
-    }
-    if let Some(words) = turn_in_words(alloc, raw, number)? {
-        return Ok(words);
-    }
-    let words = write_hex(alloc, raw.value())?;
-    Ok(words)
-}
-
-/// A text in quotation marks.
-fn quoted(alloc: Global, text: &str) -> Result<Option<String>, StunParseError> {
-    let words = format!(in alloc; "{text:?}")?;
-    Ok(Some(words))
-}
-
-/// The text of an attribute that holds one, in quotation marks.
-fn text_in_words(alloc: Global, raw: &RawAttribute<'_>) -> Result<Option<String>, StunParseError> {
-    let atype = raw.get_type();
-    if atype == Username::TYPE {
-        let read = Username::from_raw_ref(alloc, raw)?;
-        quoted(alloc, read.username())
-    } else if atype == Realm::TYPE {
-        let read = Realm::from_raw_ref(alloc, raw)?;
-        quoted(alloc, read.realm())
-    } else if atype == Nonce::TYPE {
-        let read = Nonce::from_raw_ref(alloc, raw)?;
-        quoted(alloc, read.nonce())
-    } else if atype == Software::TYPE {
-        let read = Software::from_raw_ref(alloc, raw)?;
-        quoted(alloc, read.software())
-    } else if atype == AlternateDomain::TYPE {
-        let read = AlternateDomain::from_raw_ref(alloc, raw)?;
-        quoted(alloc, read.domain())
-    } else {
-        Ok(None)
+) -> Result<bool, NoMemory> {
+    match push_read(alloc, text, raw, number) {
+        Ok(()) => Ok(true),
+        Err(StunParseError::NoMemory) => Err(NoMemory),
+        Err(error) => {
+            let refusal = Refusal(error);
+            write!(text, "refused {refusal}")?;
+            Ok(false)
+        }
     }
 }
 
-/// The address of an attribute that holds one.
-fn address_in_words(
+/// Appends the value of an attribute in words, in a message of this number. Refused as the type's own
+/// `from_raw` refuses it; nothing is appended then. The value of a type that this repository does not read
+/// is its bytes.
+fn push_read(
     alloc: Global,
+    text: &mut String,
     raw: &RawAttribute<'_>,
     number: TransactionId,
-) -> Result<Option<String>, StunParseError> {
+) -> Result<(), StunParseError> {
+    let is_read = push_text(text, raw)?
+        || push_address(text, raw, number)?
+        || push_numbers(alloc, text, raw)?
+        || push_digest(alloc, text, raw)?
+        || push_turn(alloc, text, raw, number)?;
+    if !is_read {
+        push_hex(alloc, text, raw.value())?;
+    }
+    Ok(())
+}
+
+/// Appends bytes in hex.
+pub(crate) fn push_hex(alloc: Global, text: &mut String, bytes: &[u8]) -> Result<(), AllocError> {
+    let hex = write_hex(alloc, bytes)?;
+    text.push_str(hex.as_str())
+}
+
+/// Appends the text of an attribute that holds one, in quotation marks. Answers whether it holds one.
+fn push_text(text: &mut String, raw: &RawAttribute<'_>) -> Result<bool, StunParseError> {
     let atype = raw.get_type();
-    let addr = if atype == XorMappedAddress::TYPE {
-        XorMappedAddress::try_from(raw)?.addr(number)
-    } else if atype == AlternateServer::TYPE {
-        AlternateServer::try_from(raw)?.server()
-    } else {
-        return Ok(None);
+    let Some(longest) = longest_text(atype) else {
+        return Ok(false);
     };
-    let words = format!(in alloc; "{addr}")?;
-    Ok(Some(words))
+    let read = text_of(raw, atype, longest)?;
+    write!(text, "{read:?}")?;
+    Ok(true)
 }
 
-/// The names of the algorithms of an attribute that tells some.
-fn algorithms_in_words(
-    alloc: Global,
+/// How many bytes the text of an attribute of this type has at most. None of a type that holds no text.
+fn longest_text(atype: AttributeType) -> Option<usize> {
+    match atype {
+        Username::TYPE => Some(Username::MAX_LEN),
+        Realm::TYPE => Some(Realm::MAX_LEN),
+        Nonce::TYPE => Some(Nonce::MAX_LEN),
+        Software::TYPE => Some(Software::MAX_LEN),
+        AlternateDomain::TYPE => Some(AlternateDomain::MAX_LEN),
+        _ => None,
+    }
+}
+
+/// Appends the address of an attribute of STUN that holds one. Answers whether it holds one.
+fn push_address(
+    text: &mut String,
     raw: &RawAttribute<'_>,
-) -> Result<Option<String>, StunParseError> {
-    let atype = raw.get_type();
-    if atype == PasswordAlgorithm::TYPE {
-        let algorithm = PasswordAlgorithm::try_from(raw)?.algorithm();
-        let words = format!(in alloc; "{algorithm}")?;
-        return Ok(Some(words));
+    number: TransactionId,
+) -> Result<bool, StunParseError> {
+    match raw.get_type() {
+        XorMappedAddress::TYPE => push_addr(text, XorMappedAddress::try_from(raw)?.addr(number))?,
+        AlternateServer::TYPE => push_addr(text, AlternateServer::try_from(raw)?.server())?,
+        _ => return Ok(false),
     }
-    if atype != PasswordAlgorithms::TYPE {
-        return Ok(None);
-    }
-    let read = PasswordAlgorithms::from_raw_ref(alloc, raw)?;
-    let mut words = String::new(alloc);
-    for algorithm in read.algorithms() {
-        if !words.is_empty() {
-            words.push_str(" ")?;
+    Ok(true)
+}
+
+/// Appends an address.
+pub(crate) fn push_addr(text: &mut String, addr: SocketAddr) -> Result<(), AllocError> {
+    write!(text, "{addr}")
+}
+
+/// Appends the numbers of an attribute that tells some: the names of algorithms, the code of an error and
+/// its reason, the types that were not known. Answers whether it tells some.
+fn push_numbers(
+    alloc: Global,
+    text: &mut String,
+    raw: &RawAttribute<'_>,
+) -> Result<bool, StunParseError> {
+    match raw.get_type() {
+        PasswordAlgorithm::TYPE => {
+            let algorithm = PasswordAlgorithm::try_from(raw)?.algorithm();
+            write!(text, "{algorithm}")?;
         }
-        write!(words, "{algorithm}")?;
+        PasswordAlgorithms::TYPE => {
+            let read = PasswordAlgorithms::from_raw_ref(alloc, raw)?;
+            push_algorithms(text, read.algorithms())?;
+        }
+        ErrorCode::TYPE => push_error(alloc, text, raw)?,
+        UnknownAttributes::TYPE => {
+            let _ = UnknownAttributes::from_raw_ref(alloc, raw)?;
+            push_types(text, raw.value())?;
+        }
+        _ => return Ok(false),
     }
-    Ok(Some(words))
+    Ok(true)
 }
 
-/// The numbers of an attribute that tells some: the code of an error and its reason, and the types that
-/// were not known.
-fn number_in_words(
+/// Appends the names of algorithms.
+fn push_algorithms(
+    text: &mut String,
+    algorithms: &[PasswordAlgorithmValue],
+) -> Result<(), AllocError> {
+    let mut is_first = true;
+    for algorithm in algorithms {
+        if !is_first {
+            text.push_str(" ")?;
+        }
+        is_first = false;
+        write!(text, "{algorithm}")?;
+    }
+    Ok(())
+}
+
+/// Appends the code and the reason of an ERROR-CODE.
+pub(crate) fn push_error(
     alloc: Global,
+    text: &mut String,
     raw: &RawAttribute<'_>,
-) -> Result<Option<String>, StunParseError> {
-    let atype = raw.get_type();
-    if atype == ErrorCode::TYPE {
-        let read = ErrorCode::from_raw_ref(alloc, raw)?;
-        let (code, reason) = (read.code(), read.reason());
-        let words = format!(in alloc; "{code} {reason:?}")?;
-        Ok(Some(words))
-    } else if atype == UnknownAttributes::TYPE {
-        let _ = UnknownAttributes::from_raw_ref(alloc, raw)?;
-        let words = types_in_words(alloc, raw.value())?;
-        Ok(Some(words))
-    } else {
-        Ok(None)
-    }
+) -> Result<(), StunParseError> {
+    let read = ErrorCode::from_raw_ref(alloc, raw)?;
+    let (code, reason) = (read.code(), read.reason());
+    write!(text, "{code} {reason:?}")?;
+    Ok(())
 }
 
-/// The types that the value of an UNKNOWN-ATTRIBUTES lists, or `-` where it lists none.
-fn types_in_words(alloc: Global, value: &[u8]) -> Result<String, NoMemory> {
-    let mut words = String::new(alloc);
+/// Appends the types that the value of an UNKNOWN-ATTRIBUTES lists, or `-` where it lists none.
+fn push_types(text: &mut String, value: &[u8]) -> Result<(), AllocError> {
+    if value.is_empty() {
+        return text.push_str("-");
+    }
+    let mut is_first = true;
     for pair in value.chunks_exact(2) {
-        if !words.is_empty() {
-            words.push_str(" ")?;
+        if !is_first {
+            text.push_str(" ")?;
         }
+        is_first = false;
         let (high, low) = (pair[0], pair[1]);
-        write!(words, "0x{high:02x}{low:02x}")?;
+        write!(text, "0x{high:02x}{low:02x}")?;
     }
-    if words.is_empty() {
-        words.push_str("-")?;
-    }
-    Ok(words)
+    Ok(())
 }
 
-/// The bytes of an attribute that holds a digest.
-fn digest_in_words(
+/// Appends the bytes of an attribute that holds a digest. Answers whether it holds one.
+fn push_digest(
     alloc: Global,
+    text: &mut String,
     raw: &RawAttribute<'_>,
-) -> Result<Option<String>, StunParseError> {
-    let atype = raw.get_type();
-    if atype == MessageIntegrity::TYPE {
-        let _ = MessageIntegrity::try_from(raw)?;
-    } else if atype == MessageIntegritySha256::TYPE {
-        let _ = MessageIntegritySha256::try_from(raw)?;
-    } else if atype == Userhash::TYPE {
-        let _ = Userhash::try_from(raw)?;
-    } else if atype == Fingerprint::TYPE {
-        let _ = Fingerprint::try_from(raw)?;
-    } else {
-        return Ok(None);
+) -> Result<bool, StunParseError> {
+    match raw.get_type() {
+        MessageIntegrity::TYPE => {
+            let _ = MessageIntegrity::try_from(raw)?;
+        }
+        MessageIntegritySha256::TYPE => {
+            let _ = MessageIntegritySha256::try_from(raw)?;
+        }
+        Userhash::TYPE => {
+            let _ = Userhash::try_from(raw)?;
+        }
+        Fingerprint::TYPE => {
+            let _ = Fingerprint::try_from(raw)?;
+        }
+        _ => return Ok(false),
     }
-    let words = write_hex(alloc, raw.value())?;
-    Ok(Some(words))
+    push_hex(alloc, text, raw.value())?;
+    Ok(true)
 }

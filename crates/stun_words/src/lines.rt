@@ -1,15 +1,13 @@
 //! What bytes are, in a few short lines.
 
-use crate::attribute::value_in_words;
+use crate::attribute::{push_hex, push_value};
 use crate::names::class_name;
-use crate::refusal::Refusal;
-use program_lines::lower_hex::write_hex;
-use std::alloc::Global;
+use std::alloc::{AllocError, Global};
 use stun_types::attribute::{
     AttributeStaticType, ErrorCode, MessageIntegrity, MessageIntegritySha256, RawAttribute, Realm,
     UnknownAttributes, Username,
 };
-use stun_types::message::{Message, StunParseError};
+use stun_types::message::{Message, TransactionId};
 use stun_types::{Names, NoMemory};
 use turn_types::attribute::{
     ChannelNumber, ConnectionId, Data, Lifetime, XorPeerAddress, XorRelayedAddress,
@@ -19,48 +17,58 @@ use turn_types::channel::ChannelData;
 /// Which characters of a transaction ID are shown: its first six hex digits, behind `0x`.
 const SHOWN_OF_NUMBER: (usize, usize) = (2, 8);
 
-/// What bytes are: a message, its name and what is of interest in it; a channel frame; or so many bytes.
-pub fn bytes_in_lines(alloc: Global, bytes: &[u8], names: &Names) -> Result<Vec<String>, NoMemory> {
+/// Appends what bytes are, in lines with a line feed between each two: a message, its name and what is of
+/// interest in it; a channel frame; or so many bytes.
+pub fn push_lines(
+    alloc: Global,
+    text: &mut String,
+    bytes: &[u8],
+    names: &Names,
+) -> Result<(), NoMemory> {
     if let Ok(message) = Message::from_bytes(bytes) {
-        return message_in_lines(alloc, &message, names);
+        return push_message(alloc, text, &message, names);
     }
-    let mut lines = Vec::new(alloc);
     if let Ok(frame) = ChannelData::parse(bytes) {
         let number = frame.id();
-        lines.push(format!(in alloc; "channel frame 0x{number:04x}")?)?;
-        lines.push(write_hex(alloc, frame.data())?)?;
+        writeln!(text, "channel frame 0x{number:04x}")?;
+        push_hex(alloc, text, frame.data())?;
     } else {
-        lines.push(format!(in alloc; "{} bytes", bytes.len())?)?;
-        lines.push(write_hex(alloc, bytes)?)?;
+        let size = bytes.len();
+        writeln!(text, "{size} bytes")?;
+        push_hex(alloc, text, bytes)?;
     }
-    Ok(lines)
+    Ok(())
 }
 
-/// What a message is: method, class, the first digits of its transaction ID; then each attribute of interest;
-/// and by what it is signed.
-fn message_in_lines(
+/// Appends what a message is: method, class, the first digits of its transaction ID; then each attribute of
+/// interest, its name and its value in words; and by what it is signed.
+fn push_message(
     alloc: Global,
+    text: &mut String,
     message: &Message<'_>,
     names: &Names,
-) -> Result<Vec<String>, NoMemory> {
-    let mut lines = Vec::new(alloc);
+) -> Result<(), NoMemory> {
     let (method, class) = (message.method().name(names), class_name(message.class()));
-    let number = message.transaction_id();
-    let number = format!(in alloc; "{number}")?;
-    let digits = number
-        .as_str()
-        .get(SHOWN_OF_NUMBER.0..SHOWN_OF_NUMBER.1)
-        .unwrap_or("");
-    lines.push(format!(in alloc; "{method} {class} {digits}")?)?;
+    write!(text, "{method} {class} ")?;
+    push_digits(alloc, text, message.transaction_id())?;
     for (_, raw) in message.iter_attributes() {
         if is_of_interest(&raw) {
-            lines.push(attribute_in_words(alloc, &raw, message, names)?)?;
+            let name = raw.get_type().name(names);
+            write!(text, "\n{name} ")?;
+            push_value(alloc, text, &raw, message.transaction_id())?;
         }
     }
     if let Some(how) = signed_how(message) {
-        lines.push(String::from_str(alloc, how)?)?;
+        write!(text, "\n{how}")?;
     }
-    Ok(lines)
+    Ok(())
+}
+
+/// Appends the first digits of a transaction ID.
+fn push_digits(alloc: Global, text: &mut String, number: TransactionId) -> Result<(), AllocError> {
+    let (from, to) = SHOWN_OF_NUMBER;
+    let number = format!(in alloc; "{number}")?;
+    text.push_str(number.as_str().get(from..to).unwrap_or(""))
 }
 
 /// By which algorithms a message is signed, by the integrity attributes that it shows. None where it shows
@@ -78,41 +86,17 @@ fn signed_how(message: &Message<'_>) -> Option<&'static str> {
 
 /// Whether an attribute is shown.
 fn is_of_interest(raw: &RawAttribute<'_>) -> bool {
-    let atype = raw.get_type();
-    [
-        ErrorCode::TYPE,
-        UnknownAttributes::TYPE,
-        Username::TYPE,
-        Realm::TYPE,
-        Lifetime::TYPE,
-        XorRelayedAddress::TYPE,
-        XorPeerAddress::TYPE,
-        ChannelNumber::TYPE,
-        ConnectionId::TYPE,
-        Data::TYPE,
-    ]
-    .iter()
-    .any(|shown| *shown == atype)
-}
-
-/// The name of an attribute, and its value in words.
-fn attribute_in_words(
-    alloc: Global,
-    raw: &RawAttribute<'_>,
-    message: &Message<'_>,
-    names: &Names,
-) -> Result<String, NoMemory> {
-    let name = raw.get_type().name(names);
-    match value_in_words(alloc, raw, message.transaction_id()) {
-        Ok(words) => {
-            let text = format!(in alloc; "{name} {words}")?;
-            Ok(text)
-        }
-        Err(StunParseError::NoMemory) => Err(NoMemory),
-        Err(error) => {
-            let refusal = Refusal(error);
-            let text = format!(in alloc; "{name} refused {refusal}")?;
-            Ok(text)
-        }
+    match raw.get_type() {
+        ErrorCode::TYPE
+        | UnknownAttributes::TYPE
+        | Username::TYPE
+        | Realm::TYPE
+        | Lifetime::TYPE
+        | XorRelayedAddress::TYPE
+        | XorPeerAddress::TYPE
+        | ChannelNumber::TYPE
+        | ConnectionId::TYPE
+        | Data::TYPE => true,
+        _ => false,
     }
 }

@@ -15,6 +15,13 @@ use turn_types::message as method;
 /// RFC 6062, section 6).
 pub fn names(alloc: Global) -> Result<Names, NoMemory> {
     let mut names = Names::new(alloc);
+    add_methods(&mut names)?;
+    add_attributes(&mut names)?;
+    Ok(names)
+}
+
+/// Adds the names of TURN's methods.
+fn add_methods(names: &mut Names) -> Result<(), NoMemory> {
     for (method, name) in [
         (method::ALLOCATE, "ALLOCATE"),
         (method::REFRESH, "REFRESH"),
@@ -28,6 +35,11 @@ pub fn names(alloc: Global) -> Result<Names, NoMemory> {
     ] {
         names.add_method(method, name)?;
     }
+    Ok(())
+}
+
+/// Adds the names of TURN's attributes.
+fn add_attributes(names: &mut Names) -> Result<(), NoMemory> {
     for (atype, name) in [
         (ChannelNumber::TYPE, "CHANNEL-NUMBER"),
         (Lifetime::TYPE, "LIFETIME"),
@@ -46,7 +58,7 @@ pub fn names(alloc: Global) -> Result<Names, NoMemory> {
     ] {
         names.add_attribute(atype, name)?;
     }
-    Ok(names)
+    Ok(())
 }
 
 /// The name of a class.

@@ -9,29 +9,34 @@ pub struct Refusal(pub StunParseError);
 
 impl fmt::Display for Refusal {
     fn fmt<W: fmt::Write>(&self, f: &mut fmt::Formatter<W>) -> fmt::Result {
+        let name = error_name(self.0);
         match self.0 {
-            StunParseError::NotStun => write!(f, "NotStun"),
-            StunParseError::Truncated { expected, actual } => {
-                write!(f, "Truncated expected {expected} actual {actual}")
+            StunParseError::Truncated { expected, actual }
+            | StunParseError::TooLarge { expected, actual } => {
+                write!(f, "{name} expected {expected} actual {actual}")
             }
-            StunParseError::TooLarge { expected, actual } => {
-                write!(f, "TooLarge expected {expected} actual {actual}")
-            }
-            StunParseError::MissingAttribute(atype) => {
+            StunParseError::MissingAttribute(atype)
+            | StunParseError::AttributeAfterIntegrity(atype) => {
                 let atype = atype.value();
-                write!(f, "MissingAttribute 0x{atype:04x}")
+                write!(f, "{name} 0x{atype:04x}")
             }
-            StunParseError::AttributeAfterIntegrity(atype) => {
-                let atype = atype.value();
-                write!(f, "AttributeAfterIntegrity 0x{atype:04x}")
-            }
-            StunParseError::FingerprintMismatch => write!(f, "FingerprintMismatch"),
-            StunParseError::WrongAttributeImplementation => {
-                write!(f, "WrongAttributeImplementation")
-            }
-            StunParseError::InvalidAttributeData => write!(f, "InvalidAttributeData"),
-            StunParseError::NoMemory => write!(f, "NoMemory"),
+            _ => write!(f, "{name}"),
         }
+    }
+}
+
+/// The name of an error.
+fn error_name(error: StunParseError) -> &'static str {
+    match error {
+        StunParseError::NotStun => "NotStun",
+        StunParseError::Truncated { .. } => "Truncated",
+        StunParseError::TooLarge { .. } => "TooLarge",
+        StunParseError::MissingAttribute(_) => "MissingAttribute",
+        StunParseError::AttributeAfterIntegrity(_) => "AttributeAfterIntegrity",
+        StunParseError::FingerprintMismatch => "FingerprintMismatch",
+        StunParseError::WrongAttributeImplementation => "WrongAttributeImplementation",
+        StunParseError::InvalidAttributeData => "InvalidAttributeData",
+        StunParseError::NoMemory => "NoMemory",
     }
 }
 

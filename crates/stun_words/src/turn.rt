@@ -1,13 +1,11 @@
 //! The values of TURN's attributes in words (RFC 8656, section 18; RFC 6062, section 6.2).
 
+use crate::attribute::{push_addr, push_error, push_hex};
 use crate::registry::{ADDRESS_ERROR_CODE, EVEN_PORT, RESERVATION_TOKEN};
-use program_lines::lower_hex::write_hex;
 use std::alloc::Global;
 use std::convert::TryFrom;
 use stun_types::AddressFamily;
-use stun_types::attribute::{
-    AttributeFromRaw, AttributeStaticType, ErrorCode, RawAttribute, value_of,
-};
+use stun_types::attribute::{AttributeStaticType, ErrorCode, RawAttribute, value_of};
 use stun_types::message::{StunParseError, TransactionId};
 use stun_types::registry::{IPV4_FAMILY, IPV6_FAMILY};
 use turn_types::attribute::{
@@ -15,77 +13,79 @@ use turn_types::attribute::{
     RequestedAddressFamily, RequestedTransport, XorPeerAddress, XorRelayedAddress,
 };
 
-/// The value of one of TURN's attributes in words, in a message of this number; `None` of another
-/// type. Refused as the attribute's own `try_from` refuses it.
-pub(crate) fn turn_in_words(
+/// Appends the value of one of TURN's attributes in words, in a message of this number. Answers whether it
+/// is of one of these types. Refused as the attribute's own `try_from` refuses it.
+pub(crate) fn push_turn(
     alloc: Global,
+    text: &mut String,
     raw: &RawAttribute<'_>,
     number: TransactionId,
-) -> Result<Option<String>, StunParseError> {
-    let words = match raw.get_type() {
+) -> Result<bool, StunParseError> {
+    match raw.get_type() {
         ChannelNumber::TYPE => {
             let channel = ChannelNumber::try_from(raw)?.channel();
-            format!(in alloc; "0x{channel:04x}")?
+            write!(text, "0x{channel:04x}")?;
         }
-        Lifetime::TYPE => format!(in alloc; "{}", Lifetime::try_from(raw)?.seconds())?,
-        XorPeerAddress::TYPE => {
-            format!(in alloc; "{}", XorPeerAddress::try_from(raw)?.addr(number))?
-        }
-        Data::TYPE => write_hex(alloc, Data::bytes_of(raw)?)?,
-        XorRelayedAddress::TYPE => {
-            format!(in alloc; "{}", XorRelayedAddress::try_from(raw)?.addr(number))?
-        }
-        RequestedTransport::TYPE => transport_in_words(alloc, raw)?,
-        ConnectionId::TYPE => format!(in alloc; "{}", ConnectionId::try_from(raw)?.id())?,
-        Icmp::TYPE => report_in_words(alloc, raw)?,
-        _ => return wish_in_words(alloc, raw),
-    };
-    Ok(Some(words))
+        Lifetime::TYPE => write!(text, "{}", Lifetime::try_from(raw)?.seconds())?,
+        XorPeerAddress::TYPE => push_addr(text, XorPeerAddress::try_from(raw)?.addr(number))?,
+        Data::TYPE => push_hex(alloc, text, Data::bytes_of(raw)?)?,
+        XorRelayedAddress::TYPE => push_addr(text, XorRelayedAddress::try_from(raw)?.addr(number))?,
+        RequestedTransport::TYPE => push_transport(text, raw)?,
+        ConnectionId::TYPE => write!(text, "{}", ConnectionId::try_from(raw)?.id())?,
+        Icmp::TYPE => push_report(text, raw)?,
+        _ => return push_wish(alloc, text, raw),
+    }
+    Ok(true)
 }
 
-/// What an attribute of an ALLOCATE asks for, or what it is told of that, in words; `None` of another
-/// type. Refused as the attribute's own `try_from` refuses it, an EVEN-PORT and an ADDRESS-ERROR-CODE as
-/// told below, a RESERVATION-TOKEN with `Truncated` or `TooLarge` where it has not eight bytes.
-fn wish_in_words(alloc: Global, raw: &RawAttribute<'_>) -> Result<Option<String>, StunParseError> {
-    let words = match raw.get_type() {
+/// Appends what an attribute of an ALLOCATE asks for, or what it is told of that, in words. Answers whether it
+/// is of one of these types. Refused as the attribute's own `try_from` refuses it, an EVEN-PORT and an
+/// ADDRESS-ERROR-CODE as told below, a RESERVATION-TOKEN with `Truncated` or `TooLarge` where it has not eight
+/// bytes.
+fn push_wish(
+    alloc: Global,
+    text: &mut String,
+    raw: &RawAttribute<'_>,
+) -> Result<bool, StunParseError> {
+    match raw.get_type() {
         RequestedAddressFamily::TYPE => {
             let family = RequestedAddressFamily::try_from(raw)?.family();
-            String::from_str(alloc, family_name(family))?
+            text.push_str(family_name(family))?;
         }
         AdditionalAddressFamily::TYPE => {
             let family = AdditionalAddressFamily::try_from(raw)?.family();
-            String::from_str(alloc, family_name(family))?
+            text.push_str(family_name(family))?;
         }
         DontFragment::TYPE => {
             let _ = DontFragment::try_from(raw)?;
-            String::from_str(alloc, "-")?
+            text.push_str("-")?;
         }
-        EVEN_PORT => String::from_str(alloc, reserved_in_words(raw)?)?,
-        RESERVATION_TOKEN => write_hex(alloc, value_of(raw, RESERVATION_TOKEN, 8, 8)?)?,
-        ADDRESS_ERROR_CODE => family_error_in_words(alloc, raw)?,
-        _ => return Ok(None),
-    };
-    Ok(Some(words))
+        EVEN_PORT => text.push_str(reserved_in_words(raw)?)?,
+        RESERVATION_TOKEN => push_hex(alloc, text, value_of(raw, RESERVATION_TOKEN, 8, 8)?)?,
+        ADDRESS_ERROR_CODE => push_family_error(alloc, text, raw)?,
+        _ => return Ok(false),
+    }
+    Ok(true)
 }
 
-/// The protocol number of a REQUESTED-TRANSPORT, and the transport's name.
-fn transport_in_words(alloc: Global, raw: &RawAttribute<'_>) -> Result<String, StunParseError> {
+/// Appends the protocol number of a REQUESTED-TRANSPORT, and the transport's name.
+fn push_transport(text: &mut String, raw: &RawAttribute<'_>) -> Result<(), StunParseError> {
     let protocol = RequestedTransport::try_from(raw)?.protocol();
     let name = match protocol {
         RequestedTransport::UDP => "UDP",
         RequestedTransport::TCP => "TCP",
         _ => "unknown",
     };
-    let words = format!(in alloc; "{protocol} {name}")?;
-    Ok(words)
+    write!(text, "{protocol} {name}")?;
+    Ok(())
 }
 
-/// Type, code and data of an ICMP.
-fn report_in_words(alloc: Global, raw: &RawAttribute<'_>) -> Result<String, StunParseError> {
+/// Appends type, code and data of an ICMP.
+fn push_report(text: &mut String, raw: &RawAttribute<'_>) -> Result<(), StunParseError> {
     let report = Icmp::try_from(raw)?;
     let (icmp_type, code, details) = (report.icmp_type(), report.code(), report.data());
-    let words = format!(in alloc; "{icmp_type} {code} {details}")?;
-    Ok(words)
+    write!(text, "{icmp_type} {code} {details}")?;
+    Ok(())
 }
 
 /// Whether an EVEN-PORT asks that the next port be reserved, too: the top bit R of its one byte
@@ -100,21 +100,24 @@ fn reserved_in_words(raw: &RawAttribute<'_>) -> Result<&'static str, StunParseEr
     }
 }
 
-/// The family of an ADDRESS-ERROR-CODE, which stands in its first byte, and its code and reason, which
-/// stand as in an ERROR-CODE (RFC 8656, section 18.12). Refused, in this order: as an ERROR-CODE of
+/// Appends the family of an ADDRESS-ERROR-CODE, which stands in its first byte, and its code and reason,
+/// which stand as in an ERROR-CODE (RFC 8656, section 18.12). Refused, in this order: as an ERROR-CODE of
 /// that value is, and with `InvalidAttributeData` where the first byte is the number of no family.
-fn family_error_in_words(alloc: Global, raw: &RawAttribute<'_>) -> Result<String, StunParseError> {
+fn push_family_error(
+    alloc: Global,
+    text: &mut String,
+    raw: &RawAttribute<'_>,
+) -> Result<(), StunParseError> {
     let value = value_of(raw, ADDRESS_ERROR_CODE, 4, 4 + ErrorCode::MAX_REASON_LEN)?;
     let alike = RawAttribute::new(ErrorCode::TYPE, value);
-    let error = ErrorCode::from_raw_ref(alloc, &alike)?;
+    let _ = ErrorCode::code_of(&alike)?;
     let family = match value[0] {
         IPV4_FAMILY => family_name(AddressFamily::IPV4),
         IPV6_FAMILY => family_name(AddressFamily::IPV6),
         _ => return Err(StunParseError::InvalidAttributeData),
     };
-    let (code, reason) = (error.code(), error.reason());
-    let words = format!(in alloc; "{family} {code} {reason:?}")?;
-    Ok(words)
+    write!(text, "{family} ")?;
+    push_error(alloc, text, &alike)
 }
 
 /// The name of a family.

@@ -5,6 +5,17 @@ use program_lines::lower_hex::read_hex;
 use program_lines::refusal::LineError;
 use std::alloc::{AllocError, Global};
 
+/// What lines begin with that tell no moment.
+const WITHOUT_MOMENT: [&str; 7] = [
+    "event",
+    "have",
+    "permissions",
+    "channels",
+    "connections",
+    "error",
+    "relayed",
+];
+
 /// An event line, and what it was answered.
 #[derive(Clone, Copy)]
 pub(crate) struct Event<'w, 'l, 't, 'a> {
@@ -29,18 +40,12 @@ impl<'w, 'l, 't, 'a> Event<'w, 'l, 't, 'a> {
 
     /// The word of the bytes that client or desk is handed.
     pub(crate) fn handed(&self) -> Option<&'l str> {
-        match self.words {
-            ["todesk", _, _, bytes, ..] | ["toclient", _, _, _, bytes] => Some(bytes),
-            _ => None,
-        }
+        handed_word(self.words)
     }
 
     /// The bytes of the answer; none where it has none.
     pub(crate) fn answered(&self, alloc: Global) -> Result<Vec<u8>, LineError> {
-        match self.told {
-            ["transmit" | "peer", _, _, hex] | ["reply", hex] => read_hex(alloc, hex),
-            _ => Ok(Vec::new(alloc)),
-        }
+        read_hex(alloc, answered_word(self.told))
     }
 
     /// The answer, without its first word where that is the line's.
@@ -51,9 +56,8 @@ impl<'w, 'l, 't, 'a> Event<'w, 'l, 't, 'a> {
         }
     }
 
-    /// The line without its moment.
-    pub(crate) fn call(&self, alloc: Global) -> Result<String, AllocError> {
-        let mut text = String::new(alloc);
+    /// Appends the line without its moment.
+    pub(crate) fn push_call(&self, text: &mut String) -> Result<(), AllocError> {
         let mut left_out = self.moment().is_some();
         for (at, word) in self.words.iter().enumerate() {
             if at == 1 && left_out {
@@ -65,15 +69,27 @@ impl<'w, 'l, 't, 'a> Event<'w, 'l, 't, 'a> {
             }
             text.push_str(word)?;
         }
-        Ok(text)
+        Ok(())
+    }
+}
+
+/// The word of the bytes that a line of these words hands to client or desk.
+pub(crate) fn handed_word<'l>(words: &[&'l str]) -> Option<&'l str> {
+    match words {
+        ["todesk", _, _, bytes, ..] | ["toclient", _, _, _, bytes] => Some(bytes),
+        _ => None,
+    }
+}
+
+/// The word of the bytes of an answer of these words, `-` where it has none.
+fn answered_word<'a>(told: &[&'a str]) -> &'a str {
+    match told {
+        ["transmit" | "peer", _, _, hex] | ["reply", hex] => hex,
+        _ => "-",
     }
 }
 
 /// Whether the second word of a line that begins so is a moment.
 fn tells_moment(first: &str) -> bool {
-    match first {
-        "event" | "have" | "permissions" | "channels" | "connections" | "error" | "relayed" =>
-            false,
-        _ => true,
-    }
+    !WITHOUT_MOMENT.contains(&first)
 }

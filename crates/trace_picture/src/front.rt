@@ -42,6 +42,12 @@ orient=\"auto\">
 /// network between.
 pub(crate) fn front(alloc: Global, height: usize) -> Result<String, AllocError> {
     let mut svg = String::new(alloc);
+    push_front(&mut svg, height)?;
+    Ok(svg)
+}
+
+/// Appends the parts of a beginning, the height between each two.
+fn push_front(svg: &mut String, height: usize) -> Result<(), AllocError> {
     let mut is_first = true;
     for part in PARTS.iter() {
         if !is_first {
@@ -50,5 +56,5 @@ pub(crate) fn front(alloc: Global, height: usize) -> Result<String, AllocError> 
         is_first = false;
         svg.push_str(part)?;
     }
-    Ok(svg)
+    Ok(())
 }

@@ -1,6 +1,7 @@
 //! Labels, one below another.
 
 use crate::row::{Label, Place};
+use program_lines::word::pieces;
 use std::alloc::{AllocError, Global};
 
 /// How many characters of a text are shown.
@@ -33,24 +34,40 @@ impl Labels {
 
     /// Adds a text, or as much of it as there is room for.
     pub(crate) fn put(&mut self, place: Place, at: usize, text: &str) -> Result<(), AllocError> {
-        let text = shortened(self.alloc, text)?;
-        self.labels.push(Label { place, at, text })?;
+        let mut short = String::new(self.alloc);
+        push_shortened(&mut short, text)?;
+        self.labels.push(Label {
+            place,
+            at,
+            text: short,
+        })?;
         Ok(())
     }
 
-    /// Adds the name of an arrow whose row has its top there, and what it shows below the arrow. Answers how
-    /// far down it all goes.
+    /// Adds the name of an arrow whose row has its top there, and what it shows below the arrow: the lines of a
+    /// text. Answers how far down it all goes.
     pub(crate) fn stack(
+        &mut self,
+        places: (Place, Place),
+        top: usize,
+        text: &str,
+    ) -> Result<usize, AllocError> {
+        let lines = pieces(self.alloc, text, '\n')?;
+        self.stack_lines(places, top, lines.as_slice())
+    }
+
+    /// The same of lines.
+    fn stack_lines(
         &mut self,
         (name, more): (Place, Place),
         top: usize,
-        lines: &[String],
+        lines: &[&str],
     ) -> Result<usize, AllocError> {
         let arrow = top.saturating_add(ARROW);
         let (mut at, mut foot) = (top.saturating_add(STEP), arrow);
         let mut place = name;
         for line in lines {
-            self.put(place, at, line.as_str())?;
+            self.put(place, at, line)?;
             foot = foot.max(at);
             at = foot.max(arrow).saturating_add(STEP);
             place = more;
@@ -64,18 +81,16 @@ impl Labels {
     }
 }
 
-/// A text of at most [`WIDEST`] characters: its front, and `…`, where it has more.
-fn shortened(alloc: Global, text: &str) -> Result<String, AllocError> {
-    let mut short = String::new(alloc);
+/// Appends a text of at most [`WIDEST`] characters: its front, and `…`, where it has more.
+fn push_shortened(short: &mut String, text: &str) -> Result<(), AllocError> {
     let mut left = WIDEST;
     for c in text.chars() {
         if left == 0 {
             short.pop();
-            short.push('…')?;
-            return Ok(short);
+            return short.push('…');
         }
         left -= 1;
         short.push(c)?;
     }
-    Ok(short)
+    Ok(())
 }

@@ -11,7 +11,7 @@ use crate::sent::{Handed, answered_by};
 use program_lines::lower_hex::read_hex;
 use program_lines::refusal::LineError;
 use std::alloc::{AllocError, Global};
-use stun_words::lines::bytes_in_lines;
+use stun_words::lines::push_lines;
 use stun_words::names::names;
 use stun_words::{Names, NoMemory};
 
@@ -47,6 +47,17 @@ pub(crate) struct Pen {
     moment: Option<u64>,
     /// The heads of the two lines, where a client was told of.
     heads: Option<(String, String)>,
+}
+
+/// Where the arrows of a row are.
+#[derive(Clone, Copy)]
+struct Laid {
+    /// Whether what is sent in it is handed to nobody.
+    lost: bool,
+    /// How far down the first arrow runs, in pixels.
+    first: usize,
+    /// How far down a reply runs, in pixels.
+    reply: usize,
 }
 
 impl Pen {
@@ -104,14 +115,7 @@ impl Pen {
         ensures { IfOk result (IsMarked line.now event.now) }
     {
         let mut labels = Labels::new(self.alloc);
-        let top = self.begin(&mut labels, event)?;
-        let number = self.answers.len().saturating_add(1);
-        let answered = event.answered(self.alloc)?;
-        let (reply, foot) = self.describe(&mut labels, event, answered.as_slice(), top)?;
-        self.answers.push(answered)?;
-        self.down = foot;
-        let lost = !self.handed.has(number);
-        let first = top.saturating_add(ARROW);
+        let laid = self.lay(&mut labels, event)?;
         Ok(Row {
             line: String::from_str(self.alloc, line)?,
             answer: String::from_str(self.alloc, event.answer)?,
@@ -119,11 +123,31 @@ impl Pen {
                 self.alloc,
                 event.kind,
                 carries(event.told),
-                lost,
-                first,
-                reply,
+                laid.lost,
+                laid.first,
+                laid.reply,
             )?,
             labels: labels.into_vec(),
+        })
+    }
+
+    /// Adds the labels of a row, and keeps the bytes of its answer and how far down it goes. Answers where its
+    /// arrows are.
+    fn lay(
+        &mut self,
+        labels: &mut Labels,
+        event: &Event<'_, '_, '_, '_>,
+    ) -> Result<Laid, LineError> {
+        let top = self.begin(labels, event)?;
+        let number = self.answers.len().saturating_add(1);
+        let answered = event.answered(self.alloc)?;
+        let (reply, foot) = self.describe(labels, event, answered.as_slice(), top)?;
+        self.answers.push(answered)?;
+        self.down = foot;
+        Ok(Laid {
+            lost: !self.handed.has(number),
+            first: top.saturating_add(ARROW),
+            reply,
         })
     }
 
@@ -139,17 +163,27 @@ impl Pen {
             gap = gap_between(self.moment, now);
         }
         let top = self.down.saturating_add(gap);
-        let foot = top.saturating_add(ARROW);
-        let number = format!(in self.alloc; "{}", self.answers.len().saturating_add(1))?;
-        labels.put(Place::Number, foot, number.as_str())?;
+        self.put_number(labels, top.saturating_add(ARROW))?;
         if let Some(now) = moment {
             if self.moment != moment {
-                let text = moment_in_words(self.alloc, now)?;
-                labels.put(Place::Moment, top.saturating_add(MOMENT), text.as_str())?;
+                self.put_moment(labels, top.saturating_add(MOMENT), now)?;
             }
             self.moment = moment;
         }
         Ok(top)
+    }
+
+    /// Adds the number of a row.
+    fn put_number(&self, labels: &mut Labels, at: usize) -> Result<(), AllocError> {
+        let number = self.answers.len().saturating_add(1);
+        let text = format!(in self.alloc; "{number}")?;
+        labels.put(Place::Number, at, text.as_str())
+    }
+
+    /// Adds a moment.
+    fn put_moment(&self, labels: &mut Labels, at: usize, now: u64) -> Result<(), AllocError> {
+        let text = moment_in_words(self.alloc, now)?;
+        labels.put(Place::Moment, at, text.as_str())
     }
 
     /// Adds what is written beside the arrows of a row. Answers how far down a reply runs, and how far down the
@@ -162,32 +196,18 @@ impl Pen {
         top: usize,
     ) -> Result<(usize, usize), LineError> {
         let near = (Place::Near, Place::NearMore);
-        let is_sent = carries(event.told);
-        let sent = bytes_in_lines(self.alloc, answered, &self.names)?;
         let beside = top.saturating_add(ARROW);
         match event.kind {
-            Kind::ToDesk => {
-                let came = self.handed_in_lines(event.handed())?;
-                let reply = if is_sent { Some(sent) } else { None };
-                self.describe_desk(labels, came, reply, top)
-            }
+            Kind::ToDesk => self.describe_desk(labels, event, answered, top),
             Kind::ToClient => {
-                let came = self.handed_in_lines(event.handed())?;
                 labels.put(Place::BesideMore, beside, event.answer)?;
-                Ok((top, labels.stack(near, top, came.as_slice())?))
+                Ok((top, self.stack_handed(labels, near, top, event, "")?))
             }
-            Kind::Sending if is_sent => {
-                let call = event.call(self.alloc)?;
-                labels.put(Place::BesideMore, beside, call.as_str())?;
-                Ok((top, labels.stack(near, top, sent.as_slice())?))
+            Kind::Sending if carries(event.told) => {
+                self.put_call(labels, beside, event)?;
+                Ok((top, self.stack_bytes(labels, near, top, answered)?))
             }
-            _ => {
-                let mut lines = Vec::new(self.alloc);
-                lines.push(event.call(self.alloc)?)?;
-                lines.push(String::from_str(self.alloc, event.shown())?)?;
-                let places = (Place::Beside, Place::BesideMore);
-                Ok((top, labels.stack(places, top, lines.as_slice())?))
-            }
+            _ => Ok((top, self.stack_call(labels, top, event)?)),
         }
     }
 
@@ -195,47 +215,97 @@ impl Pen {
     fn describe_desk(
         &self,
         labels: &mut Labels,
-        mut came: Vec<String>,
-        reply: Option<Vec<String>>,
+        event: &Event<'_, '_, '_, '_>,
+        answered: &[u8],
         top: usize,
     ) -> Result<(usize, usize), LineError> {
         let far = (Place::Far, Place::FarMore);
-        match reply {
-            Some(sent) => {
-                let below = labels.stack(far, top, came.as_slice())?;
-                let below = below.saturating_add(CLOSE);
-                let foot = labels.stack(far, below, sent.as_slice())?;
-                Ok((below.saturating_add(ARROW), foot))
-            }
-            None => {
-                came.push(String::from_str(self.alloc, "no reply")?)?;
-                Ok((top, labels.stack(far, top, came.as_slice())?))
-            }
+        if !carries(event.told) {
+            return Ok((
+                top,
+                self.stack_handed(labels, far, top, event, "\nno reply")?,
+            ));
         }
+        let below = self.stack_handed(labels, far, top, event, "")?;
+        let below = below.saturating_add(CLOSE);
+        let foot = self.stack_bytes(labels, far, below, answered)?;
+        Ok((below.saturating_add(ARROW), foot))
     }
 
-    /// What a word of bytes is: pieces, where it has parts or names a piece of an answer; else the answer that
-    /// it names, or its bytes.
-    fn handed_in_lines(&self, word: Option<&str>) -> Result<Vec<String>, LineError> {
+    /// Adds a call, without its moment, in one line.
+    fn put_call(
+        &self,
+        labels: &mut Labels,
+        at: usize,
+        event: &Event<'_, '_, '_, '_>,
+    ) -> Result<(), AllocError> {
+        let mut call = String::new(self.alloc);
+        event.push_call(&mut call)?;
+        labels.put(Place::BesideMore, at, call.as_str())
+    }
+
+    /// Adds a call, without its moment, and below it its answer. Answers how far down they go.
+    fn stack_call(
+        &self,
+        labels: &mut Labels,
+        top: usize,
+        event: &Event<'_, '_, '_, '_>,
+    ) -> Result<usize, AllocError> {
+        let mut text = String::new(self.alloc);
+        event.push_call(&mut text)?;
+        text.push_str("\n")?;
+        text.push_str(event.shown())?;
+        labels.stack((Place::Beside, Place::BesideMore), top, text.as_str())
+    }
+
+    /// Adds what bytes are. Answers how far down that goes.
+    fn stack_bytes(
+        &self,
+        labels: &mut Labels,
+        places: (Place, Place),
+        top: usize,
+        bytes: &[u8],
+    ) -> Result<usize, NoMemory> {
+        let mut text = String::new(self.alloc);
+        push_lines(self.alloc, &mut text, bytes, &self.names)?;
+        let foot = labels.stack(places, top, text.as_str())?;
+        Ok(foot)
+    }
+
+    /// Adds what client or desk is handed, and more text behind that. Answers how far down it all goes.
+    fn stack_handed(
+        &self,
+        labels: &mut Labels,
+        places: (Place, Place),
+        top: usize,
+        event: &Event<'_, '_, '_, '_>,
+        more: &str,
+    ) -> Result<usize, LineError> {
+        let mut text = String::new(self.alloc);
+        self.push_handed(&mut text, event.handed())?;
+        text.push_str(more)?;
+        let foot = labels.stack(places, top, text.as_str())?;
+        Ok(foot)
+    }
+
+    /// Appends what a word of bytes is, in lines: pieces, where it has parts or names a piece of an answer; else
+    /// the answer that it names, or its bytes.
+    fn push_handed(&self, text: &mut String, word: Option<&str>) -> Result<(), LineError> {
         let Some(word) = word else {
             return Err(LineError::Bad);
         };
         if word.contains('+') || (word.contains('@') && word.contains(':')) {
-            let mut lines = Vec::new(self.alloc);
-            lines.push(String::from_str(self.alloc, "pieces")?)?;
-            lines.push(String::from_str(self.alloc, word)?)?;
-            return Ok(lines);
-        }
-        if let Some(number) = answered_by(word) {
+            write!(text, "pieces\n{word}")?;
+        } else if let Some(number) = answered_by(word) {
             let Some(bytes) = self.answer(number) else {
                 return Err(LineError::Bad);
             };
-            let lines = bytes_in_lines(self.alloc, bytes, &self.names)?;
-            return Ok(lines);
+            push_lines(self.alloc, text, bytes, &self.names)?;
+        } else {
+            let bytes = read_hex(self.alloc, word)?;
+            push_lines(self.alloc, text, bytes.as_slice(), &self.names)?;
         }
-        let bytes = read_hex(self.alloc, word)?;
-        let lines = bytes_in_lines(self.alloc, bytes.as_slice(), &self.names)?;
-        Ok(lines)
+        Ok(())
     }
 
     /// The bytes that an event line before this one was answered, lines counted from 1. None where there is no

@@ -9,7 +9,7 @@ ghost use Rattle.trace_picture.specs.Drawn.{label_text};
 ghost use Rattle.trace_picture.specs.Lines.{Begins};
 ghost use Rattle.trace_picture.specs.Pictures.{AreDrawn, AreOver, IsPicture, IsShown, IsStep, Parted};
 
-use crate::event::Event;
+use crate::event::{Event, handed_word};
 use crate::front::front;
 use crate::kind::{Kind, kind_of};
 use crate::pen::Pen;
@@ -26,14 +26,22 @@ pub(crate) fn picture(alloc: Global, text: &[u8]) -> Result<String, Stop>
     ensures { IfOk result (λ svg. IsPicture text.now (string_bytes svg)) }
 {
     let (handed, answers) = find_answers(alloc, text)?;
-    let Ok(mut pen) = Pen::new(alloc, handed) else {
-        return Err(Stop::NoMemory);
-    };
-    let rows = draw_rows(&mut pen, text, answers)?;
+    match Pen::new(alloc, handed) {
+        Ok(mut pen) => draw_picture(&mut pen, text, answers),
+        Err(_) => Err(Stop::NoMemory),
+    }
+}
+
+/// The picture of a trace and of these answers, which stand behind it, by a pen that has drawn nothing.
+fn draw_picture(pen: &mut Pen, text: &[u8], answers: &[u8]) -> Result<String, Stop>
+    requires parted { Parted (lines_of text.now) (lines_of answers.now) }
+    ensures { IfOk result (λ svg. IsPicture text.now (string_bytes svg)) }
+{
+    let rows = draw_rows(pen, text, answers)?;
     let Ok(heads) = pen.heads() else {
         return Err(Stop::NoMemory);
     };
-    match frame(alloc, pen.height(), heads.as_slice(), rows.as_str()) {
+    match frame(pen.alloc(), pen.height(), heads.as_slice(), rows.as_str()) {
         Ok(svg) => Ok(svg),
         Err(_) => Err(Stop::NoMemory),
     }
@@ -80,9 +88,8 @@ fn note_line(alloc: Global, handed: &mut Handed, line: &[u8]) -> Result<(), Line
     }
     handed.begin_line()?;
     let words = read_words(alloc, line)?;
-    match words.as_slice() {
-        ["todesk", _, _, bytes, ..] | ["toclient", _, _, _, bytes] => handed.note(alloc, bytes)?,
-        _ => {}
+    if let Some(bytes) = handed_word(words.as_slice()) {
+        handed.note(alloc, bytes)?;
     }
     Ok(())
 }
