@@ -1,0 +1,35 @@
+// Refuses a library one of its allocations, and counts the blocks that it holds. It is linked into a shared
+// library of turn_client_c by --wrap=malloc, --wrap=realloc and --wrap=free. `bench/refused_client.py` does so,
+// and sets the counters.
+
+#include <stddef.h>
+
+// of the next `refuse_left` allocations each is made, and then one is refused
+long refuse_left = -1, refuse_held;
+
+void *__real_malloc(size_t size);
+void *__real_realloc(void *block, size_t size);
+void __real_free(void *block);
+void *__wrap_malloc(size_t size);
+void *__wrap_realloc(void *block, size_t size);
+void __wrap_free(void *block);
+
+void *__wrap_malloc(size_t size)
+{
+    void *block = refuse_left-- == 0 ? NULL : __real_malloc(size);
+    refuse_held += block != NULL;
+    return block;
+}
+
+void *__wrap_realloc(void *block, size_t size)
+{
+    void *moved = refuse_left-- == 0 ? NULL : __real_realloc(block, size);
+    refuse_held += moved != NULL && block == NULL;
+    return moved;
+}
+
+void __wrap_free(void *block)
+{
+    refuse_held -= block != NULL;
+    __real_free(block);
+}
