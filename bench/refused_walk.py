@@ -49,14 +49,20 @@ def masked(answer):
     return exact(answer)
 
 
+def compared(name, answer):
+    """What a call told, as it is compared behind a refusal. Of a message that is drawn only that it is one:
+    in which order several leave, numbers decide."""
+    if name == "poll_transmit":
+        return "nothing" if answer is None else type(answer).__name__
+    return masked(answer)
+
+
 class Told:
     """What a step of the ample run told. `waiting` has the events that waited before it."""
 
     def __init__(self, name, answer, now, waiting=()):
         self.name, self.now, self.waiting = name, now, waiting
-        self.exact, self.masked = exact(answer), masked(answer)
-        if name == "poll_transmit":
-            self.masked = "None" if answer is None else "a message"
+        self.exact, self.compared = exact(answer), compared(name, answer)
 
 
 class Early:
@@ -138,18 +144,16 @@ class Walk:
 
     def tell(self, name, answer, waiting=()):
         """Keeps what was told, or holds it against what the ample run told there."""
-        if self.ample is None:
-            self.told.append(Told(name, answer, self.now, waiting))
-            return
-        told = Told(name, answer, self.now, waiting)
-        if len(self.told) == len(self.ample):
-            raise Fault(f"{name} is called, and the ample run was over")
-        want = self.ample[len(self.told)]
-        is_same = told.masked == want.masked if self.refused else told.exact == want.exact
-        if (told.name, told.now) != (want.name, want.now) or not is_same:
-            wanted = f"{want.name} at {want.now}: {want.exact}"
-            raise Fault(f"{name} at {self.now} is answered: {told.exact}, and not {wanted}")
-        self.told.append(told)
+        if self.ample is not None:
+            if len(self.told) == len(self.ample):
+                raise Fault(f"{name} is called, and the ample run was over")
+            want = self.ample[len(self.told)]
+            told = compared(name, answer) if self.refused else exact(answer)
+            wanted = want.compared if self.refused else want.exact
+            if (name, self.now, told) != (want.name, want.now, wanted):
+                raise Fault(f"{name} at {self.now} tells {told}, and not {want.name} at {want.now} {wanted}")
+        is_kept = self.ample is None or self.is_early
+        self.told.append(Told(name, answer, self.now, waiting) if is_kept else want)
 
     # ---- what a course does
 
