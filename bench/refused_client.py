@@ -13,8 +13,8 @@ Of each refusal it is judged that
 
 - each answer before it is that of the ample run;
 - the call that is refused says NoMemory;
-- behind a call of the user's the same call answers what it does with ample memory, and so does the rest of
-  the run;
+- a call of the user's has changed nothing that the client holds, and behind it the same call answers what it
+  does with ample memory, and so does the rest of the run;
 - behind another call the client has failed: it holds nothing, sends nothing, gives nothing, tells the
   events that waited before that call and no others, and is closed;
 - all memory is given back at the end.
@@ -37,7 +37,7 @@ import tempfile  # noqa: E402
 from pathlib import Path  # noqa: E402
 
 from refused_courses import A, B, COURSES  # noqa: E402
-from refused_server import RELAYED, RELAYED_6, data, framed  # noqa: E402
+from refused_server import data, framed  # noqa: E402
 from refused_walk import Failed, Fault, Walk, pair  # noqa: E402
 
 TOP = Path(__file__).resolve().parent.parent
@@ -110,16 +110,13 @@ def judge_asked(walk, peer):
 
 def judge_empty(walk):
     """It holds nothing, sends nothing, and gives nothing of what comes."""
-    client, turn, now, course = walk.client, walk.turn, walk.now, walk.course
-    by = turn.Transport(course.peers)
-    held = [client.relayed_addresses(), client.channels(), client.connections()]
-    held += [client.permissions(by, pair(it)) for it in (RELAYED, RELAYED_6)]
-    held += [client.have_permission(by, pair(it)[0]) for it in course.known]
-    if any(held):
-        raise Fault(f"a client that has failed holds {held}")
+    client, turn, now = walk.client, walk.turn, walk.now
+    relayed, permitted, has, channels, connections = walk.held()
+    if any((relayed, *permitted, *has, channels, connections)):
+        raise Fault(f"a client that has failed holds {walk.held()}")
     if (sent := client.poll_transmit(now)) is not None:
         raise Fault(f"a client that has failed sends {sent}")
-    given = [client.recv(data(it, b"hello"), now) for it in course.known]
+    given = [client.recv(data(it, b"hello"), now) for it in walk.course.known]
     given += [client.recv(framed(channel, b"hello"), now) for channel in (A, B)]
     given.append(client.poll_recv(now))
     if any(isinstance(it, (turn.PeerData, turn.PeerIcmp)) for it in given):

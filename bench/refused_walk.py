@@ -123,9 +123,10 @@ class Walk:
             return error
 
     def call(self, name, *given, **named):
-        """Makes a call. Where it is refused memory it has to say so. Then it is made once more, or the
-        client has failed."""
+        """Makes a call. Where it is refused memory it has to say so. Then, if it is the user's, it has
+        changed nothing, and is made once more; behind another one the client has failed."""
         waiting = tuple(self.client.waiting) if isinstance(self.client, Early) else ()
+        held = self.held() if name in OF_THE_USER and self.client else None
         was_refused = self.library.is_refused()
         answer = self.tried(name, given, named)
         says_so = isinstance(answer, self.turn.NoMemory)
@@ -138,6 +139,8 @@ class Walk:
                 raise Fault(f"{name} was refused memory, and answers {exact(answer)}")
             if name not in OF_THE_USER:
                 raise Failed
+            if self.client and self.held() != held:
+                raise Fault(f"{name} was refused memory, and now the client holds {self.held()}")
             answer = self.tried(name, given, named)
         self.tell(name, answer, waiting)
         return answer
@@ -158,8 +161,9 @@ class Walk:
     # ---- what a course does
 
     def asks(self, name, *given):
-        """A call of the user's, at the moment."""
-        return self.call(name, *given, self.now)
+        """A call of the user's, at the moment, and what the client holds then."""
+        self.call(name, *given, self.now)
+        self.shows()
 
     def sends(self, peer, value, transport=None):
         self.asks("send_to", self.turn.Transport(transport or self.course.peers), pair(peer), value)
@@ -219,8 +223,11 @@ class Walk:
                 self.hears(reply, sent.source)
 
     def shows(self):
+        self.tell("getters", self.held())
+
+    def held(self):
         """What each getter tells."""
         client, transport = self.client, self.turn.Transport(self.course.peers)
         at = [client.permissions(transport, pair(it)) for it in (RELAYED, RELAYED_6)]
         has = [client.have_permission(transport, pair(it)[0]) for it in self.course.known]
-        self.tell("getters", (client.relayed_addresses(), at, has, client.channels(), client.connections()))
+        return client.relayed_addresses(), at, has, client.channels(), client.connections()
