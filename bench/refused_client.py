@@ -180,7 +180,7 @@ def judged(library, course):
         elif was_refused:
             good += 1
         if not was_refused:
-            return good, faults
+            return good, faults or [f"{course.name}: nothing is refused"] * (number == 1)
 
 
 def main():
