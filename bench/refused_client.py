@@ -5,7 +5,7 @@
 
 `.ci/refused-memory` runs it, behind `.ci/archive`. The client is python/turn_client.py over a shared
 library of the archive that `c/build` makes (LIBRARY, KIT and CC name what they do there), in which
-`.ci/refuse_linked.c` counts the allocations. The courses stand in `refused_courses.py`, the server in
+`c/refuse.c` counts the allocations. The courses stand in `refused_courses.py`, the server in
 `refused_server.py`, how two runs are compared in `refused_walk.py`. No answer is stored: a run that is
 refused memory is held against the one that isn't.
 
@@ -58,7 +58,7 @@ class Library:
         how += [f"-Wl,--version-script={names}"]
         how += [f"-Wl,--wrap={it}" for it in ("malloc", "realloc", "free")]
         archive = ["-Wl,--whole-archive", f"{room}/libturn_client.a", "-Wl,--no-whole-archive"]
-        given = [TOP / ".ci/refuse_linked.c", *archive]
+        given = [TOP / "c/refuse.c", *archive]
         subprocess.run([os.environ.get("CC", "cc"), *how, "-o", path, *given], check=True)
         os.environ["TURN_CLIENT_LIBRARY"] = path
         sys.path.append(str(TOP / "python"))

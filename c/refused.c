@@ -2,47 +2,16 @@
  * it was refused tells so, and all memory is freed at the end. After feed, pull, draw and poll the client has failed:
  * it holds nothing. After others the same call does what it is to do when it is made again.
  *
- *     cc -std=c11 -Wall -Wextra refused.c steps.c $(pkg-config --cflags --libs turn_client) \
+ *     cc -std=c11 -Wall -Wextra refused.c refuse.c steps.c $(pkg-config --cflags --libs turn_client) \
  *         -Wl,--wrap=malloc,--wrap=realloc,--wrap=free -o refused && ./refused
  *
  * c/check does so. A line for each exchange tells how many allocations it has. The last line is `refused: N passed, M
  * failed`, of the allocations that were refused; the exit status is 0 where M is 0, else 1. */
+#include "refuse.h"
 #include "steps.h"
 
 #include <stdio.h>
-#include <stdlib.h>
 #include <string.h>
-
-/* ---- the allocator: of the next `left` allocations each is made, and then one is refused */
-
-static long left = -1, held;
-
-void *__real_malloc(size_t size);
-void *__real_realloc(void *block, size_t size);
-void __real_free(void *block);
-void *__wrap_malloc(size_t size);
-void *__wrap_realloc(void *block, size_t size);
-void __wrap_free(void *block);
-
-void *__wrap_malloc(size_t size)
-{
-    void *block = left-- == 0 ? NULL : __real_malloc(size);
-    held += block != NULL;
-    return block;
-}
-
-void *__wrap_realloc(void *block, size_t size)
-{
-    void *moved = left-- == 0 ? NULL : __real_realloc(block, size);
-    held += moved != NULL && block == NULL;
-    return moved;
-}
-
-void __wrap_free(void *block)
-{
-    held -= block != NULL;
-    __real_free(block);
-}
 
 /* ---- one walk */
 
@@ -69,7 +38,7 @@ static const char *wrong_behind_failure(uint64_t now)
 /* The next step did not answer as is wanted: what is wrong with that, or nothing. */
 static const char *wrong_answer(const struct step *step, int32_t answer)
 {
-    if (left >= 0)
+    if (refuse_left >= 0)
         return "another answer, and nothing was refused";
     if (answer != TURN_NO_MEMORY)
         return "another answer than TURN_NO_MEMORY";
@@ -89,7 +58,7 @@ static const char *wrong_walk(const struct exchange *exchange, const struct step
             int32_t answer = step_call(&walker, step);
             if (answer != step->want.answer)
                 return wrong_answer(step, answer);
-            if (left < 0)
+            if (refuse_left < 0)
                 return "an allocation was refused, and its call didn't tell";
         }
     }
@@ -101,12 +70,12 @@ static const char *wrong_with(const struct exchange *exchange, long which, const
 {
     walker.client = (turn_client)TURN_CLIENT_INIT;
     walker.exchange = exchange;
-    left = which;
+    refuse_left = which;
     const char *wrong = wrong_walk(exchange, where);
     turn_client_close(&walker.client);
-    if (wrong == NULL && held != 0)
+    if (wrong == NULL && refuse_held != 0)
         wrong = "memory is left";
-    held = 0;
+    refuse_held = 0;
     return wrong;
 }
 
@@ -118,17 +87,17 @@ int main(void)
         for (long which = 0;; which++) {
             const struct step *where = exchanges[i].parts[0].steps;
             const char *wrong = wrong_with(&exchanges[i], which, &where);
-            if (wrong == NULL && left >= 0)
+            if (wrong == NULL && refuse_left >= 0)
                 break; /* it has no more allocations */
             passed += wrong == NULL;
             failed += wrong != NULL;
             if (wrong != NULL)
                 printf("FAILED at allocation %ld, in %s at %s: %s\n", which, exchanges[i].name,
                        call_names[where->call], wrong);
-            if (left >= 0)
+            if (refuse_left >= 0)
                 break; /* without a refusal it goes wrong: exchange.c tells how */
         }
-        left = -1;
+        refuse_left = -1;
         printf("%s: %lu allocations refused\n", exchanges[i].name, passed + failed - before);
     }
     printf("refused: %lu passed, %lu failed\n", passed, failed);

@@ -1,10 +1,9 @@
-// Refuses a library one of its allocations, and counts the blocks that it holds. It is linked into a shared
-// library of turn_client_c by --wrap=malloc, --wrap=realloc and --wrap=free. `bench/refused_client.py` does so,
-// and sets the counters.
+/* refuse.c: refuses the library one of its allocations, and counts the blocks that it holds (refuse.h). It is linked by
+ * -Wl,--wrap=malloc,--wrap=realloc,--wrap=free: into refused.c, and by bench/refused_client.py into a shared library. */
+#include "refuse.h"
 
 #include <stddef.h>
 
-// of the next `refuse_left` allocations each is made, and then one is refused
 long refuse_left = -1, refuse_held;
 
 void *__real_malloc(size_t size);
