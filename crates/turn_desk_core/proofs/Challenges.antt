@@ -1,5 +1,5 @@
 -- What is shown to a party that was not validated: ERROR-CODE, and what the server adds to it.
-use Rattle.std.specs.Prelude.{◌≡◌, ◌≢◌, ℕ, ◌+◌, ◌*◌, ◌≤◌, ◌<◌, slice_index, Bool, true, false, if◌then◌else◌, List, [], ◌∷◌, length, Option, Some, None, IfSome, IsSome, IsSomeAnd, map as map_list}
+use Rattle.std.specs.Prelude.{◌≡◌, ◌≢◌, ℕ, ◌+◌, ◌*◌, ◌≤◌, ◌<◌, slice_index, Bool, true, false, List, [], ◌∷◌, length, Option, Some, None, IfSome, IsSome, IsSomeAnd, map as map_list}
 use Rattle.std.proofs.Common.{Bor, refl, ap, ◌∙◌, subst, arith}
 use Rattle.std.proofs.lemmas.List.{append-nil}
 use Rattle.std.specs.List.{AllByRecursion, IsDistinct}
@@ -7,7 +7,7 @@ use Rattle.std.specs.Option.{option_and_then, option_copied, option_map, option_
 use Rattle.std.specs.FinMap as map
 use Rattle.std.specs.declared.net.socket_addr.SocketAddr.{SocketAddr}
 use Rattle.rand_core.specs.Stream.{Stream}
-use Rattle.stun_types.specs.IntegrityAlgorithms.{IntegrityAlgorithm, Sha1, Sha256, Sha512}
+use Rattle.stun_types.specs.IntegrityAlgorithms.{IntegrityAlgorithm}
 use Rattle.stun_types.specs.MessageClasses.{MessageClass, Error}
 use Rattle.stun_types.specs.Attributes.{Attr, kind_at}
 use Rattle.stun_types.specs.Types.{class_of, method_of, type_of}
@@ -30,6 +30,7 @@ use Rattle.stun_proto.specs.SupportedAlgorithms.{is_same_algorithm, list_of}
 use Rattle.stun_proto.specs.Server.{Client, Server, nonce_at, outcome_at, refreshed, with_outcome}
 use Rattle.stun_proto.specs.ServerAuthErrors.{LongTermServerAuthError}
 use Rattle.stun_proto.specs.ServerSigning.{Party, addition, addition_for, challenge_parts, list_for, party_by_client, party_by_outcome, signing_refusal_for}
+use Rattle.stun_proto_auth.proofs.Keeping.{few as three_at_most}
 use Rattle.stun_proto_sign.proofs.Making.{made_written, parts_accept}
 use Rattle.stun_proto_sign.proofs.Reaching.{reached_end, reached_first, reached_step}
 use Rattle.turn_desk_grant.specs.Replies.{IsReply, failure_attributes}
@@ -96,45 +97,6 @@ failure_room kind number code draft is size small =
     room_left kind number (failure_attributes code) (empty [] None) draft size refl is.composed (failure-length kind number code) small
 
 -- ---- room for what is added
-
--- how often a list names an algorithm
-times : IntegrityAlgorithm → List IntegrityAlgorithm → ℕ
-times algorithm [] = 0
-times algorithm (a ∷ all) = (if is_same_algorithm algorithm a then 1 else 0) + times algorithm all
-
-none_there : (algorithm : IntegrityAlgorithm) (all : List IntegrityAlgorithm) → AllByRecursion (λ a. is_same_algorithm algorithm a ≡ false) all → times algorithm all ≡ 0
-none_there algorithm [] other = refl
-none_there algorithm (a ∷ all) other = rw other.0 (none_there algorithm all other.1)
-
--- a list of distinct ones names each once at most
-once_there : (algorithm : IntegrityAlgorithm) (all : List IntegrityAlgorithm) → IsDistinct is_same_algorithm all → times algorithm all ≤ 1
-unfolding IsDistinct
-once_there algorithm [] d = omega arith
-once_there Sha1 (Sha1 ∷ all) d = let none = none_there Sha1 all d.0 in omega (arith, none)
-once_there Sha256 (Sha256 ∷ all) d = let none = none_there Sha256 all d.0 in omega (arith, none)
-once_there Sha512 (Sha512 ∷ all) d = let none = none_there Sha512 all d.0 in omega (arith, none)
-once_there Sha1 (Sha256 ∷ all) d = once_there Sha1 all d.1
-once_there Sha1 (Sha512 ∷ all) d = once_there Sha1 all d.1
-once_there Sha256 (Sha1 ∷ all) d = once_there Sha256 all d.1
-once_there Sha256 (Sha512 ∷ all) d = once_there Sha256 all d.1
-once_there Sha512 (Sha1 ∷ all) d = once_there Sha512 all d.1
-once_there Sha512 (Sha256 ∷ all) d = once_there Sha512 all d.1
-
--- a list names nothing but algorithms
-all_counted : (all : List IntegrityAlgorithm) → length all ≡ times Sha1 all + times Sha256 all + times Sha512 all
-all_counted [] = refl
-all_counted (Sha1 ∷ all) = let rest = all_counted all in omega (arith, rest)
-all_counted (Sha256 ∷ all) = let rest = all_counted all in omega (arith, rest)
-all_counted (Sha512 ∷ all) = let rest = all_counted all in omega (arith, rest)
-
--- of distinct algorithms there are three at most
-three_at_most : (algorithms : List IntegrityAlgorithm) → IsDistinct is_same_algorithm algorithms → length algorithms ≤ 3
-three_at_most algorithms d =
-    let all = all_counted algorithms in
-    let sha1 = once_there Sha1 algorithms d in
-    let sha256 = once_there Sha256 algorithms d in
-    let sha512 = once_there Sha512 algorithms d in
-    omega (arith, all, sha1, sha256, sha512)
 
 -- the nonce that is found is short
 nonce_short : (found : Option (Bor (List ℕ))) (nonce : List ℕ) → option_copied found ≡ Some nonce → IfSome found (λ n. length n.now ≤ 763) → length nonce ≤ 763

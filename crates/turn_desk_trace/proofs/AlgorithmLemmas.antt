@@ -1,51 +1,15 @@
 -- Words that name algorithms, and the algorithms that they name.
-use Rattle.std.specs.Prelude.{◌||◌, IfSome, MatchOption}
-use Rattle.std.proofs.Common.{◌≡◌, ℕ, ◌+◌, ◌<◌, eqb, Bool, true, false, if◌then◌else◌, List, [], ◌∷◌, ◌++◌, length, map, Option, Some, None, Bor, refl, sym, ap, ◌∙◌, subst, arith}
-use Rattle.std.specs.List.{AllByRecursion, IsDistinct, after_first, before_first, list_any, position_or_len, slice_split}
+use Rattle.std.specs.Prelude.{IfSome, MatchOption}
+use Rattle.std.proofs.Common.{◌≡◌, ℕ, ◌+◌, ◌<◌, eqb, Bool, if◌then◌else◌, List, [], ◌∷◌, ◌++◌, length, map, Option, Some, None, Bor, refl, sym, ap, ◌∙◌, subst, arith}
+use Rattle.std.specs.List.{IsDistinct, after_first, before_first, position_or_len, slice_split}
 use Rattle.std.proofs.lemmas.List.{append-nil, length-drop}
 use Rattle.std.proofs.lemmas.List.Splits.{slice_split_first, slice_split_none}
 use Rattle.std.proofs.lemmas.List.Sums.{fails_before_first}
-use Rattle.stun_proto.specs.SupportedAlgorithms.{is_same_algorithm, with_algorithm}
+use Rattle.stun_proto.specs.SupportedAlgorithms.{is_same_algorithm}
 use Rattle.stun_types.specs.IntegrityAlgorithms.{IntegrityAlgorithm, Sha1, Sha256, Sha512}
+use Rattle.stun_proto_auth.proofs.Adding.{not_before}
+use Rattle.stun_proto_auth.proofs.Keeping.{more_distinct}
 use Rattle.turn_desk_trace.specs.Algorithms.{AreAlgorithms, IsAnother, algorithm_word}
-
--- ---- distinct algorithms
-
-pub symmetric : (a b : IntegrityAlgorithm) → is_same_algorithm a b ≡ is_same_algorithm b a
-symmetric Sha1 Sha1 = refl
-symmetric Sha1 Sha256 = refl
-symmetric Sha1 Sha512 = refl
-symmetric Sha256 Sha1 = refl
-symmetric Sha256 Sha256 = refl
-symmetric Sha256 Sha512 = refl
-symmetric Sha512 Sha1 = refl
-symmetric Sha512 Sha256 = refl
-symmetric Sha512 Sha512 = refl
-
--- what holds of each holds of the one behind others
-pub of_middle : (P : IntegrityAlgorithm → Type 0) (front : List IntegrityAlgorithm) (x : IntegrityAlgorithm) (rest : List IntegrityAlgorithm) → AllByRecursion P (front ++ x ∷ rest) → P x
-of_middle P [] x rest all = all.0
-of_middle P (a ∷ front) x rest all = of_middle P front x rest all.1
-
--- among distinct ones none is before itself
-pub new_there : (front : List IntegrityAlgorithm) (x : IntegrityAlgorithm) (rest : List IntegrityAlgorithm) → IsDistinct is_same_algorithm (front ++ x ∷ rest) → list_any (is_same_algorithm x) front ≡ false
-unfolding IsDistinct
-new_there [] x rest d = refl
-new_there (a ∷ front) x rest d =
-    let other : is_same_algorithm x a ≡ false = symmetric x a ∙ of_middle (λ b. is_same_algorithm a b ≡ false) front x rest d.0 in
-    rw other (new_there front x rest d.1)
-
-joined : (front : List IntegrityAlgorithm) (x : IntegrityAlgorithm) (rest : List IntegrityAlgorithm) → (front ++ x ∷ []) ++ rest ≡ front ++ x ∷ rest
-joined [] x rest = refl
-joined (a ∷ front) x rest = ap (λ (l : List IntegrityAlgorithm). a ∷ l) (joined front x rest)
-
--- the next of distinct ones goes behind those before it
-pub next_added : (front : List IntegrityAlgorithm) (x : IntegrityAlgorithm) (rest : List IntegrityAlgorithm) → IsDistinct is_same_algorithm (front ++ x ∷ rest) → with_algorithm front x ++ rest ≡ front ++ x ∷ rest
-next_added front x rest d =
-    let new = new_there front x rest d in
-    ap (λ (b : Bool). (if b then front else front ++ x ∷ []) ++ rest) new ∙ joined front x rest
-
--- ---- names
 
 abbrev is_comma : ℕ → Bool
 is_comma b = eqb b 44
@@ -99,7 +63,7 @@ none_named before name rest words parts none all are =
     none (before ++ b.algorithm ∷ []) (record {
       algorithm = b.algorithm;
       named = b.named;
-      new = new_there before b.algorithm b.more (subst (λ (l : List IntegrityAlgorithm). IsDistinct is_same_algorithm l) (sym b.whole) are.1);
+      new = not_before before b.algorithm b.more (subst (λ (l : List IntegrityAlgorithm). IsDistinct is_same_algorithm l) (sym b.whole) are.1);
       whole = refl;
     })
 
@@ -111,24 +75,6 @@ nested : (one two three : List (List ℕ)) → (one ++ two) ++ three ≡ one ++ 
 nested [] two three = refl
 nested (w ∷ one) two three = ap (λ (l : List (List ℕ)). w ∷ l) (nested one two three)
 
-each_and : (P : IntegrityAlgorithm → Type 0) (front : List IntegrityAlgorithm) (x : IntegrityAlgorithm) → AllByRecursion P front → P x → AllByRecursion P (front ++ x ∷ [])
-each_and P [] x all own = (own, tt)
-each_and P (a ∷ front) x all own = (all.0, each_and P front x all.1 own)
-
-or_second : (b c : Bool) → (b || c) ≡ false → c ≡ false
-or_second false c is = is
-or_second true c is = absurd (Prim.cc is)
-
-or_first : (b c : Bool) → (b || c) ≡ false → b ≡ false
-or_first false c is = refl
-or_first true c is = is
-
-distinct_and : (before : List IntegrityAlgorithm) (x : IntegrityAlgorithm) → IsDistinct is_same_algorithm before → list_any (is_same_algorithm x) before ≡ false → IsDistinct is_same_algorithm (before ++ x ∷ [])
-unfolding IsDistinct
-distinct_and [] x d new = (tt, tt)
-distinct_and (a ∷ before) x d new =
-    (each_and (λ b. is_same_algorithm a b ≡ false) before x d.0 (symmetric a x ∙ or_first _ _ new), distinct_and before x d.1 (or_second _ _ new))
-
 -- one more word, and one more algorithm
 pub words_and : (before all : List IntegrityAlgorithm) (name : List ℕ) (rest words : List (List ℕ)) → map algorithm_word before ++ name ∷ rest ≡ words → IsAnother before name all → map algorithm_word all ++ rest ≡ words
 words_and before all name rest words parts next =
@@ -138,7 +84,7 @@ words_and before all name rest words parts next =
     ∙ (ap (λ (w : List ℕ). map algorithm_word before ++ w ∷ rest) (sym next.named) ∙ parts)))
 
 pub still_distinct : (before all : List IntegrityAlgorithm) (name : List ℕ) → IsDistinct is_same_algorithm before → IsAnother before name all → IsDistinct is_same_algorithm all
-still_distinct before all name d next = subst (λ (l : List IntegrityAlgorithm). IsDistinct is_same_algorithm l) (sym next.whole) (distinct_and before next.algorithm d next.new)
+still_distinct before all name d next = subst (λ (l : List IntegrityAlgorithm). IsDistinct is_same_algorithm l) (sym next.whole) (more_distinct before next.algorithm d next.new)
 
 -- ---- pieces
 
