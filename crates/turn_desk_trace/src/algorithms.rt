@@ -42,7 +42,7 @@ fn cut(word: &str) -> Option<(&str, &str)>
     ensures pieces { MatchOption result
         (slice_split (λ b. b == 44) word.now ≡ word.now ∷ [])
         (λ parts. slice_split (λ b. b == 44) word.now
-            ≡ parts.0.now ∷ slice_split (λ b. b == 44) parts.1.now) }
+        ≡ parts.0.now ∷ slice_split (λ b. b == 44) parts.1.now) }
     ensures shorter { IfSome result (λ parts. length parts.1.now < length word.now) }
 {
     word.split_once(',')

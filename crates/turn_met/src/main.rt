@@ -144,11 +144,7 @@ fn meet_by(
 
 /// Meetings over a transport in which SHA-512 counts: both sides have all algorithms, the client has that one
 /// alone, and the desk all but that one.
-fn meet_by_sha512(
-    rt: &impl Print,
-    alloc: Global,
-    transport: TransportType,
-) -> anyhow::Result<()> {
+fn meet_by_sha512(rt: &impl Print, alloc: Global, transport: TransportType) -> anyhow::Result<()> {
     let sides = [
         (Supported::All, Supported::All),
         (Supported::OnlySha512, Supported::All),
