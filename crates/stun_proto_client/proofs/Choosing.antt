@@ -1,27 +1,38 @@
 -- Which algorithm is the strongest of those in common.
 use Rattle.std.proofs.Common.{◌≡◌, ℕ, true, false, List, Option, refl}
-use Rattle.stun_proto_claim.specs.IntegrityAlgorithms.{IntegrityAlgorithm, Sha1, Sha256}
+use Rattle.stun_proto_claim.specs.IntegrityAlgorithms.{IntegrityAlgorithm, Sha1, Sha256, Sha512}
 use Rattle.stun_proto_claim.specs.Strength.{is_stronger}
 use Rattle.stun_proto_client.specs.Choice.{HasNoneCommon, IsStrongest, is_common}
 
--- nothing is stronger than SHA-256
-not_over : (other : IntegrityAlgorithm) → is_stronger other Sha256 ≡ false
-not_over Sha1 = refl
-not_over Sha256 = refl
+-- nothing is stronger than SHA-512
+over_sha512 : (other : IntegrityAlgorithm) → is_stronger other Sha512 ≡ false
+over_sha512 Sha1 = refl
+over_sha512 Sha256 = refl
+over_sha512 Sha512 = refl
 
-pub sha256_is_strongest : (own : List IntegrityAlgorithm) (offered : Option (List ℕ)) → is_common own offered Sha256 ≡ true → IsStrongest own offered Sha256
-sha256_is_strongest own offered common = record { common = common; greatest = λ other _. not_over other }
+pub sha512_is_strongest : (own : List IntegrityAlgorithm) (offered : Option (List ℕ)) → is_common own offered Sha512 ≡ true → IsStrongest own offered Sha512
+sha512_is_strongest own offered common = record { common = common; greatest = λ other _. over_sha512 other }
 
-over_sha1 : (own : List IntegrityAlgorithm) (offered : Option (List ℕ)) → is_common own offered Sha256 ≡ false → (other : IntegrityAlgorithm) → is_common own offered other ≡ true → is_stronger other Sha1 ≡ false
-over_sha1 own offered not_common Sha1 common = refl
-over_sha1 own offered not_common Sha256 common = absurd cc
+over_sha256 : (own : List IntegrityAlgorithm) (offered : Option (List ℕ)) → is_common own offered Sha512 ≡ false → (other : IntegrityAlgorithm) → is_common own offered other ≡ true → is_stronger other Sha256 ≡ false
+over_sha256 own offered sha512 Sha1 common = refl
+over_sha256 own offered sha512 Sha256 common = refl
+over_sha256 own offered sha512 Sha512 common = absurd cc
 
-pub sha1_is_strongest : (own : List IntegrityAlgorithm) (offered : Option (List ℕ)) → is_common own offered Sha256 ≡ false → is_common own offered Sha1 ≡ true → IsStrongest own offered Sha1
-sha1_is_strongest own offered not_common common = record { common = common; greatest = over_sha1 own offered not_common }
+pub sha256_is_strongest : (own : List IntegrityAlgorithm) (offered : Option (List ℕ)) → is_common own offered Sha512 ≡ false → is_common own offered Sha256 ≡ true → IsStrongest own offered Sha256
+sha256_is_strongest own offered sha512 common = record { common = common; greatest = over_sha256 own offered sha512 }
 
-pub none_is_common : (own : List IntegrityAlgorithm) (offered : Option (List ℕ)) → is_common own offered Sha256 ≡ false → is_common own offered Sha1 ≡ false → HasNoneCommon own offered
-none_is_common own offered stronger weaker Sha1 = weaker
-none_is_common own offered stronger weaker Sha256 = stronger
+over_sha1 : (own : List IntegrityAlgorithm) (offered : Option (List ℕ)) → is_common own offered Sha512 ≡ false → is_common own offered Sha256 ≡ false → (other : IntegrityAlgorithm) → is_common own offered other ≡ true → is_stronger other Sha1 ≡ false
+over_sha1 own offered sha512 sha256 Sha1 common = refl
+over_sha1 own offered sha512 sha256 Sha256 common = absurd cc
+over_sha1 own offered sha512 sha256 Sha512 common = absurd cc
+
+pub sha1_is_strongest : (own : List IntegrityAlgorithm) (offered : Option (List ℕ)) → is_common own offered Sha512 ≡ false → is_common own offered Sha256 ≡ false → is_common own offered Sha1 ≡ true → IsStrongest own offered Sha1
+sha1_is_strongest own offered sha512 sha256 common = record { common = common; greatest = over_sha1 own offered sha512 sha256 }
+
+pub none_is_common : (own : List IntegrityAlgorithm) (offered : Option (List ℕ)) → is_common own offered Sha512 ≡ false → is_common own offered Sha256 ≡ false → is_common own offered Sha1 ≡ false → HasNoneCommon own offered
+none_is_common own offered sha512 sha256 sha1 Sha1 = sha1
+none_is_common own offered sha512 sha256 sha1 Sha256 = sha256
+none_is_common own offered sha512 sha256 sha1 Sha512 = sha512
 
 -- the choice, case by case
-pub ruleset choices = (sha256_is_strongest, sha1_is_strongest, none_is_common)
+pub ruleset choices = (sha512_is_strongest, sha256_is_strongest, sha1_is_strongest, none_is_common)

@@ -27,7 +27,7 @@ use stun_proto_claim::message::{
     MessageWriteExt, StunWriteError,
 };
 use stun_proto_claim::nonce::NonceFeatures;
-use stun_proto_claim::registry::{MD5_NUMBER, SHA256_NUMBER};
+use stun_proto_claim::number::number_by;
 use stun_proto_sign::part::Part;
 use stun_proto_sign::signing::sign;
 use stun_proto_sign::size::signature_bytes;
@@ -236,10 +236,8 @@ fn name_part<'a>(hidden: bool, name: &'a str, hash: &'a [u8; 32]) -> Part<'a>
 fn entry_of(choice: IntegrityAlgorithm) -> [u8; 4]
     ensures { result ≡ entry (number_by choice) }
 {
-    match choice {
-        IntegrityAlgorithm::Sha1 => [0, MD5_NUMBER as u8, 0, 0],
-        IntegrityAlgorithm::Sha256 => [0, SHA256_NUMBER as u8, 0, 0],
-    }
+    let [high, low] = number_by(choice).to_be_bytes();
+    [high, low, 0, 0]
 }
 
 /// Whether the name is hidden behind a hash: the nonce tells that the server takes it, and the client

@@ -18,7 +18,9 @@ pub(crate) fn strongest(
     ensures { MatchOption result (HasNoneCommon own (option_copied offered.entry))
         (IsStrongest own (option_copied offered.entry)) }
 {
-    if is_common(own, offered, IntegrityAlgorithm::Sha256) {
+    if is_common(own, offered, IntegrityAlgorithm::Sha512) {
+        Some(IntegrityAlgorithm::Sha512)
+    } else if is_common(own, offered, IntegrityAlgorithm::Sha256) {
         Some(IntegrityAlgorithm::Sha256)
     } else if is_common(own, offered, IntegrityAlgorithm::Sha1) {
         Some(IntegrityAlgorithm::Sha1)
