@@ -4,7 +4,7 @@ use Rattle.std.specs.Coded.{Coded, code_by, coded×, coded_ℕ, coded_list}
 use Rattle.std.specs.FinMap as map
 use Rattle.std.specs.Option.{unwrap_or}
 use Rattle.std.specs.Ordering.{nat_cmp}
-use Rattle.stun_types_wire.specs.Registry.{alternate_domain_kind, alternate_server_kind, error_code_kind, fingerprint_kind, integrity_kind, nonce_kind, password_algorithm_kind, password_algorithms_kind, realm_kind, sha256_kind, software_kind, unknown_attributes_kind, userhash_kind, username_kind, xor_mapped_address_kind, binding_method}
+use Rattle.stun_types_wire.specs.Registry.{alternate_domain_kind, alternate_server_kind, error_code_kind, fingerprint_kind, integrity_kind, nonce_kind, password_algorithm_kind, password_algorithms_kind, realm_kind, sha256_kind, sha512_kind, software_kind, unknown_attributes_kind, userhash_kind, username_kind, xor_mapped_address_kind, binding_method}
 
 -- names that were added, each by its number
 abbrev pub NamesByNumber : Type 0
@@ -29,7 +29,8 @@ named_code =
 abbrev pub known_method : ℕ → List ℕ
 known_method n = if n == binding_method then codes "BINDING" else codes "unknown"
 
--- the name of a type to which none was added: RFC 8489's, for those of its types that are read here
+-- the name of a type to which none was added: RFC 8489's, for those of its types that are read here,
+-- and this project's
 abbrev pub known_attribute : ℕ → List ℕ
 known_attribute n =
     if n == username_kind then codes "USERNAME"
@@ -39,6 +40,7 @@ known_attribute n =
     else if n == realm_kind then codes "REALM"
     else if n == nonce_kind then codes "NONCE"
     else if n == sha256_kind then codes "MESSAGE-INTEGRITY-SHA256"
+    else if n == sha512_kind then codes "MESSAGE-INTEGRITY-SHA512"
     else if n == password_algorithm_kind then codes "PASSWORD-ALGORITHM"
     else if n == userhash_kind then codes "USERHASH"
     else if n == xor_mapped_address_kind then codes "XOR-MAPPED-ADDRESS"

@@ -64,6 +64,10 @@ nonce_kind = 0x0015
 abbrev pub sha256_kind : ℕ
 sha256_kind = 0x001C
 
+-- MESSAGE-INTEGRITY-SHA512, which is this project's: no RFC has it
+abbrev pub sha512_kind : ℕ
+sha512_kind = 0x3F12
+
 -- PASSWORD-ALGORITHM (section 14.12)
 abbrev pub password_algorithm_kind : ℕ
 password_algorithm_kind = 0x001D
@@ -212,6 +216,14 @@ sha256_length = 32
 abbrev pub least_sha256_length : ℕ
 least_sha256_length = 16
 
+-- how many bytes an HMAC-SHA512 has
+abbrev pub sha512_length : ℕ
+sha512_length = 64
+
+-- how many bytes of an HMAC-SHA512 are left at least where it is cut short
+abbrev pub least_sha512_length : ℕ
+least_sha512_length = 16
+
 -- how many algorithms a PASSWORD-ALGORITHMS has at most here, where the RFC sets no limit
 abbrev pub most_algorithms : ℕ
 most_algorithms = 8
@@ -251,3 +263,7 @@ md5_number = 1
 -- the number of SHA-256
 abbrev pub sha256_number : ℕ
 sha256_number = 2
+
+-- the number of SHA-512, which is this project's: no RFC has it
+abbrev pub sha512_number : ℕ
+sha512_number = 0xFF12

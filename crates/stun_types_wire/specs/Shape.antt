@@ -1,14 +1,18 @@
--- Which attributes a message shows: ordinary ones, then MESSAGE-INTEGRITY, MESSAGE-INTEGRITY-SHA256
--- and FINGERPRINT, each at most once (RFC 8489, sections 14.5 to 14.7).
+-- Which attributes a message shows: ordinary ones, then MESSAGE-INTEGRITY, MESSAGE-INTEGRITY-SHA256,
+-- MESSAGE-INTEGRITY-SHA512 and FINGERPRINT, each at most once (RFC 8489, sections 14.5 to 14.7).
 use Rattle.std.specs.Prelude.{◌≡◌, ◌⊎◌, ℕ, ◌≤◌, Bool, ◌||◌, ◌&&◌, ◌==◌, nat_lt, List, [], ◌∷◌, ◌++◌, map, length, drop, sum_by, if◌then◌else◌}
 use Rattle.std.specs.List.{AllByRecursion}
 use Rattle.stun_types_wire.specs.Attributes.{Attr, attr_size, attributes}
-use Rattle.stun_types_wire.specs.Registry.{fingerprint_kind, integrity_kind, sha256_kind}
+use Rattle.stun_types_wire.specs.Registry.{fingerprint_kind, integrity_kind, sha256_kind, sha512_kind}
 
 -- the place of a type among those that end a message, in their order: 0 for any other type
 abbrev pub rank : ℕ → ℕ
-rank kind = if kind == integrity_kind then 1 else if kind == sha256_kind then 2 else if kind == fingerprint_kind
-    then 3 else 0
+rank kind =
+    if kind == integrity_kind then 1
+    else if kind == sha256_kind then 2
+    else if kind == sha512_kind then 3
+    else if kind == fingerprint_kind then 4
+    else 0
 
 -- a type of one rank may follow one of the rank before it
 abbrev pub may_follow : ℕ → ℕ → Bool
@@ -20,17 +24,19 @@ may_follow before next = (before == 0 && next == 0) || nat_lt before next
 abbrev pub IsOptional : ℕ → List ℕ → Type 0
 IsOptional kind kinds = (kinds ≡ []) ⊎ (kinds ≡ kind ∷ [])
 
--- ordinary types, then each of the three ending ones at most once, in their order
+-- ordinary types, then each of the four ending ones at most once, in their order
 pub record IsShape (kinds : List ℕ) : Type 0 where
   pub ordinary : List ℕ
   pub integrity : List ℕ
   pub sha256 : List ℕ
+  pub sha512 : List ℕ
   pub fingerprint : List ℕ
-  pub parts : kinds ≡ ordinary ++ (integrity ++ (sha256 ++ fingerprint))
+  pub parts : kinds ≡ ordinary ++ (integrity ++ (sha256 ++ (sha512 ++ fingerprint)))
   pub each : AllByRecursion (λ kind. rank kind ≡ 0) ordinary
   pub first : IsOptional integrity_kind integrity
   pub second : IsOptional sha256_kind sha256
-  pub third : IsOptional fingerprint_kind fingerprint
+  pub third : IsOptional sha512_kind sha512
+  pub fourth : IsOptional fingerprint_kind fingerprint
 
 -- the types of some attributes
 abbrev pub kinds_of : List Attr → List ℕ

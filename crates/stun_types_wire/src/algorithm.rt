@@ -10,10 +10,12 @@ pub enum IntegrityAlgorithm {
     Sha1,
     /// HMAC over SHA-256, in MESSAGE-INTEGRITY-SHA256 (RFC 8489, section 14.6).
     Sha256,
+    /// HMAC over SHA-512, in MESSAGE-INTEGRITY-SHA512, which is this project's: no RFC has it.
+    Sha512,
 }
 
 impl IntegrityAlgorithm {
-    /// Whether this algorithm is stronger than another: `Sha256` than `Sha1`, and no other than any.
+    /// Whether this algorithm is stronger than another: `Sha512` than `Sha256`, and both than `Sha1`.
     pub fn is_stronger_than(self, other: IntegrityAlgorithm) -> bool
         ensures { result ≡ is_stronger self other }
     {

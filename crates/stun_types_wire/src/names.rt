@@ -88,7 +88,8 @@ impl Method {
 
 impl AttributeType {
     /// The name that was added last for the type; where there is none, its name in RFC 8489 for the
-    /// types of that RFC that this library reads, and `unknown` for any other.
+    /// types of that RFC that this library reads, `MESSAGE-INTEGRITY-SHA512` for that type, and
+    /// `unknown` for any other.
     pub fn name(self, names: &Names) -> &'static str
         ensures { result.now ≡ attribute_name names.now self.0 }
     {
@@ -121,6 +122,7 @@ fn known_attribute_name(atype: AttributeType) -> &'static str
         registry::REALM => "REALM",
         registry::NONCE => "NONCE",
         registry::MESSAGE_INTEGRITY_SHA256 => "MESSAGE-INTEGRITY-SHA256",
+        registry::MESSAGE_INTEGRITY_SHA512 => "MESSAGE-INTEGRITY-SHA512",
         registry::PASSWORD_ALGORITHM => "PASSWORD-ALGORITHM",
         registry::USERHASH => "USERHASH",
         registry::XOR_MAPPED_ADDRESS => "XOR-MAPPED-ADDRESS",

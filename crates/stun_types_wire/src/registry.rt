@@ -52,6 +52,10 @@ pub const NONCE: AttributeType = AttributeType(0x0015);
 /// The type of MESSAGE-INTEGRITY-SHA256 (section 14.6).
 pub const MESSAGE_INTEGRITY_SHA256: AttributeType = AttributeType(0x001C);
 
+/// The type of MESSAGE-INTEGRITY-SHA512, which is this project's: no RFC has it. It ends a message as
+/// MESSAGE-INTEGRITY-SHA256 does, and a receiver has to understand it.
+pub const MESSAGE_INTEGRITY_SHA512: AttributeType = AttributeType(0x3F12);
+
 /// The type of PASSWORD-ALGORITHM (section 14.12).
 pub const PASSWORD_ALGORITHM: AttributeType = AttributeType(0x001D);
 
@@ -164,6 +168,12 @@ pub const HMAC_SHA256_LENGTH: usize = 32;
 /// How many bytes of an HMAC-SHA256 are left at least where it is cut short (section 14.6).
 pub const MIN_HMAC_SHA256_LENGTH: usize = 16;
 
+/// How many bytes an HMAC-SHA512 has.
+pub const HMAC_SHA512_LENGTH: usize = 64;
+
+/// How many bytes of an HMAC-SHA512 are left at least where it is cut short.
+pub const MIN_HMAC_SHA512_LENGTH: usize = 16;
+
 /// How many algorithms a PASSWORD-ALGORITHMS has at most here, where the RFC sets no limit.
 pub const MAX_PASSWORD_ALGORITHMS: usize = 8;
 
@@ -194,3 +204,6 @@ pub const MD5_NUMBER: u16 = 1;
 
 /// The number of SHA-256.
 pub const SHA256_NUMBER: u16 = 2;
+
+/// The number of SHA-512, which is this project's: no RFC has it.
+pub const SHA512_NUMBER: u16 = 0xFF12;

@@ -44,7 +44,7 @@ growth_refusal draft size = size_refusal draft.limit (length draft.bytes + size)
 unfoldable pub add_refusal : Draft → ℕ → Option StunWriteError
 add_refusal draft size =
     if draft.ended.fingerprint then Some FingerprintExists
-    else if draft.ended.integrity || draft.ended.sha256 then Some MessageIntegrityExists
+    else if draft.ended.integrity || (draft.ended.sha256 || draft.ended.sha512) then Some MessageIntegrityExists
     else growth_refusal draft size
 
 -- why a FINGERPRINT is not added: the first cause in the order

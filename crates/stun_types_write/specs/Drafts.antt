@@ -2,19 +2,20 @@
 use Rattle.std.specs.Prelude.{ℕ, ◌+◌, ◌≤◌, true, false, ◌==◌, List, [], ◌++◌, length, drop, Option, IfSome, if◌then◌else◌}
 use Rattle.stun_types_grammar_laws.specs.Attributes.{Attr, attr_size, attributes}
 use Rattle.stun_types_grammar_laws.specs.Shape.{kinds_of}
-use Rattle.stun_types_grammar_laws.specs.Registry.{integrity_kind, sha256_kind, fingerprint_kind, header_size}
+use Rattle.stun_types_grammar_laws.specs.Registry.{integrity_kind, sha256_kind, sha512_kind, fingerprint_kind, header_size}
 use Rattle.stun_types_grammar_laws.specs.Text.{attribute_text}
 use Rattle.stun_types_write.specs.declared.ended.Ended.{Ended}
 
 -- no attribute that ends a message was added
 abbrev pub none_ended : Ended
-none_ended = record { integrity = false; sha256 = false; fingerprint = false }
+none_ended = record { integrity = false; sha256 = false; sha512 = false; fingerprint = false }
 
--- those that were added, and one of this type where it is one of the three
+-- those that were added, and one of this type where it is one of the four
 abbrev pub ended_by : Ended → ℕ → Ended
 ended_by ended kind = record {
   integrity = if kind == integrity_kind then true else ended.integrity;
   sha256 = if kind == sha256_kind then true else ended.sha256;
+  sha512 = if kind == sha512_kind then true else ended.sha512;
   fingerprint = if kind == fingerprint_kind then true else ended.fingerprint;
 }
 

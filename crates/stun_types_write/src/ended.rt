@@ -4,15 +4,19 @@ ghost use Rattle.std.specs.Prelude.{◌≡◌};
 ghost use Rattle.stun_types_write.specs.Drafts.{ended_by, none_ended};
 
 use stun_types_grammar_laws::attribute::AttributeType;
-use stun_types_grammar_laws::registry::{FINGERPRINT, MESSAGE_INTEGRITY, MESSAGE_INTEGRITY_SHA256};
+use stun_types_grammar_laws::registry::{
+    FINGERPRINT, MESSAGE_INTEGRITY, MESSAGE_INTEGRITY_SHA256, MESSAGE_INTEGRITY_SHA512,
+};
 
-/// Which of the three attributes that end a message were added (RFC 8489, sections 14.5 to 14.7).
+/// Which of the four attributes that end a message were added (RFC 8489, sections 14.5 to 14.7).
 #[derive(Clone, Copy, Debug)]
 pub struct Ended {
     /// MESSAGE-INTEGRITY was.
     pub integrity: bool,
     /// MESSAGE-INTEGRITY-SHA256 was.
     pub sha256: bool,
+    /// MESSAGE-INTEGRITY-SHA512 was.
+    pub sha512: bool,
     /// FINGERPRINT was.
     pub fingerprint: bool,
 }
@@ -25,17 +29,19 @@ impl Ended {
         Ended {
             integrity: false,
             sha256: false,
+            sha512: false,
             fingerprint: false,
         }
     }
 
-    /// These, and the one of this type where it is one of the three.
+    /// These, and the one of this type where it is one of the four.
     pub fn by(self, atype: AttributeType) -> Ended
         ensures { result ≡ ended_by self atype.0 }
     {
         Ended {
             integrity: self.integrity || atype.0 == MESSAGE_INTEGRITY.0,
             sha256: self.sha256 || atype.0 == MESSAGE_INTEGRITY_SHA256.0,
+            sha512: self.sha512 || atype.0 == MESSAGE_INTEGRITY_SHA512.0,
             fingerprint: self.fingerprint || atype.0 == FINGERPRINT.0,
         }
     }
