@@ -52,6 +52,22 @@ pub extern "C" fn stun_bench_validate_all_sha256(
     }
 }
 
+/// The same by SHA-512.
+#[unsafe(no_mangle)]
+pub extern "C" fn stun_bench_validate_all_sha512(
+    password: &[u8],
+    messages: &[u8],
+    size: usize,
+) -> usize {
+    match text_of_password(password) {
+        Some(text) => {
+            let key = IntegrityKey::short_term(text, IntegrityAlgorithm::Sha512);
+            validated(&key, messages, size)
+        }
+        None => 0,
+    }
+}
+
 /// Writes a response to the front of `out` for each of these numbers, and signs it by SHA-1 under the key
 /// that a password makes once. Answers how many bytes were written in all; none where the password is not
 /// UTF-8.
@@ -84,6 +100,24 @@ pub extern "C" fn stun_bench_sign_all_sha256(
     match text_of_password(password) {
         Some(text) => {
             let key = IntegrityKey::short_term(text, IntegrityAlgorithm::Sha256);
+            signed(&key, told, numbers, software, out)
+        }
+        None => 0,
+    }
+}
+
+/// The same by SHA-512.
+#[unsafe(no_mangle)]
+pub extern "C" fn stun_bench_sign_all_sha512(
+    password: &[u8],
+    told: &Allocation,
+    numbers: &[u8],
+    software: &[u8],
+    out: &mut [u8],
+) -> usize {
+    match text_of_password(password) {
+        Some(text) => {
+            let key = IntegrityKey::short_term(text, IntegrityAlgorithm::Sha512);
             signed(&key, told, numbers, software, out)
         }
         None => 0,
