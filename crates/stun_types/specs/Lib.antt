@@ -52,6 +52,7 @@ pub use Rattle.stun_types_message.specs.Integrity
 pub use Rattle.stun_types_message.specs.KeyBytes
 pub use Rattle.stun_types_message.specs.Keys
 pub use Rattle.stun_types_message.specs.Sha256Values
+pub use Rattle.stun_types_message.specs.Sha512Values
 pub use Rattle.stun_types_message.specs.Signing
 pub use Rattle.stun_types_message.specs.FingerprintValues
 pub use Rattle.stun_types_message.specs.Calls

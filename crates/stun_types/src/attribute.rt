@@ -9,6 +9,7 @@ pub use stun_types_message::error_code::{ErrorCode, ErrorCodeBuilder};
 pub use stun_types_message::fingerprint_attribute::Fingerprint;
 pub use stun_types_message::integrity_sha1::MessageIntegrity;
 pub use stun_types_message::integrity_sha256::MessageIntegritySha256;
+pub use stun_types_message::integrity_sha512::MessageIntegritySha512;
 pub use stun_types_message::nonce::Nonce;
 pub use stun_types_message::reading::{text_of, value_of};
 pub use stun_types_message::realm::Realm;

@@ -1,7 +1,7 @@
 -- What an add makes of a draft.
 use Rattle.std.proofs.Common.{◌≡◌, ℕ, ◌+◌, ◌-◌, ◌≤◌, List, length, refl, sym, ap, subst, ◌∙◌, arith}
 use Rattle.stun_types_wire.specs.declared.algorithm.IntegrityAlgorithm.{IntegrityAlgorithm}
-use Rattle.stun_types_wire.specs.declared.algorithm.IntegrityAlgorithm.TheVariants.{Sha1, Sha256}
+use Rattle.stun_types_wire.specs.declared.algorithm.IntegrityAlgorithm.TheVariants.{Sha1, Sha256, Sha512}
 use Rattle.stun_types_wire.specs.Attributes.{Attr, attr_size, padded}
 use Rattle.stun_types_wire.specs.Covered.{with_length}
 use Rattle.stun_types_wire.specs.Fingerprints.{fingerprint_of, fingerprint_value}
@@ -62,6 +62,7 @@ marked old middle new value end begun push ends fits digest told =
 whole_size : (algorithm : IntegrityAlgorithm) (n : ℕ) → n ≡ hmac_length algorithm → 4 + padded n ≡ 4 + hmac_length algorithm
 whole_size Sha1 n is = omega arith
 whole_size Sha256 n is = omega arith
+whole_size Sha512 n is = omega arith
 
 pub signed : (old middle new : Draft) (key : List ℕ) (algorithm : IntegrityAlgorithm) (kind : ℕ) (value : List ℕ) (end : ℕ) → IsBegun old.bytes → middle ≡ pushed_attribute (attr_of kind value) old → kind ≡ attribute_kind algorithm
     → end ≡ length old.bytes + (4 + hmac_length algorithm) → end ≤ greatest_size → value ≡ integrity_hmac algorithm key (with_length old.bytes (end - 20)) → length value ≡ hmac_length algorithm

@@ -4,7 +4,7 @@ use Rattle.std.proofs.lemmas.Bool.{cases_Bool}
 use Rattle.std.proofs.lemmas.List.{drop-drop}
 use Rattle.stun_types_wire.specs.Attributes.{Attr, attr_size}
 use Rattle.stun_types_wire.specs.Shape.{rank}
-use Rattle.stun_types_wire.specs.Registry.{fingerprint_kind, integrity_kind, sha256_kind}
+use Rattle.stun_types_wire.specs.Registry.{fingerprint_kind, integrity_kind, sha256_kind, sha512_kind}
 use Rattle.stun_types_wire.specs.Text.{message_text}
 use Rattle.stun_types_write.specs.declared.ended.Ended.{Ended}
 use Rattle.stun_types_write.specs.Adding.{add_refusal}
@@ -50,10 +50,11 @@ text_after mtype number (call ∷ rest) before draft text =
 
 -- ---- ordinary attributes
 
--- an ordinary type is none of the three that end a message
+-- an ordinary type is none of the four that end a message
 pub record IsNone (kind : ℕ) : Type 0 where
   pub integrity : eqb kind integrity_kind ≡ false
   pub sha256 : eqb kind sha256_kind ≡ false
+  pub sha512 : eqb kind sha512_kind ≡ false
   pub fingerprint : eqb kind fingerprint_kind ≡ false
 
 pub none_of : (kind : ℕ) → rank kind ≡ 0 → IsNone kind
@@ -62,15 +63,18 @@ none_of kind h =
       | inl i ↦ absurd (let p = rw i at h in cc)
       | inr i ↦ elim (cases_Bool (eqb kind sha256_kind)) [
         | inl s ↦ absurd (let p = rw (i, s) at h in cc)
-        | inr s ↦ elim (cases_Bool (eqb kind fingerprint_kind)) [
-          | inl f ↦ absurd (let p = rw (i, s, f) at h in cc)
-          | inr f ↦ record { integrity = i; sha256 = s; fingerprint = f }
+        | inr s ↦ elim (cases_Bool (eqb kind sha512_kind)) [
+          | inl l ↦ absurd (let p = rw (i, s, l) at h in cc)
+          | inr l ↦ elim (cases_Bool (eqb kind fingerprint_kind)) [
+            | inl f ↦ absurd (let p = rw (i, s, l, f) at h in cc)
+            | inr f ↦ record { integrity = i; sha256 = s; sha512 = l; fingerprint = f }
+          ]
         ]
       ]
     ]
 
 none_still : (kind : ℕ) → IsNone kind → ended_by none_ended kind ≡ none_ended
-none_still kind h = rw (h.integrity, h.sha256, h.fingerprint) refl
+none_still kind h = rw (h.integrity, h.sha256, h.sha512, h.fingerprint) refl
 
 map-more : (all : List Attr) (a : Attr) → map Ordinary (all ++ a ∷ []) ≡ map Ordinary all ++ Ordinary a ∷ []
 map-more [] a = refl

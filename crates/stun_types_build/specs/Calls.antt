@@ -30,7 +30,7 @@ refusal_of (Ordinary a) draft = add_refusal draft (attr_size a)
 refusal_of (Integrity algorithm key) draft = signing_refusal draft algorithm algorithm
 refusal_of Fingerprint draft = fingerprint_add_refusal draft
 
--- a type and a value that have a text, and are none of the three that end a message
+-- a type and a value that have a text, and are none of the four that end a message
 pub record IsOrdinary (a : Attr) : Type 0 where
   pub fits : FitsAttribute a
   pub ordinary : rank a.kind ≡ 0

@@ -62,7 +62,7 @@ pub trait MessageWriteExt: MessageWrite {
         requires { IsBegun (Self.draft self.now).bytes }
         ensures { result ≡ number_at (Self.draft self.now).bytes };
 
-    /// Adds an attribute that isn't one of the three which end a message. A type may be added several
+    /// Adds an attribute that isn't one of the four which end a message. A type may be added several
     /// times. Refused, in this order: `FingerprintExists`, `MessageIntegrityExists` where one of these
     /// was added, `TooLarge` where the length field would pass 65,535, `TooSmall` where the writer has
     /// not the room; where memory is refused, `NoMemory`, which a writer with a greatest size never
@@ -79,9 +79,8 @@ pub trait MessageWriteExt: MessageWrite {
 
     /// Adds the integrity attribute of an algorithm: the HMAC of all that is written under a key
     /// (RFC 8489, sections 14.5 and 14.6). Refused, in this order: `FingerprintExists`;
-    /// `AttributeExists` where that attribute was added; `MessageIntegrityExists` where
-    /// MESSAGE-INTEGRITY-SHA256 was and `Sha1` is asked for; `IntegrityFailed` where the key was made
-    /// for another algorithm; `TooLarge`, `TooSmall` and `NoMemory` as for `add_attribute`. A refused
+    /// `AttributeExists` where that attribute was added; `MessageIntegrityExists` where that of a
+    /// stronger algorithm was; `IntegrityFailed` where the key was made for another algorithm; `TooLarge`, `TooSmall` and `NoMemory` as for `add_attribute`. A refused
     /// add changes nothing.
     fn add_message_integrity_with_key(
         &mut self,
@@ -162,7 +161,7 @@ impl<W: MessageWrite> MessageWriteExt for W {
         if ended.fingerprint {
             return Err(StunWriteError::FingerprintExists);
         }
-        if ended.integrity || ended.sha256 {
+        if ended.integrity || ended.sha256 || ended.sha512 {
             return Err(StunWriteError::MessageIntegrityExists);
         }
         let end = end_of_add(&*self, attribute.padded_len())?;

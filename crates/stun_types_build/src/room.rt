@@ -5,12 +5,11 @@ ghost use Rattle.stun_types_wire.specs.Registry.{greatest_size};
 ghost use Rattle.stun_types_write.specs.Outcomes.{Fits, IsTooLong};
 ghost use Rattle.stun_types_integrity.specs.Signing.{order_refusal};
 
+use stun_types_integrity::algorithm::attribute_type;
 use stun_types_wire::algorithm::IntegrityAlgorithm;
 use stun_types_wire::error::StunWriteError;
 use stun_types_wire::header::MessageHeader;
-use stun_types_wire::registry::{
-    MAX_DATA_LENGTH, MAX_MESSAGE_LENGTH, MESSAGE_INTEGRITY, MESSAGE_INTEGRITY_SHA256,
-};
+use stun_types_wire::registry::{MAX_DATA_LENGTH, MAX_MESSAGE_LENGTH};
 use stun_types_write::ended::Ended;
 use stun_types_write::writer::MessageWrite;
 
@@ -42,7 +41,7 @@ pub fn end_of_add<W: MessageWrite>(writer: &W, size: usize) -> Result<usize, Stu
 
 /// Whether the integrity attribute of an algorithm may follow what was added (RFC 8489, sections 14.5
 /// to 14.7). Refused, in this order: `FingerprintExists`; `AttributeExists` where that attribute was
-/// added; `MessageIntegrityExists` where MESSAGE-INTEGRITY-SHA256 was and `Sha1` is asked for.
+/// added; `MessageIntegrityExists` where that of a stronger algorithm was.
 #[tactic(auto, unfolding(stun_types_integrity::specs::Signing::order_refusal))]
 pub fn may_sign(ended: Ended, algorithm: IntegrityAlgorithm) -> Result<(), StunWriteError>
     ensures order { MatchResult result (λ _. order_refusal ended algorithm ≡ None)
@@ -52,20 +51,16 @@ pub fn may_sign(ended: Ended, algorithm: IntegrityAlgorithm) -> Result<(), StunW
     if ended.fingerprint {
         return Err(StunWriteError::FingerprintExists);
     }
-    match algorithm {
-        IntegrityAlgorithm::Sha1 => {
-            if ended.integrity {
-                return Err(StunWriteError::AttributeExists(MESSAGE_INTEGRITY));
-            }
-            if ended.sha256 {
-                return Err(StunWriteError::MessageIntegrityExists);
-            }
-        }
-        IntegrityAlgorithm::Sha256 => {
-            if ended.sha256 {
-                return Err(StunWriteError::AttributeExists(MESSAGE_INTEGRITY_SHA256));
-            }
-        }
+    let (same, stronger) = match algorithm {
+        IntegrityAlgorithm::Sha1 => (ended.integrity, ended.sha256 || ended.sha512),
+        IntegrityAlgorithm::Sha256 => (ended.sha256, ended.sha512),
+        IntegrityAlgorithm::Sha512 => (ended.sha512, false),
+    };
+    if same {
+        return Err(StunWriteError::AttributeExists(attribute_type(algorithm)));
+    }
+    if stronger {
+        return Err(StunWriteError::MessageIntegrityExists);
     }
     Ok(())
 }

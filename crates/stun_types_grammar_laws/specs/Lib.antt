@@ -11,4 +11,5 @@ pub use Rattle.stun_types_wire.specs.RawBytes
 pub use Rattle.stun_types_wire.specs.Refusals
 pub use Rattle.stun_types_wire.specs.Registry
 pub use Rattle.stun_types_wire.specs.Shape
+pub use Rattle.stun_types_wire.specs.Strength
 pub use Rattle.stun_types_wire.specs.Text

@@ -2,8 +2,9 @@
 use Rattle.std.specs.Prelude.{ℕ, List, ◌++◌, codes}
 use Rattle.md5.specs.Md5.{md5}
 use Rattle.sha2.specs.Sha256.{sha256}
+use Rattle.sha2.specs.Sha512.{sha512}
 use Rattle.stun_types_write.specs.declared.algorithm.IntegrityAlgorithm.{IntegrityAlgorithm}
-use Rattle.stun_types_write.specs.declared.algorithm.IntegrityAlgorithm.TheVariants.{Sha1, Sha256}
+use Rattle.stun_types_write.specs.declared.algorithm.IntegrityAlgorithm.TheVariants.{Sha1, Sha256, Sha512}
 
 -- the bytes of a user's name and of its password
 pub record NameAndPassword : Type 0 where
@@ -34,10 +35,12 @@ pub record Key : Type 0 where
 abbrev pub key_text : LongTermSecret → List ℕ
 key_text secret = secret.username ++ codes ":" ++ secret.realm ++ codes ":" ++ secret.password
 
--- the digest of a key's text: MD5 or SHA-256 (RFC 8489, sections 18.5.1.1 and 18.5.1.2)
+-- the digest of a key's text: MD5 or SHA-256 (RFC 8489, sections 18.5.1.1 and 18.5.1.2), and SHA-512,
+-- which is this project's
 abbrev pub key_digest : IntegrityAlgorithm → List ℕ → List ℕ
 key_digest Sha1 text = md5 text
 key_digest Sha256 text = sha256 text
+key_digest Sha512 text = sha512 text
 
 -- the key of long-term credentials, for an algorithm (RFC 8489, section 9.2.2)
 abbrev pub long_term_key : LongTermSecret → IntegrityAlgorithm → Key

@@ -1,14 +1,15 @@
 -- Message integrity: which text is covered, by which digest, and when a message validates (RFC
--- 8489, sections 14.5 and 14.6).
+-- 8489, sections 14.5 and 14.6). HMAC-SHA512 is this project's, after section 14.6.
 use Rattle.std.specs.Prelude.{◌≡◌, ℕ, ◌%◌, Bool, ◌==◌, ◌&&◌, nat_le, Option, Some, None, if◌then◌else◌, IsTrue, List, ◌∷◌, ◌++◌, length}
 use Rattle.std.specs.List.{AllByRecursion}
 use Rattle.sha1.specs.Sha1.{sha1}
 use Rattle.sha2.specs.Sha256.{sha256}
+use Rattle.sha2.specs.Sha512.{sha512}
 use Rattle.stun_types_write.specs.Hmac.{hmac}
 use Rattle.stun_types_write.specs.declared.algorithm.IntegrityAlgorithm.{IntegrityAlgorithm}
-use Rattle.stun_types_write.specs.declared.algorithm.IntegrityAlgorithm.TheVariants.{Sha1, Sha256}
+use Rattle.stun_types_write.specs.declared.algorithm.IntegrityAlgorithm.TheVariants.{Sha1, Sha256, Sha512}
 use Rattle.stun_types_write.specs.Attributes.{Attr, numbered}
-use Rattle.stun_types_write.specs.Registry.{integrity_kind, sha256_kind, header_size, least_sha256_length, sha1_length, sha256_length}
+use Rattle.stun_types_write.specs.Registry.{integrity_kind, sha256_kind, sha512_kind, header_size, least_sha256_length, least_sha512_length, sha1_length, sha256_length, sha512_length}
 use Rattle.stun_types_write.specs.Grammar.{IsMessage, shown}
 use Rattle.stun_types_write.specs.Covered.{covered_text}
 
@@ -18,26 +19,33 @@ use Rattle.stun_types_write.specs.Covered.{covered_text}
 abbrev pub attribute_kind : IntegrityAlgorithm → ℕ
 attribute_kind Sha1 = integrity_kind
 attribute_kind Sha256 = sha256_kind
+attribute_kind Sha512 = sha512_kind
 
--- the HMAC of a text under a key: both digests work in blocks of 64 bytes
+-- the HMAC of a text under a key: SHA-1 and SHA-256 work in blocks of 64 bytes, SHA-512 in blocks of 128
 abbrev pub integrity_hmac : IntegrityAlgorithm → List ℕ → List ℕ → List ℕ
 integrity_hmac Sha1 key text = hmac sha1 64 key text
 integrity_hmac Sha256 key text = hmac sha256 64 key text
+integrity_hmac Sha512 key text = hmac sha512 128 key text
 
 -- bytes at the front of others
 pub record IsFront (front whole : List ℕ) : Type 0 where
   pub rest : List ℕ
   pub parts : whole ≡ front ++ rest
 
--- the lengths that the value of its attribute may have: that of the HMAC, or for SHA-256 a front of
--- 16 bytes or more, in fours
+-- the lengths that the value of its attribute may have: that of the HMAC, or for SHA-256 and SHA-512
+-- a front of 16 bytes or more, in fours
 abbrev pub is_lawful_length : IntegrityAlgorithm → ℕ → Bool
 is_lawful_length Sha1 len = len == sha1_length
 is_lawful_length Sha256 len = nat_le least_sha256_length len && (nat_le len sha256_length && len % 4 == 0)
+is_lawful_length Sha512 len = nat_le least_sha512_length len && (nat_le len sha512_length && len % 4 == 0)
 
 -- the algorithm of an attribute's type, where it is an integrity attribute
 abbrev pub algorithm_of : ℕ → Option IntegrityAlgorithm
-algorithm_of kind = if kind == integrity_kind then Some Sha1 else if kind == sha256_kind then Some Sha256 else None
+algorithm_of kind =
+    if kind == integrity_kind then Some Sha1
+    else if kind == sha256_kind then Some Sha256
+    else if kind == sha512_kind then Some Sha512
+    else None
 
 -- ---- validation
 

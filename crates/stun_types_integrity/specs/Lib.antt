@@ -5,4 +5,5 @@ pub mod Integrity
 pub mod KeyBytes
 pub mod Keys
 pub mod Sha256Values
+pub mod Sha512Values
 pub mod Signing

@@ -1,13 +1,14 @@
 -- The integrity attribute that is added at the end of a message, and why it is not added (RFC 8489,
 -- sections 14.5 to 14.7).
-use Rattle.std.specs.Prelude.{ℕ, ◌+◌, ◌-◌, List, length, Option, Some, None, if◌then◌else◌}
+use Rattle.std.specs.Prelude.{ℕ, ◌+◌, ◌-◌, Bool, false, ◌||◌, ◌==◌, List, length, Option, Some, None, if◌then◌else◌}
 use Rattle.std.specs.Option.{option_or}
 use Rattle.stun_types_write.specs.declared.algorithm.IntegrityAlgorithm.{IntegrityAlgorithm}
-use Rattle.stun_types_write.specs.declared.algorithm.IntegrityAlgorithm.TheVariants.{Sha1, Sha256}
+use Rattle.stun_types_write.specs.declared.algorithm.IntegrityAlgorithm.TheVariants.{Sha1, Sha256, Sha512}
 use Rattle.stun_types_write.specs.declared.error.StunWriteError.{StunWriteError}
 use Rattle.stun_types_write.specs.declared.error.StunWriteError.TheVariants.{AttributeExists, FingerprintExists, IntegrityFailed, MessageIntegrityExists}
 use Rattle.stun_types_write.specs.Attributes.{Attr}
-use Rattle.stun_types_write.specs.Registry.{integrity_kind, sha256_kind, header_size, sha1_length, sha256_length}
+use Rattle.stun_types_write.specs.Strength.{strength}
+use Rattle.stun_types_write.specs.Registry.{header_size, sha1_length, sha256_length, sha512_length}
 use Rattle.stun_types_write.specs.declared.ended.Ended.{Ended}
 use Rattle.stun_types_write.specs.Adding.{growth_refusal}
 use Rattle.stun_types_write.specs.Drafts.{Draft}
@@ -18,6 +19,7 @@ use Rattle.stun_types_integrity.specs.Integrity.{attribute_kind, integrity_hmac}
 abbrev pub hmac_length : IntegrityAlgorithm → ℕ
 hmac_length Sha1 = sha1_length
 hmac_length Sha256 = sha256_length
+hmac_length Sha512 = sha512_length
 
 -- the text that the attribute covers: what is written, with the length that reaches through the attribute
 unfoldable pub text_to_sign : IntegrityAlgorithm → List ℕ → List ℕ
@@ -31,25 +33,30 @@ signature algorithm key bytes = record {
       (text_to_sign algorithm bytes);
 }
 
--- nothing comes after FINGERPRINT, an integrity attribute comes once, and MESSAGE-INTEGRITY doesn't
--- come after MESSAGE-INTEGRITY-SHA256
+-- the integrity attribute of an algorithm was added
+abbrev pub has_signed : Ended → IntegrityAlgorithm → Bool
+has_signed ended Sha1 = ended.integrity
+has_signed ended Sha256 = ended.sha256
+has_signed ended Sha512 = ended.sha512
+
+-- that of a stronger algorithm was
+abbrev pub has_signed_stronger : Ended → IntegrityAlgorithm → Bool
+has_signed_stronger ended Sha1 = ended.sha256 || ended.sha512
+has_signed_stronger ended Sha256 = ended.sha512
+has_signed_stronger ended Sha512 = false
+
+-- nothing comes after FINGERPRINT, an integrity attribute comes once, and none comes after that of a
+-- stronger algorithm
 unfoldable pub order_refusal : Ended → IntegrityAlgorithm → Option StunWriteError
-order_refusal ended Sha1 =
+order_refusal ended algorithm =
     if ended.fingerprint then Some FingerprintExists
-    else if ended.integrity then Some (AttributeExists (record { 0 = integrity_kind }))
-    else if ended.sha256 then Some MessageIntegrityExists
-    else None
-order_refusal ended Sha256 =
-    if ended.fingerprint then Some FingerprintExists
-    else if ended.sha256 then Some (AttributeExists (record { 0 = sha256_kind }))
+    else if has_signed ended algorithm then Some (AttributeExists (record { 0 = attribute_kind algorithm }))
+    else if has_signed_stronger ended algorithm then Some MessageIntegrityExists
     else None
 
 -- a key that was made for another algorithm signs nothing
 abbrev pub key_refusal : IntegrityAlgorithm → IntegrityAlgorithm → Option StunWriteError
-key_refusal Sha1 Sha1 = None
-key_refusal Sha1 Sha256 = Some IntegrityFailed
-key_refusal Sha256 Sha1 = Some IntegrityFailed
-key_refusal Sha256 Sha256 = None
+key_refusal own algorithm = if strength own == strength algorithm then None else Some IntegrityFailed
 
 -- why a message is not signed by an algorithm, with a key of another or the same: the first cause in
 -- the order

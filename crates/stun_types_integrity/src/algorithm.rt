@@ -6,7 +6,9 @@ ghost use Rattle.stun_types_integrity.specs.Signing.{hmac_length as length_of_hm
 
 use stun_types_write::algorithm::IntegrityAlgorithm;
 use stun_types_write::registry;
-use stun_types_write::registry::{MESSAGE_INTEGRITY, MESSAGE_INTEGRITY_SHA256};
+use stun_types_write::registry::{
+    MESSAGE_INTEGRITY, MESSAGE_INTEGRITY_SHA256, MESSAGE_INTEGRITY_SHA512,
+};
 use stun_types_write::wire_attribute::AttributeType;
 
 /// The type of the attribute that holds the HMAC of an algorithm.
@@ -16,6 +18,7 @@ pub fn attribute_type(algorithm: IntegrityAlgorithm) -> AttributeType
     match algorithm {
         IntegrityAlgorithm::Sha1 => MESSAGE_INTEGRITY,
         IntegrityAlgorithm::Sha256 => MESSAGE_INTEGRITY_SHA256,
+        IntegrityAlgorithm::Sha512 => MESSAGE_INTEGRITY_SHA512,
     }
 }
 
@@ -26,12 +29,13 @@ pub fn algorithm_of(atype: AttributeType) -> Option<IntegrityAlgorithm>
     match atype {
         MESSAGE_INTEGRITY => Some(IntegrityAlgorithm::Sha1),
         MESSAGE_INTEGRITY_SHA256 => Some(IntegrityAlgorithm::Sha256),
+        MESSAGE_INTEGRITY_SHA512 => Some(IntegrityAlgorithm::Sha512),
         _ => None,
     }
 }
 
-/// Whether an integrity attribute may have a value of this length in bytes: 20 for `Sha1`; 16, 20,
-/// 24, 28 or 32 for `Sha256`.
+/// Whether an integrity attribute may have a value of this length in bytes: 20 for `Sha1`; 16 to 32
+/// in fours for `Sha256`, and 16 to 64 in fours for `Sha512`.
 pub fn is_lawful_length(algorithm: IntegrityAlgorithm, len: usize) -> bool
     ensures { result ≡ is_lawful algorithm len }
 {
@@ -41,16 +45,22 @@ pub fn is_lawful_length(algorithm: IntegrityAlgorithm, len: usize) -> bool
             len >= registry::MIN_HMAC_SHA256_LENGTH
                 && len <= registry::HMAC_SHA256_LENGTH
                 && len % 4 == 0
-        },
+        }
+        IntegrityAlgorithm::Sha512 => {
+            len >= registry::MIN_HMAC_SHA512_LENGTH
+                && len <= registry::HMAC_SHA512_LENGTH
+                && len % 4 == 0
+        }
     }
 }
 
-/// How many bytes the HMAC of an algorithm has: 20 or 32.
+/// How many bytes the HMAC of an algorithm has: 20, 32 or 64.
 pub fn hmac_length(algorithm: IntegrityAlgorithm) -> usize
     ensures { result ≡ length_of_hmac algorithm }
 {
     match algorithm {
         IntegrityAlgorithm::Sha1 => registry::HMAC_SHA1_LENGTH,
         IntegrityAlgorithm::Sha256 => registry::HMAC_SHA256_LENGTH,
+        IntegrityAlgorithm::Sha512 => registry::HMAC_SHA512_LENGTH,
     }
 }

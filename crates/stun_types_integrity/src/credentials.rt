@@ -4,12 +4,12 @@ ghost use Rattle.std.specs.Prelude.{◌≡◌, IfOk};
 ghost use Rattle.std.specs.String.{string_bytes};
 ghost use Rattle.stun_types_integrity.specs.Credentials.{long_term_key, short_term_key};
 
+use crate::begun::Begun;
 use crate::key::IntegrityKey;
 use std::alloc::Global;
 use std::fmt;
 use std::marker::Model;
 use stun_types_write::algorithm::IntegrityAlgorithm;
-use stun_types_write::hmac::{HmacSha1, HmacSha256};
 use stun_types_write::memory::NoMemory;
 
 /// A user's name and password, which count in many sessions, and in each realm by another key
@@ -142,7 +142,7 @@ impl LongTermKeyCredentials {
     }
 
     /// The key for an algorithm: a digest of name, realm and password with colons between them, MD5
-    /// for `Sha1` and SHA-256 for `Sha256` (RFC 8489, sections 9.2.2 and 18.5.1).
+    /// for `Sha1`, SHA-256 for `Sha256` and SHA-512 for `Sha512` (RFC 8489, sections 9.2.2 and 18.5.1).
     #[inline(always)]
     pub fn make_key(&self, algorithm: IntegrityAlgorithm) -> IntegrityKey<'_>
         ensures { result ≡ long_term_key self.now algorithm }
@@ -215,8 +215,7 @@ impl fmt::Debug for ShortTermCredentials {
 pub struct ShortTermKeyCredentials {
     credentials: ShortTermCredentials,
     algorithm: IntegrityAlgorithm,
-    by_sha1: HmacSha1,
-    by_sha256: HmacSha256,
+    begun: Begun,
 }
 
 impl Model for ShortTermKeyCredentials {
@@ -227,7 +226,7 @@ impl Model for ShortTermKeyCredentials {
 
     ghost view = { λ c. record { secret = c.credentials; algorithm = c.algorithm } };
 
-    ghost invariant = { λ c. HasKey c.algorithm c.by_sha1 c.by_sha256 c.credentials.password };
+    ghost invariant = { λ c. HasKey c.algorithm c.begun c.credentials.password };
 }
 
 impl ShortTermKeyCredentials {
@@ -235,12 +234,11 @@ impl ShortTermKeyCredentials {
     pub fn new(credentials: ShortTermCredentials, algorithm: IntegrityAlgorithm) -> Self
         ensures { result ≡ record { secret = credentials; algorithm = algorithm } }
     {
-        let (by_sha1, by_sha256) = credentials.make_key(algorithm).into_begun();
+        let begun = credentials.make_key(algorithm).into_begun();
         ShortTermKeyCredentials {
             credentials,
             algorithm,
-            by_sha1,
-            by_sha256,
+            begun,
         }
     }
 
@@ -262,12 +260,7 @@ impl ShortTermKeyCredentials {
     pub fn key(&self) -> IntegrityKey<'_>
         ensures { result ≡ short_term_key self.now.secret self.now.algorithm }
     {
-        IntegrityKey::of_begun(
-            self.credentials.password(),
-            self.algorithm,
-            &self.by_sha1,
-            &self.by_sha256,
-        )
+        IntegrityKey::of_begun(self.credentials.password(), self.algorithm, &self.begun)
     }
 }
 

@@ -1,4 +1,4 @@
-//! The HMAC of a text, by either algorithm.
+//! The HMAC of a text, by any algorithm.
 
 ghost use Rattle.std.specs.Prelude.{◌≡◌};
 ghost use Rattle.stun_types_integrity.specs.Hmacs.{hmac_bytes};
@@ -10,16 +10,19 @@ pub enum IntegrityHmac {
     Sha1([u8; 20]),
     /// HMAC-SHA256.
     Sha256([u8; 32]),
+    /// HMAC-SHA512.
+    Sha512([u8; 64]),
 }
 
 impl IntegrityHmac {
-    /// Its bytes: 20 or 32.
+    /// Its bytes: 20, 32 or 64.
     pub fn as_slice(&self) -> &[u8]
         ensures { result.now ≡ hmac_bytes self.now }
     {
         match self {
             IntegrityHmac::Sha1(bytes) => bytes,
             IntegrityHmac::Sha256(bytes) => bytes,
+            IntegrityHmac::Sha512(bytes) => bytes,
         }
     }
 }

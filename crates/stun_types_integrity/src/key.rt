@@ -2,10 +2,8 @@
 
 ghost use Rattle.std.specs.Prelude.{◌≡◌, ◌≢◌, ◌↔◌, ◌++◌, ⊤, length, IsTrue, MatchOption, codes};
 ghost use Rattle.md5.specs.Md5.{md5};
-ghost use Rattle.sha1.specs.Sha1.{Holds};
-ghost use Rattle.sha2.specs.Hashers.{Holds256};
 ghost use Rattle.sha2.specs.Sha256.{sha256};
-ghost use Rattle.stun_types_write.specs.HmacState.{IsBlank};
+ghost use Rattle.sha2.specs.Sha512.{sha512};
 ghost use Rattle.stun_types_integrity.specs.Begun.{HasKey};
 ghost use Rattle.stun_types_integrity.specs.Credentials.{long_term_key, short_term_key};
 ghost use Rattle.stun_types_integrity.specs.Hmacs.{hmac_bytes};
@@ -13,20 +11,22 @@ ghost use Rattle.stun_types_integrity.specs.KeyBytes.{bytes_of};
 ghost use Rattle.stun_types_integrity.specs.Integrity.{IsFront, integrity_hmac};
 ghost use Rattle.stun_types_integrity.specs.Signing.{hmac_length};
 
+use crate::begun::Begun;
 use crate::hmac::IntegrityHmac;
 use md5::{Digest, Md5};
-use sha2::Sha256;
+use sha2::{Sha256, Sha512};
 use std::alloc::AllocError;
 use std::fmt;
 use std::marker::Model;
 use stun_types_write::algorithm::IntegrityAlgorithm;
-use stun_types_write::hmac::{BlockDigest, HmacSha1, HmacSha256};
+use stun_types_write::hmac::BlockDigest;
 
 /// The bytes of a key: a digest, or the password itself.
 #[derive(Clone, Copy)]
 enum KeyBytes<'a> {
     Md5([u8; 16]),
     Sha256([u8; 32]),
+    Sha512([u8; 64]),
     Password(&'a str),
 }
 
@@ -38,35 +38,18 @@ impl<'a> KeyBytes<'a> {
         match self {
             KeyBytes::Md5(digest) => digest,
             KeyBytes::Sha256(digest) => digest,
+            KeyBytes::Sha512(digest) => digest,
             KeyBytes::Password(password) => password.as_bytes(),
         }
     }
 }
 
-/// What a key holds: its bytes, the algorithm for which it was made, and an HMAC by either. That of the
-/// algorithm has taken the key, and no byte of a text; the other one has taken nothing, and is not used.
+/// What a key holds: its bytes, the algorithm for which it was made, and what HMACs begin with.
 #[derive(Drop)]
 struct Held<'a> {
     bytes: KeyBytes<'a>,
     algorithm: IntegrityAlgorithm,
-    by_sha1: HmacSha1,
-    by_sha256: HmacSha256,
-}
-
-impl<'a> Held<'a> {
-    /// Has the HMAC of the algorithm take a key, where neither has one. It takes it where it stands.
-    fn take_key(&mut self, key: &[u8])
-        requires sha1 { IsBlank Holds self.old.by_sha1 }
-        requires sha256 { IsBlank Holds256 self.old.by_sha256 }
-        ensures key { HasKey self.new.algorithm self.new.by_sha1 self.new.by_sha256 key.now }
-        ensures bytes { self.new.bytes ≡ self.old.bytes }
-        ensures algorithm { self.new.algorithm ≡ self.old.algorithm }
-    {
-        match self.algorithm {
-            IntegrityAlgorithm::Sha1 => self.by_sha1.take_key(key),
-            IntegrityAlgorithm::Sha256 => self.by_sha256.take_key(key),
-        }
-    }
+    begun: Begun,
 }
 
 /// The key of an HMAC, and the algorithm for which it was made. It holds a digest, or borrows the
@@ -89,7 +72,7 @@ impl<'a> Model for IntegrityKey<'a> {
     ghost view = { λ key.
         record { bytes = bytes_of key.held.bytes; algorithm = key.held.algorithm } };
 
-    ghost invariant = { λ key. HasKey key.held.algorithm key.held.by_sha1 key.held.by_sha256
+    ghost invariant = { λ key. HasKey key.held.algorithm key.held.begun
         (bytes_of key.held.bytes) };
 }
 
@@ -103,16 +86,15 @@ impl<'a> IntegrityKey<'a> {
         let mut held = Held {
             bytes: KeyBytes::Password(password),
             algorithm,
-            by_sha1: HmacSha1::blank(),
-            by_sha256: HmacSha256::blank(),
+            begun: Begun::blank(),
         };
-        held.take_key(password.as_bytes());
+        held.begun.take_key(algorithm, password.as_bytes());
         IntegrityKey { held }
     }
 
     /// The key of a user in a realm, for an algorithm: a digest of name, realm and password with colons
-    /// between them, MD5 for `Sha1` and SHA-256 for `Sha256` (RFC 8489, sections 9.2.2 and 18.5.1). It
-    /// borrows none of the three texts.
+    /// between them, MD5 for `Sha1`, SHA-256 for `Sha256` and SHA-512 for `Sha512` (RFC 8489, sections
+    /// 9.2.2 and 18.5.1). It borrows none of the three texts.
     #[inline(always)]
     pub fn long_term(
         username: &str,
@@ -130,43 +112,40 @@ impl<'a> IntegrityKey<'a> {
         let bytes = match algorithm {
             IntegrityAlgorithm::Sha1 => KeyBytes::Md5(md5_of_parts(name, realm, secret)),
             IntegrityAlgorithm::Sha256 => KeyBytes::Sha256(sha256_of_parts(name, realm, secret)),
+            IntegrityAlgorithm::Sha512 => KeyBytes::Sha512(sha512_of_parts(name, realm, secret)),
         };
         let mut held = Held {
             bytes,
             algorithm,
-            by_sha1: HmacSha1::blank(),
-            by_sha256: HmacSha256::blank(),
+            begun: Begun::blank(),
         };
-        held.take_key(bytes.as_slice());
+        held.begun.take_key(algorithm, bytes.as_slice());
         IntegrityKey { held }
     }
 
-    /// The key of a password for an algorithm, of which these are the HMACs: that of the algorithm has
-    /// taken the password.
+    /// The key of a password for an algorithm, of which this is what HMACs begin with.
     pub(crate) fn of_begun(
         password: &'a str,
         algorithm: IntegrityAlgorithm,
-        by_sha1: &HmacSha1,
-        by_sha256: &HmacSha256,
+        begun: &Begun,
     ) -> IntegrityKey<'a>
-        requires { HasKey algorithm by_sha1.now by_sha256.now password.now }
+        requires { HasKey algorithm begun.now password.now }
         ensures { result ≡ short_term_key (record { password = password.now }) algorithm }
     {
         IntegrityKey {
             held: Held {
                 bytes: KeyBytes::Password(password),
                 algorithm,
-                by_sha1: by_sha1.again(),
-                by_sha256: by_sha256.again(),
+                begun: begun.again(),
             },
         }
     }
 
-    /// The HMACs that it holds: that of the algorithm has taken the key.
-    pub(crate) fn into_begun(self) -> (HmacSha1, HmacSha256)
-        ensures { HasKey self.entry.algorithm result.0 result.1 self.entry.bytes }
+    /// What HMACs under it begin with.
+    pub(crate) fn into_begun(self) -> Begun
+        ensures { HasKey self.entry.algorithm result self.entry.bytes }
     {
-        (self.held.by_sha1, self.held.by_sha256)
+        self.held.begun
     }
 
     /// The bytes of the key.
@@ -191,13 +170,18 @@ impl<'a> IntegrityKey<'a> {
             (head.now ++ middle.now ++ tail.now) }
         ensures size { length (hmac_bytes result) ≡ hmac_length self.now.algorithm }
     {
+        let begun = &self.held.begun;
         match self.held.algorithm {
             IntegrityAlgorithm::Sha1 => {
-                IntegrityHmac::Sha1(self.held.by_sha1.with_pieces(head, middle, tail))
+                IntegrityHmac::Sha1(begun.by_sha1.with_pieces(head, middle, tail))
             }
             IntegrityAlgorithm::Sha256 => {
-                IntegrityHmac::Sha256(self.held.by_sha256.with_pieces(head, middle, tail))
+                IntegrityHmac::Sha256(begun.by_sha256.with_pieces(head, middle, tail))
             }
+            IntegrityAlgorithm::Sha512 => match &begun.by_sha512 {
+                Some(hmac) => IntegrityHmac::Sha512(hmac.with_pieces(head, middle, tail)),
+                None => unreachable!(),
+            },
         }
     }
 
@@ -210,13 +194,15 @@ impl<'a> IntegrityKey<'a> {
             (head.now ++ middle.now ++ tail.now))) }
     {
         match self.held.algorithm {
-            IntegrityAlgorithm::Sha1 => Some(self.held.by_sha1.with_pieces(head, middle, tail)),
-            IntegrityAlgorithm::Sha256 => None,
+            IntegrityAlgorithm::Sha1 => {
+                Some(self.held.begun.by_sha1.with_pieces(head, middle, tail))
+            }
+            _ => None,
         }
     }
 
-    /// The HMAC-SHA256 of a text that comes in three pieces, as for `hmac`. None where the key was
-    /// made for another algorithm.
+    /// The HMAC-SHA256 of a text that comes in three pieces, as for `hmac`. None where the key was made
+    /// for another algorithm.
     pub(crate) fn hmac_sha256(&self, head: &[u8], middle: &[u8], tail: &[u8]) -> Option<[u8; 32]>
         ensures { MatchOption result (self.now.algorithm ≢ IntegrityAlgorithm.Sha256)
             (λ hmac. (self.now.algorithm ≡ IntegrityAlgorithm.Sha256)
@@ -224,8 +210,24 @@ impl<'a> IntegrityKey<'a> {
             (head.now ++ middle.now ++ tail.now))) }
     {
         match self.held.algorithm {
-            IntegrityAlgorithm::Sha256 => Some(self.held.by_sha256.with_pieces(head, middle, tail)),
-            IntegrityAlgorithm::Sha1 => None,
+            IntegrityAlgorithm::Sha256 => {
+                Some(self.held.begun.by_sha256.with_pieces(head, middle, tail))
+            }
+            _ => None,
+        }
+    }
+
+    /// The HMAC-SHA512 of a text that comes in three pieces, as for `hmac`. None where the key was made
+    /// for another algorithm.
+    pub(crate) fn hmac_sha512(&self, head: &[u8], middle: &[u8], tail: &[u8]) -> Option<[u8; 64]>
+        ensures { MatchOption result (self.now.algorithm ≢ IntegrityAlgorithm.Sha512)
+            (λ hmac. (self.now.algorithm ≡ IntegrityAlgorithm.Sha512)
+            × (hmac ≡ integrity_hmac IntegrityAlgorithm.Sha512 self.now.bytes
+            (head.now ++ middle.now ++ tail.now))) }
+    {
+        match (self.held.algorithm, &self.held.begun.by_sha512) {
+            (IntegrityAlgorithm::Sha512, Some(hmac)) => Some(hmac.with_pieces(head, middle, tail)),
+            _ => None,
         }
     }
 
@@ -258,8 +260,7 @@ impl<'a> Clone for IntegrityKey<'a> {
             held: Held {
                 bytes: self.held.bytes,
                 algorithm: self.held.algorithm,
-                by_sha1: self.held.by_sha1.again(),
-                by_sha256: self.held.by_sha256.again(),
+                begun: self.held.begun.again(),
             },
         })
     }
@@ -313,6 +314,19 @@ fn sha256_of_parts(first: &[u8], second: &[u8], third: &[u8]) -> [u8; 32]
     ensures { result ≡ sha256 (first.now ++ codes ":" ++ second.now ++ codes ":" ++ third.now) }
 {
     let mut hasher = Sha256::start();
+    hasher.take(first);
+    hasher.take(b":");
+    hasher.take(second);
+    hasher.take(b":");
+    hasher.take(third);
+    hasher.finish()
+}
+
+/// The SHA-512 of the same text.
+fn sha512_of_parts(first: &[u8], second: &[u8], third: &[u8]) -> [u8; 64]
+    ensures { result ≡ sha512 (first.now ++ codes ":" ++ second.now ++ codes ":" ++ third.now) }
+{
+    let mut hasher = Sha512::start();
     hasher.take(first);
     hasher.take(b":");
     hasher.take(second);

@@ -1,11 +1,11 @@
 -- What a writer holds that took some calls is read as what they add.
 use Rattle.std.proofs.Common.{◌≡◌, ℕ, ◌+◌, ◌≤◌, ◌<◌, ◌^◌, true, false, eqb, ltb, List, [], ◌∷◌, ◌++◌, length, map, None, Some, refl, sym, ap, subst, ◌∙◌, append_assoc, arith, inl, inr}
-use Rattle.std.specs.Prelude.{Bool, if◌then◌else◌}
+use Rattle.std.specs.Prelude.{Bool, ◌||◌, if◌then◌else◌}
 use Rattle.std.specs.List.{AllByRecursion}
 use Rattle.std.proofs.lemmas.Bool.{cases_Bool, ltb-false}
 use Rattle.std.proofs.lemmas.List.{append-nil}
 use Rattle.stun_types_build.specs.declared.algorithm.IntegrityAlgorithm.{IntegrityAlgorithm}
-use Rattle.stun_types_build.specs.declared.algorithm.IntegrityAlgorithm.TheVariants.{Sha1, Sha256}
+use Rattle.stun_types_build.specs.declared.algorithm.IntegrityAlgorithm.TheVariants.{Sha1, Sha256, Sha512}
 use Rattle.stun_types_build.specs.Attributes.{Attr, attr_size, padded}
 use Rattle.stun_types_build.specs.Fingerprints.{fingerprint_of, shows_fingerprint}
 use Rattle.stun_types_build.specs.Shape.{kinds_of, last_rank, may_follow, rank}
@@ -22,7 +22,7 @@ use Rattle.stun_types_build.specs.Adding.{IsBegun, add_refusal, fingerprint_add_
 use Rattle.stun_types_build.specs.Registry.{greatest_size}
 use Rattle.stun_types_build.specs.Drafts.{Draft, ended_by}
 use Rattle.stun_types_build.specs.Integrity.{Validates, algorithm_of, attribute_kind}
-use Rattle.stun_types_build.specs.Signing.{hmac_length, order_refusal, signature, signing_refusal, text_to_sign}
+use Rattle.stun_types_build.specs.Signing.{has_signed, has_signed_stronger, hmac_length, order_refusal, signature, signing_refusal, text_to_sign}
 use Rattle.stun_types_build.specs.Calls.{Add, Ordinary, Integrity, Fingerprint, AreAccepted, IsLawful, IsOrdinary, IsWritten, after_call, after_calls, attribute_of, attributes_after, attributes_of, refusal_of}
 use Rattle.stun_types_build.proofs.Adds.{add_begun, one_more}
 use Rattle.stun_types_build.proofs.Taken.{none_of, text_after}
@@ -51,7 +51,16 @@ shows_more (b ∷ all) a none other =
 
 -- the rank of the last attribute, by what was added
 abbrev ended_rank : Ended → ℕ
-ended_rank e = if e.fingerprint then 3 else if e.sha256 then 2 else if e.integrity then 1 else 0
+ended_rank e =
+    if e.fingerprint then 4
+    else if e.sha512 then 3
+    else if e.sha256 then 2
+    else if e.integrity then 1
+    else 0
+
+or_false : (a b : Bool) → a || b ≡ false → (a ≡ false) × (b ≡ false)
+or_false true b h = absurd cc
+or_false false b h = (refl, h)
 
 -- ---- what a refusal that is absent tells
 
@@ -65,6 +74,7 @@ grown draft size h =
 -- what an ordinary attribute finds
 record NoneEnded (draft : Draft) (size : ℕ) : Type 0 where
   fingerprint : draft.ended.fingerprint ≡ false
+  sha512 : draft.ended.sha512 ≡ false
   sha256 : draft.ended.sha256 ≡ false
   integrity : draft.ended.integrity ≡ false
   room : growth_refusal draft size ≡ None
@@ -78,35 +88,31 @@ add_told draft size h =
         | inl i ↦ absurd (let p = rw (f, i) at h in cc)
         | inr i ↦ elim (cases_Bool draft.ended.sha256) [
           | inl s ↦ absurd (let p = rw (f, i, s) at h in cc)
-          | inr s ↦ record { fingerprint = f; sha256 = s; integrity = i; room = rw (f, i, s) at h }
+          | inr s ↦ elim (cases_Bool draft.ended.sha512) [
+            | inl l ↦ absurd (let p = rw (f, i, s, l) at h in cc)
+            | inr l ↦ record { fingerprint = f; sha512 = l; sha256 = s; integrity = i; room = rw (f, i, s, l) at h }
+          ]
         ]
       ]
     ]
 
--- what an integrity attribute finds, by its algorithm
-abbrev MaySign : Ended → IntegrityAlgorithm → Type 0
-MaySign e Sha1 = (e.fingerprint ≡ false) × (e.integrity ≡ false) × (e.sha256 ≡ false)
-MaySign e Sha256 = (e.fingerprint ≡ false) × (e.sha256 ≡ false)
+-- what an integrity attribute finds: neither its own, nor that of a stronger algorithm
+record MaySign (e : Ended) (algorithm : IntegrityAlgorithm) : Type 0 where
+  fingerprint : e.fingerprint ≡ false
+  own : has_signed e algorithm ≡ false
+  stronger : has_signed_stronger e algorithm ≡ false
 
 order_told : (e : Ended) (algorithm : IntegrityAlgorithm) → order_refusal e algorithm ≡ None → MaySign e algorithm
 unfolding order_refusal
-order_told e Sha1 h =
+order_told e algorithm h =
     elim (cases_Bool e.fingerprint) [
       | inl f ↦ absurd (let p = rw f at h in cc)
-      | inr f ↦ elim (cases_Bool e.integrity) [
-        | inl i ↦ absurd (let p = rw (f, i) at h in cc)
-        | inr i ↦ elim (cases_Bool e.sha256) [
-          | inl s ↦ absurd (let p = rw (f, i, s) at h in cc)
-          | inr s ↦ (f, i, s)
+      | inr f ↦ elim (cases_Bool (has_signed e algorithm)) [
+        | inl o ↦ absurd (let p = rw (f, o) at h in cc)
+        | inr o ↦ elim (cases_Bool (has_signed_stronger e algorithm)) [
+          | inl s ↦ absurd (let p = rw (f, o, s) at h in cc)
+          | inr s ↦ record { fingerprint = f; own = o; stronger = s }
         ]
-      ]
-    ]
-order_told e Sha256 h =
-    elim (cases_Bool e.fingerprint) [
-      | inl f ↦ absurd (let p = rw f at h in cc)
-      | inr f ↦ elim (cases_Bool e.sha256) [
-        | inl s ↦ absurd (let p = rw (f, s) at h in cc)
-        | inr s ↦ (f, s)
       ]
     ]
 
@@ -118,6 +124,7 @@ sign_room : (draft : Draft) (algorithm : IntegrityAlgorithm) → signing_refusal
 unfolding signing_refusal
 sign_room draft Sha1 h = rw (sign_order draft Sha1 h) at h
 sign_room draft Sha256 h = rw (sign_order draft Sha256 h) at h
+sign_room draft Sha512 h = rw (sign_order draft Sha512 h) at h
 
 mark_told : (draft : Draft) → fingerprint_add_refusal draft ≡ None → (draft.ended.fingerprint ≡ false) × (growth_refusal draft 8 ≡ None)
 unfolding fingerprint_add_refusal
@@ -168,14 +175,44 @@ signed_step mtype number before draft algorithm key s accepted may rank-is unmar
     step mtype number before draft a (4 + hmac_length algorithm) s (own_fits algorithm key draft.bytes) (sign_room draft algorithm accepted) (sym size) may rank-is
     (subst (λ (b : Bool). Own mtype number (before ++ a ∷ []) b) (sym unmarked) own)
 
-after_integrity : (e : Ended) → e.sha256 ≡ false → e.fingerprint ≡ false → may_follow (ended_rank e) 2 ≡ true
-after_integrity e s f = elim (cases_Bool e.integrity) [ inl i ↦ rw (f, s, i) refl | inr i ↦ rw (f, s, i) refl ]
-
-after_any : (e : Ended) → e.fingerprint ≡ false → may_follow (ended_rank e) 3 ≡ true
-after_any e f =
+-- the last type, where neither an algorithm's attribute nor a stronger one was added: one of a lower rank
+after_weaker : (e : Ended) (algorithm : IntegrityAlgorithm) → MaySign e algorithm → may_follow (ended_rank e) (rank (attribute_kind algorithm)) ≡ true
+after_weaker e Sha1 m =
+    let both = or_false e.sha256 e.sha512 m.stronger in
+    rw (m.fingerprint, m.own, both.0, both.1) refl
+after_weaker e Sha256 m = elim (cases_Bool e.integrity) [ inl i ↦ rw (m.fingerprint, m.own, m.stronger, i) refl | inr i ↦ rw (m.fingerprint, m.own, m.stronger, i) refl ]
+after_weaker e Sha512 m =
     elim (cases_Bool e.sha256) [
-      | inl s ↦ rw (f, s) refl
-      | inr s ↦ elim (cases_Bool e.integrity) [ inl i ↦ rw (f, s, i) refl | inr i ↦ rw (f, s, i) refl ]
+      | inl s ↦ rw (m.fingerprint, m.own, s) refl
+      | inr s ↦ elim (cases_Bool e.integrity) [ inl i ↦ rw (m.fingerprint, m.own, s, i) refl | inr i ↦ rw (m.fingerprint, m.own, s, i) refl ]
+    ]
+
+-- and it is the last one then
+rank_after : (e : Ended) (algorithm : IntegrityAlgorithm) → MaySign e algorithm → ended_rank (ended_by e (attribute_kind algorithm)) ≡ rank (attribute_kind algorithm)
+rank_after e Sha1 m =
+    let both = or_false e.sha256 e.sha512 m.stronger in
+    rw (m.fingerprint, both.0, both.1) refl
+rank_after e Sha256 m = rw (m.fingerprint, m.stronger) refl
+rank_after e Sha512 m = rw (m.fingerprint) refl
+
+unmarked_after : (e : Ended) (algorithm : IntegrityAlgorithm) → MaySign e algorithm → (ended_by e (attribute_kind algorithm)).fingerprint ≡ false
+unmarked_after e Sha1 m = m.fingerprint
+unmarked_after e Sha256 m = m.fingerprint
+unmarked_after e Sha512 m = m.fingerprint
+
+no_fingerprint : (algorithm : IntegrityAlgorithm) → eqb (attribute_kind algorithm) fingerprint_kind ≡ false
+no_fingerprint Sha1 = refl
+no_fingerprint Sha256 = refl
+no_fingerprint Sha512 = refl
+
+after_any : (e : Ended) → e.fingerprint ≡ false → may_follow (ended_rank e) 4 ≡ true
+after_any e f =
+    elim (cases_Bool e.sha512) [
+      | inl l ↦ rw (f, l) refl
+      | inr l ↦ elim (cases_Bool e.sha256) [
+        | inl s ↦ rw (f, l, s) refl
+        | inr s ↦ elim (cases_Bool e.integrity) [ inl i ↦ rw (f, l, s, i) refl | inr i ↦ rw (f, l, s, i) refl ]
+      ]
     ]
 
 marked_step : (mtype number : ℕ) (before : List Attr) (draft : Draft) → IsSound mtype number before draft → fingerprint_add_refusal draft ≡ None
@@ -195,19 +232,16 @@ ordinary_step mtype number before draft a s lawful accepted =
     let n = none_of a.kind lawful.ordinary in
     let unmarked : (ended_by draft.ended a.kind).fingerprint ≡ false = rw (n.fingerprint) t.fingerprint in
     let own : shows_fingerprint (before ++ a ∷ []) ≡ false = shows_more before a (subst (λ (b : Bool). Own mtype number before b) t.fingerprint s.own) n.fingerprint in
-    step mtype number before draft a (attr_size a) s lawful.fits t.room refl (rw (lawful.ordinary, t.fingerprint, t.sha256, t.integrity) refl) (rw (lawful.ordinary, n.integrity, n.sha256, n.fingerprint, t.fingerprint, t.sha256, t.integrity) refl)
+    step mtype number before draft a (attr_size a) s lawful.fits t.room refl (rw (lawful.ordinary, t.fingerprint, t.sha512, t.sha256, t.integrity) refl) (rw (lawful.ordinary, n.integrity, n.sha256, n.sha512, n.fingerprint, t.fingerprint, t.sha512, t.sha256, t.integrity) refl)
     (subst (λ (b : Bool). Own mtype number (before ++ a ∷ []) b) (sym unmarked) own)
 
 -- one call more
 call_step : (mtype number : ℕ) (before : List Attr) (draft : Draft) (call : Add) → IsSound mtype number before draft → IsLawful call → refusal_of call draft ≡ None
     → IsSound mtype number (before ++ attribute_of call draft.bytes ∷ []) (after_call call draft)
 call_step mtype number before draft (Ordinary a) s lawful accepted = ordinary_step mtype number before draft a s lawful accepted
-call_step mtype number before draft (Integrity Sha1 key) s lawful accepted =
-    let m = order_told draft.ended Sha1 (sign_order draft Sha1 accepted) in
-    signed_step mtype number before draft Sha1 key s accepted (rw (m.0, m.2, m.1) refl) (rw (m.0, m.2) refl) m.0 m.0 refl
-call_step mtype number before draft (Integrity Sha256 key) s lawful accepted =
-    let m = order_told draft.ended Sha256 (sign_order draft Sha256 accepted) in
-    signed_step mtype number before draft Sha256 key s accepted (after_integrity draft.ended m.1 m.0) (rw (m.0) refl) m.0 m.0 refl
+call_step mtype number before draft (Integrity algorithm key) s lawful accepted =
+    let m = order_told draft.ended algorithm (sign_order draft algorithm accepted) in
+    signed_step mtype number before draft algorithm key s accepted (after_weaker draft.ended algorithm m) (rank_after draft.ended algorithm m) (unmarked_after draft.ended algorithm m) m.fingerprint (no_fingerprint algorithm)
 call_step mtype number before draft Fingerprint s lawful accepted = marked_step mtype number before draft s accepted
 
 sound_after : (mtype number : ℕ) (calls : List Add) (before : List Attr) (draft : Draft) → IsSound mtype number before draft → AllByRecursion IsLawful calls → AreAccepted calls draft
@@ -280,7 +314,7 @@ tail_is mtype number (call ∷ rest) before =
 
 is_none : (call : Add) (bytes : List ℕ) → IsLawful call → IsNoIntegrity call → algorithm_of (attribute_of call bytes).kind ≡ None
 unfolding fingerprint_of
-is_none (Ordinary a) bytes lawful none = let n = none_of a.kind lawful.ordinary in rw (n.integrity, n.sha256) refl
+is_none (Ordinary a) bytes lawful none = let n = none_of a.kind lawful.ordinary in rw (n.integrity, n.sha256, n.sha512) refl
 is_none (Integrity algorithm key) bytes lawful none = absurd none
 is_none Fingerprint bytes lawful none = refl
 

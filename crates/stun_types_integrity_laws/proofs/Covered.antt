@@ -8,10 +8,10 @@ use Rattle.std.proofs.lemmas.List.Elements.{filter-append}
 use Rattle.byteorder.specs.Endian.{big_from}
 use Rattle.byteorder.specs.Numbers.{big_from-append, big_number-reads_back}
 use Rattle.stun_types_build.specs.declared.algorithm.IntegrityAlgorithm.{IntegrityAlgorithm}
-use Rattle.stun_types_build.specs.declared.algorithm.IntegrityAlgorithm.TheVariants.{Sha1, Sha256}
+use Rattle.stun_types_build.specs.declared.algorithm.IntegrityAlgorithm.TheVariants.{Sha1, Sha256, Sha512}
 use Rattle.stun_types_build.specs.Attributes.{Attr, attr_size, kind_at, length_at, size_at, padded, numbered}
 use Rattle.stun_types_build.specs.Shape.{rank, may_follow, kinds_of, shown_after}
-use Rattle.stun_types_build.specs.Registry.{integrity_kind, sha256_kind, fingerprint_kind}
+use Rattle.stun_types_build.specs.Registry.{integrity_kind, sha256_kind, sha512_kind, fingerprint_kind}
 use Rattle.stun_types_build.specs.Grammar.{IsMessage, shown, number_at}
 use Rattle.stun_types_build.specs.Text.{header_text, parts_text}
 use Rattle.stun_types_build.specs.Headers.{AreBytes}
@@ -128,9 +128,12 @@ ends_by_fingerprint r a positive follows none =
         | inl m ↦ absurd (let p = rw (m) at none in cc)
         | inr m ↦ elim (cases_Bool (eqb a.kind sha256_kind)) [
           | inl s ↦ absurd (let p = rw (m, s) at none in cc)
-          | inr s ↦
-              let ordinary : rank a.kind ≡ 0 = rw (m, s, f) refl in
-              absurd (let less = follows_less r (rank a.kind) positive follows in omega (arith, ordinary))
+          | inr s ↦ elim (cases_Bool (eqb a.kind sha512_kind)) [
+            | inl l ↦ absurd (let p = rw (m, s, l) at none in cc)
+            | inr l ↦
+                let ordinary : rank a.kind ≡ 0 = rw (m, s, l, f) refl in
+                absurd (let less = follows_less r (rank a.kind) positive follows in omega (arith, ordinary))
+          ]
         ]
       ]
     ]
@@ -151,10 +154,12 @@ follows_behind r (x ∷ front) a rest h = follows_behind (rank x.kind) front a r
 positive_rank : (algorithm : IntegrityAlgorithm) → 0 < rank (attribute_kind algorithm)
 positive_rank Sha1 = omega arith
 positive_rank Sha256 = omega arith
+positive_rank Sha512 = omega arith
 
 stays : (algorithm : IntegrityAlgorithm) → not (eqb (attribute_kind algorithm) fingerprint_kind) ≡ true
 stays Sha1 = refl
 stays Sha256 = refl
+stays Sha512 = refl
 
 -- what is shown up to the last integrity attribute, and a FINGERPRINT
 shows_of : (bytes : List ℕ) (algorithm : IntegrityAlgorithm) (before : List (ℕ × Attr)) (e : ℕ × Attr) (behind : List (ℕ × Attr)) → numbered 20 (shown bytes) ≡ before ++ e ∷ behind → e.1.kind ≡ attribute_kind algorithm
@@ -171,12 +176,16 @@ shows_of bytes algorithm before e behind parts kind none =
 
 -- ---- the integrity attribute
 
+same_fours : (least most n m : ℕ) → leb least n && (leb n most && eqb (n % 4) 0) ≡ true → leb least m && (leb m most && eqb (m % 4) 0) ≡ true → padded n ≡ padded m → n ≡ m
+same_fours least most n m hn hm same =
+    let four-n = eqb-true (n % 4) 0 (and_parts (leb n most) (eqb (n % 4) 0) (and_parts (leb least n) (leb n most && eqb (n % 4) 0) hn).1).1 in
+    let four-m = eqb-true (m % 4) 0 (and_parts (leb m most) (eqb (m % 4) 0) (and_parts (leb least m) (leb m most && eqb (m % 4) 0) hm).1).1 in
+    omega arith
+
 same_length : (algorithm : IntegrityAlgorithm) (n m : ℕ) → IsTrue (is_lawful_length algorithm n) → IsTrue (is_lawful_length algorithm m) → padded n ≡ padded m → n ≡ m
 same_length Sha1 n m hn hm same = eqb-true n 20 hn ∙ sym (eqb-true m 20 hm)
-same_length Sha256 n m hn hm same =
-    let four-n = eqb-true (n % 4) 0 (and_parts (leb n 32) (eqb (n % 4) 0) (and_parts (leb 16 n) (leb n 32 && eqb (n % 4) 0) hn).1).1 in
-    let four-m = eqb-true (m % 4) 0 (and_parts (leb m 32) (eqb (m % 4) 0) (and_parts (leb 16 m) (leb m 32 && eqb (m % 4) 0) hm).1).1 in
-    omega arith
+same_length Sha256 n m hn hm same = same_fours 16 32 n m hn hm same
+same_length Sha512 n m hn hm same = same_fours 16 64 n m hn hm same
 
 same_front : (f g r s : List ℕ) → f ++ r ≡ g ++ s → length f ≡ length g → f ≡ g
 same_front [] [] r s h len = refl

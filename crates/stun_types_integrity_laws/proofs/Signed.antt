@@ -6,9 +6,10 @@ use Rattle.std.specs.Int.{to_be_bytes, w32}
 use Rattle.std.proofs.lemmas.List.{append-nil, length-append}
 use Rattle.sha1.specs.Sha1.{sha1, digest_bytes}
 use Rattle.sha2.proofs.Facts256.{length-sha256}
+use Rattle.sha2.proofs.Facts512.{length-sha512}
 use Rattle.stun_types_build.specs.Hmac.{hmac}
 use Rattle.stun_types_build.specs.declared.algorithm.IntegrityAlgorithm.{IntegrityAlgorithm}
-use Rattle.stun_types_build.specs.declared.algorithm.IntegrityAlgorithm.TheVariants.{Sha1, Sha256}
+use Rattle.stun_types_build.specs.declared.algorithm.IntegrityAlgorithm.TheVariants.{Sha1, Sha256, Sha512}
 use Rattle.stun_types_build.specs.Attributes.{Attr, attr_size, padded, numbered}
 use Rattle.stun_types_build.specs.Covered.{covered_text, with_length}
 use Rattle.stun_types_build.specs.Grammar.{shown}
@@ -39,16 +40,19 @@ length-hmac : (algorithm : IntegrityAlgorithm) (key text : List ℕ) → length 
 unfolding hmac
 length-hmac Sha1 key text = length-sha1 _
 length-hmac Sha256 key text = length-sha256 _
+length-hmac Sha512 key text = length-sha512 _
 
 -- ---- the signature
 
 lawful_length : (algorithm : IntegrityAlgorithm) → IsTrue (is_lawful_length algorithm (hmac_length algorithm))
 lawful_length Sha1 = refl
 lawful_length Sha256 = refl
+lawful_length Sha512 = refl
 
 pub size_of : (algorithm : IntegrityAlgorithm) (n : ℕ) → n ≡ hmac_length algorithm → (4 + padded n ≡ 4 + hmac_length algorithm) × (n < 2 ^ 16)
 size_of Sha1 n is = (omega arith, omega arith)
 size_of Sha256 n is = (omega arith, omega arith)
+size_of Sha512 n is = (omega arith, omega arith)
 
 pub signature_length : (algorithm : IntegrityAlgorithm) (key bytes : List ℕ) → length (signature algorithm key bytes).value ≡ hmac_length algorithm
 unfolding signature
@@ -65,6 +69,7 @@ signature_kind algorithm key bytes = refl
 kind_fits : (algorithm : IntegrityAlgorithm) → attribute_kind algorithm < 2 ^ 16
 kind_fits Sha1 = omega arith
 kind_fits Sha256 = omega arith
+kind_fits Sha512 = omega arith
 
 pub own_fits : (algorithm : IntegrityAlgorithm) (key bytes : List ℕ) → FitsAttribute (signature algorithm key bytes)
 own_fits algorithm key bytes = record {

@@ -9,7 +9,7 @@ use Rattle.stun_types_wire.specs.declared.error.StunParseError.{StunParseError}
 use Rattle.stun_types_wire.specs.declared.algorithm.IntegrityAlgorithm.{IntegrityAlgorithm}
 use Rattle.stun_types_wire.specs.Attributes.{Attr, attr_size, padded, attr_at, kind_at, length_at, size_at, is_whole, numbered}
 use Rattle.stun_types_wire.specs.Shape.{rank, may_follow, kinds_of, shown_after}
-use Rattle.stun_types_wire.specs.Registry.{integrity_kind, sha256_kind}
+use Rattle.stun_types_wire.specs.Registry.{integrity_kind, sha256_kind, sha512_kind}
 use Rattle.stun_types_wire.specs.Grammar.{Header, IsMessage, shown, refusal, header_refusal, length_refusal, body_refusal}
 use Rattle.stun_types_grammar_laws.proofs.Whole.{whole_long, size_whole}
 use Rattle.std.specs.List.{AllByRecursion}
@@ -17,7 +17,7 @@ use Rattle.stun_types_grammar_laws.proofs.Left.{left_at, map_numbered, none_past
 use Rattle.stun_types_grammar_laws.proofs.Scan.{shown_short}
 use Rattle.stun_types_grammar_laws.proofs.Longest.{Follows, front_follows}
 use Rattle.stun_types_wire.specs.Covered.{covered_text, with_length}
-use Rattle.stun_types_wire.specs.declared.algorithm.IntegrityAlgorithm.TheVariants.{Sha1, Sha256}
+use Rattle.stun_types_wire.specs.declared.algorithm.IntegrityAlgorithm.TheVariants.{Sha1, Sha256, Sha512}
 use Rattle.stun_types_wire.specs.declared.error.StunParseError.TheVariants.{MissingAttribute, InvalidAttributeData}
 use Rattle.stun_types_wire.specs.declared.error.ValidateError.{ValidateError}
 use Rattle.stun_types_wire.specs.declared.error.ValidateError.TheVariants.{Parse, IntegrityFailed}
@@ -182,6 +182,7 @@ found_parts p (x ∷ all) e h =
 positive_rank : (algorithm : IntegrityAlgorithm) → 0 < rank (attribute_kind algorithm)
 positive_rank Sha1 = omega arith
 positive_rank Sha256 = omega arith
+positive_rank Sha512 = omega arith
 
 right_signed : (bytes key : List ℕ) (algorithm : IntegrityAlgorithm) (o : Option (ℕ × Attr)) → IsMessage bytes → first_of_kind (attribute_kind algorithm) bytes ≡ o → IsSomeAnd o (IsRight bytes key algorithm) → (text : List ℕ) × IsSigned bytes key algorithm text
 right_signed bytes key algorithm None message is right = absurd right
@@ -283,13 +284,20 @@ own_kind kind algorithm h =
             let found : Some Sha256 ≡ Some algorithm = rw (m, s) at h in
             let is : Sha256 ≡ algorithm = cc in
             eqb-true kind sha256_kind s ∙ ap attribute_kind is
-        | inr s ↦ absurd (let found = rw (m, s) at h in cc)
+        | inr s ↦ elim (cases_Bool (eqb kind sha512_kind)) [
+          | inl l ↦
+              let found : Some Sha512 ≡ Some algorithm = rw (m, s, l) at h in
+              let is : Sha512 ≡ algorithm = cc in
+              eqb-true kind sha512_kind l ∙ ap attribute_kind is
+          | inr l ↦ absurd (let found = rw (m, s, l) at h in cc)
+        ]
       ]
     ]
 
 kind_own : (algorithm : IntegrityAlgorithm) → algorithm_of (attribute_kind algorithm) ≡ Some algorithm
 kind_own Sha1 = refl
 kind_own Sha256 = refl
+kind_own Sha512 = refl
 
 pub signed_validates : (bytes key : List ℕ) (algorithm : IntegrityAlgorithm) (text : List ℕ) → last_algorithm (shown bytes) ≡ Some algorithm → IsSigned bytes key algorithm text → Validates bytes key algorithm text
 signed_validates bytes key algorithm text is s =

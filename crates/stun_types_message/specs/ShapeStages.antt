@@ -2,14 +2,15 @@
 use Rattle.std.specs.Prelude.{◌≡◌, ℕ, true, false, Option, MatchOption}
 use Rattle.stun_types_wire.specs.Shape.{rank, may_follow}
 use Rattle.stun_types_message.specs.declared.stage.Stage.{Stage}
-use Rattle.stun_types_message.specs.declared.stage.Stage.TheVariants.{Ordinary, Integrity, Sha256, Fingerprint}
+use Rattle.stun_types_message.specs.declared.stage.Stage.TheVariants.{Ordinary, Integrity, Sha256, Sha512, Fingerprint}
 
 -- the rank of the last attribute
 abbrev pub stage_rank : Stage → ℕ
 stage_rank Ordinary = 0
 stage_rank Integrity = 1
 stage_rank Sha256 = 2
-stage_rank Fingerprint = 3
+stage_rank Sha512 = 3
+stage_rank Fingerprint = 4
 
 -- a type leads to the stage of its rank, where it may follow, and else to none
 abbrev pub LeadsTo : Stage → ℕ → Option Stage → Type 0

@@ -18,7 +18,7 @@ pub use stun_types_attribute::{
 };
 pub use stun_types_build::{
     attribute as fingerprint_attribute, credentials, ext, hmac, integrity_algorithm as algorithm,
-    integrity_sha1, integrity_sha256, key, room,
+    integrity_sha1, integrity_sha256, integrity_sha512, key, room,
 };
 pub use stun_types_grammar_laws::{
     fingerprint_refusals, header_refusals, message_is_text, shown_is_longest_front, text_is_read,

@@ -51,8 +51,8 @@ impl<'a> Message<'a> {
     /// four bytes, or not those of the message before it (RFC 8489, section 14.7).
     ///
     /// An attribute that doesn't continue the shape of a message (ordinary ones, then
-    /// MESSAGE-INTEGRITY, MESSAGE-INTEGRITY-SHA256 and FINGERPRINT, each at most once) and what
-    /// follows it are not shown and not looked at.
+    /// MESSAGE-INTEGRITY, MESSAGE-INTEGRITY-SHA256, MESSAGE-INTEGRITY-SHA512 and FINGERPRINT, each at
+    /// most once) and what follows it are not shown and not looked at.
     #[tactic(auto, unfolding(crate::proofs::Validating::refusals))]
     pub fn from_bytes(bytes: &'a [u8]) -> Result<Message<'a>, StunParseError>
         ensures { MatchResult result (λ m. (m ≡ bytes.now) × (refusal bytes.now ≡ None))

@@ -5,10 +5,12 @@ ghost use Rattle.stun_types_wire.specs.Shape.{rank};
 ghost use Rattle.stun_types_message.specs.ShapeStages.{stage_rank, LeadsTo};
 
 use stun_types_wire::attribute::AttributeType;
-use stun_types_wire::registry::{FINGERPRINT, MESSAGE_INTEGRITY, MESSAGE_INTEGRITY_SHA256};
+use stun_types_wire::registry::{
+    FINGERPRINT, MESSAGE_INTEGRITY, MESSAGE_INTEGRITY_SHA256, MESSAGE_INTEGRITY_SHA512,
+};
 
 /// What the last attribute was, of those that are shown so far. A message shows ordinary
-/// attributes, and then each of the other three at most once, in this order.
+/// attributes, and then each of the other four at most once, in this order.
 #[derive(Clone, Copy, Debug, PartialEq, Eq, PartialOrd, Ord)]
 pub(crate) enum Stage {
     /// An ordinary attribute, or none.
@@ -17,6 +19,8 @@ pub(crate) enum Stage {
     Integrity,
     /// MESSAGE-INTEGRITY-SHA256.
     Sha256,
+    /// MESSAGE-INTEGRITY-SHA512.
+    Sha512,
     /// FINGERPRINT.
     Fingerprint,
 }
@@ -29,6 +33,7 @@ impl Stage {
         match atype {
             MESSAGE_INTEGRITY => Stage::Integrity,
             MESSAGE_INTEGRITY_SHA256 => Stage::Sha256,
+            MESSAGE_INTEGRITY_SHA512 => Stage::Sha512,
             FINGERPRINT => Stage::Fingerprint,
             _ => Stage::Ordinary,
         }

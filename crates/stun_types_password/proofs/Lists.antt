@@ -8,7 +8,7 @@ use Rattle.stun_types_write.specs.RawBytes.{type_and_len_refusal}
 use Rattle.stun_types_write.specs.Adding.{attr_of}
 use Rattle.stun_types_write.proofs.Values.{value_is_accepted}
 use Rattle.stun_types_password.specs.declared.algorithm.PasswordAlgorithmValue.{PasswordAlgorithmValue}
-use Rattle.stun_types_password.specs.declared.algorithm.PasswordAlgorithmValue.TheVariants.{MD5, SHA256}
+use Rattle.stun_types_password.specs.declared.algorithm.PasswordAlgorithmValue.TheVariants.{MD5, SHA256, SHA512}
 use Rattle.stun_types_password.specs.PasswordAlgorithmNumbers.{number_of, is_known, number_refusal}
 use Rattle.stun_types_password.specs.Entries.{entries, algorithm_value, algorithms_value, number_told, numbers_told, none_told_refusal, entries_refusal, algorithms_read_refusal}
 use Rattle.stun_types_write.specs.Registry.{most_algorithms, password_algorithms_kind}
@@ -20,6 +20,7 @@ unfolding entries
 value_length [] = refl
 value_length (MD5 ∷ xs) = let left = value_length xs in omega (arith, left)
 value_length (SHA256 ∷ xs) = let left = value_length xs in omega (arith, left)
+value_length (SHA512 ∷ xs) = let left = value_length xs in omega (arith, left)
 
 -- a value tells the numbers that were written
 pub numbers_again : (xs : List PasswordAlgorithmValue) → numbers_told (algorithms_value xs) ≡ map number_of xs
@@ -27,6 +28,7 @@ unfolding entries numbers_told
 numbers_again [] = refl
 numbers_again (MD5 ∷ xs) = ap (λ (l : List ℕ). 1 ∷ l) (numbers_again xs)
 numbers_again (SHA256 ∷ xs) = ap (λ (l : List ℕ). 2 ∷ l) (numbers_again xs)
+numbers_again (SHA512 ∷ xs) = ap (λ (l : List ℕ). 0xFF12 ∷ l) (numbers_again xs)
 
 -- and so it is written again
 pub told_again : (xs : List PasswordAlgorithmValue) → entries (numbers_told (algorithms_value xs)) ≡ algorithms_value xs
@@ -49,6 +51,7 @@ unfolding is_known
 numbers_are_known [] = refl
 numbers_are_known (MD5 ∷ xs) = numbers_are_known xs
 numbers_are_known (SHA256 ∷ xs) = numbers_are_known xs
+numbers_are_known (SHA512 ∷ xs) = numbers_are_known xs
 
 -- fewer than four bytes tell no number
 pub none_told : (bytes : List ℕ) → length bytes < 4 → numbers_told bytes ≡ []

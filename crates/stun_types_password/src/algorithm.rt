@@ -9,7 +9,7 @@ use byteorder::{BigEndian, ByteOrder};
 use std::fmt;
 use stun_types_write::algorithm::IntegrityAlgorithm;
 use stun_types_write::error::StunParseError;
-use stun_types_write::registry::{MD5_NUMBER, SHA256_NUMBER};
+use stun_types_write::registry::{MD5_NUMBER, SHA256_NUMBER, SHA512_NUMBER};
 
 /// An algorithm by which a key is made of a name, a realm and a password (RFC 8489, section 18.5).
 #[derive(Clone, Copy, Debug, PartialEq, Eq)]
@@ -18,17 +18,20 @@ pub enum PasswordAlgorithmValue {
     MD5,
     /// SHA-256, which has the number 2.
     SHA256,
+    /// SHA-512, which has the number 0xFF12. It is this project's: no RFC has it.
+    SHA512,
 }
 
 impl PasswordAlgorithmValue {
-    /// The algorithm of message integrity for which a key is made by this one: `Sha1` for `MD5`, and
-    /// `Sha256` for `SHA256`.
+    /// The algorithm of message integrity for which a key is made by this one: `Sha1` for `MD5`,
+    /// `Sha256` for `SHA256` and `Sha512` for `SHA512`.
     pub fn as_integrity(self) -> IntegrityAlgorithm
         ensures { result ≡ integrity_of self }
     {
         match self {
             PasswordAlgorithmValue::MD5 => IntegrityAlgorithm::Sha1,
             PasswordAlgorithmValue::SHA256 => IntegrityAlgorithm::Sha256,
+            PasswordAlgorithmValue::SHA512 => IntegrityAlgorithm::Sha512,
         }
     }
 
@@ -39,6 +42,7 @@ impl PasswordAlgorithmValue {
         match self {
             PasswordAlgorithmValue::MD5 => MD5_NUMBER,
             PasswordAlgorithmValue::SHA256 => SHA256_NUMBER,
+            PasswordAlgorithmValue::SHA512 => SHA512_NUMBER,
         }
     }
 
@@ -51,6 +55,7 @@ impl PasswordAlgorithmValue {
         match number {
             MD5_NUMBER => Ok(PasswordAlgorithmValue::MD5),
             SHA256_NUMBER => Ok(PasswordAlgorithmValue::SHA256),
+            SHA512_NUMBER => Ok(PasswordAlgorithmValue::SHA512),
             _ => Err(StunParseError::InvalidAttributeData),
         }
     }
@@ -76,7 +81,7 @@ impl PasswordAlgorithmValue {
     }
 }
 
-/// Prints `MD5` or `SHA256`.
+/// Prints `MD5`, `SHA256` or `SHA512`.
 impl fmt::Display for PasswordAlgorithmValue {
     ghost use Rattle.std.specs.Prelude.{Some};
     ghost use Rattle.stun_types_password.specs.PasswordAlgorithmNumbers.{name_of_algorithm};
@@ -87,6 +92,7 @@ impl fmt::Display for PasswordAlgorithmValue {
         match self {
             PasswordAlgorithmValue::MD5 => write!(f, "MD5"),
             PasswordAlgorithmValue::SHA256 => write!(f, "SHA256"),
+            PasswordAlgorithmValue::SHA512 => write!(f, "SHA512"),
         }
     }
 }

@@ -17,3 +17,4 @@ pub use Rattle.stun_types_grammar_laws.specs.MessageReading
 pub use Rattle.stun_types_grammar_laws.specs.RawBytes
 pub use Rattle.stun_types_grammar_laws.specs.Refusals
 pub use Rattle.stun_types_grammar_laws.specs.Registry
+pub use Rattle.stun_types_grammar_laws.specs.Strength
