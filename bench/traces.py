@@ -73,6 +73,16 @@ def attribute(kind, value):
 
 SHA1, SHA256 = (INTEGRITY, "sha1", "md5"), (INTEGRITY_SHA256, "sha256", "sha256")
 SHA512 = INTEGRITY_SHA512, "sha512", "sha512"
+# each algorithm by its name in a trace, the weaker first: how a message is signed by it, and its entry in a
+# PASSWORD-ALGORITHMS
+ALGORITHMS = {
+    "sha1": (SHA1, b"\0\1\0\0"), "sha256": (SHA256, b"\0\2\0\0"), "sha512": (SHA512, b"\xff\x12\0\0"),
+}
+
+
+def entries(*names):
+    """The value of the PASSWORD-ALGORITHMS that lists algorithms."""
+    return b"".join(ALGORITHMS[it][1] for it in names)
 
 
 def message(kind, transaction, attributes, signed=None, realm=b"realm"):
