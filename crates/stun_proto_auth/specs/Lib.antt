@@ -1,6 +1,6 @@
 pub mod SupportedAlgorithms
 pub mod Nonce
-pub mod Orders
+pub mod KeptAlgorithms
 -- What stands above this crate has these through it.
 pub use Rattle.stun_types.specs.Adding
 pub use Rattle.stun_types.specs.Attributes

@@ -4,6 +4,7 @@
 
 pub mod feature;
 pub mod nonce;
+pub mod number;
 pub mod supported;
 
 // What stands above this crate has these through it.

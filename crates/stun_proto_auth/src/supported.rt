@@ -4,69 +4,73 @@ ghost use Rattle.std.specs.Prelude.{◌≡◌, ◌≢◌, [], ◌∷◌};
 ghost use Rattle.std.specs.List.{IsDistinct, list_any};
 ghost use Rattle.stun_proto_auth.specs.SupportedAlgorithms.{is_same_algorithm, list_of, with_algorithm};
 
+use crate::number::number_by;
+use std::fmt;
 use std::marker::Model;
 use stun_types::message::IntegrityAlgorithm;
-use stun_types::registry::{MD5_NUMBER, SHA256_NUMBER};
-
-/// The number of the algorithm by which Sha1's keys are made, as one byte.
-const MD5: u8 = MD5_NUMBER as u8;
-
-/// The number of the algorithm by which Sha256's keys are made, as one byte.
-const SHA256: u8 = SHA256_NUMBER as u8;
-
-/// Which algorithms, the first one first.
-#[derive(Clone, Copy, Debug, PartialEq, Eq)]
-enum Order {
-    OnlySha1,
-    OnlySha256,
-    Sha1First,
-    Sha256First,
-}
 
 /// The integrity algorithms that a side supports, in order: at least one, and none twice.
 /// Contracts see the list of them.
-#[derive(Clone, Copy, Debug, PartialEq, Eq)]
+#[derive(Clone, Copy)]
 pub struct SupportedIntegrity {
-    order: Order,
+    // The supported ones in order, and behind them `Sha1` in each place that is left.
+    algorithms: [IntegrityAlgorithm; 3],
+    // What PASSWORD-ALGORITHMS tells of all three.
+    entries: [u8; 12],
+    // How many are supported.
+    count: u8,
 }
 
 impl Model for SupportedIntegrity {
-    ghost use Rattle.std.specs.Prelude.{List};
+    ghost use Rattle.std.specs.Prelude.{List, take};
     ghost use Rattle.stun_types.specs.IntegrityAlgorithms.{IntegrityAlgorithm};
 
     ghost Value = { List IntegrityAlgorithm };
 
-    ghost use Rattle.stun_proto_auth.specs.Orders.{algorithms_in, order_of, order_of-algorithms_in};
+    ghost use Rattle.stun_proto_auth.specs.KeptAlgorithms.{AreKept, kept_as, kept_as-take};
 
-    ghost view = { λ s. algorithms_in s.order };
+    ghost view = { λ s. take s.count s.algorithms };
 
-    ghost inverse = { λ algorithms. record { order = order_of algorithms } };
+    ghost invariant = { λ s. AreKept s.algorithms s.entries s.count };
 
-    ghost inverse_ok = { λ s _ i. record { order = order_of-algorithms_in s.order i } };
+    ghost inverse = { λ algorithms. kept_as algorithms };
+
+    ghost inverse_ok = { λ s kept. kept_as-take s kept };
 }
 
 impl SupportedIntegrity {
     /// This algorithm alone.
+    #[tactic(auto, using(crate::proofs::Keeping::one_kept))]
     pub fn only(algorithm: IntegrityAlgorithm) -> Self
         ensures { result ≡ algorithm ∷ [] }
     {
-        let order = match algorithm {
-            IntegrityAlgorithm::Sha1 => Order::OnlySha1,
-            IntegrityAlgorithm::Sha256 => Order::OnlySha256,
-        };
-        SupportedIntegrity { order }
+        let algorithms = [
+            algorithm,
+            IntegrityAlgorithm::Sha1,
+            IntegrityAlgorithm::Sha1,
+        ];
+        SupportedIntegrity {
+            algorithms,
+            entries: entries_of(&algorithms),
+            count: 1,
+        }
     }
 
     /// These algorithms, and another one last; one that is there already changes nothing.
+    #[tactic(auto, using(crate::proofs::Keeping::adding))]
     pub fn with(self, algorithm: IntegrityAlgorithm) -> Self
         ensures { result ≡ with_algorithm self algorithm }
     {
-        let order = match (self.order, algorithm) {
-            (Order::OnlySha1, IntegrityAlgorithm::Sha256) => Order::Sha1First,
-            (Order::OnlySha256, IntegrityAlgorithm::Sha1) => Order::Sha256First,
-            (order, _) => order,
-        };
-        SupportedIntegrity { order }
+        if self.supports(algorithm) {
+            return self;
+        }
+        let mut algorithms = self.algorithms;
+        algorithms[usize::from(self.count)] = algorithm;
+        SupportedIntegrity {
+            algorithms,
+            entries: entries_of(&algorithms),
+            count: self.count + 1,
+        }
     }
 
     /// The algorithms in order.
@@ -75,36 +79,65 @@ impl SupportedIntegrity {
         ensures never_empty { result.now ≢ [] }
         ensures distinct { IsDistinct is_same_algorithm result.now }
     {
-        match self.order {
-            Order::OnlySha1 => &[IntegrityAlgorithm::Sha1],
-            Order::OnlySha256 => &[IntegrityAlgorithm::Sha256],
-            Order::Sha1First => &[IntegrityAlgorithm::Sha1, IntegrityAlgorithm::Sha256],
-            Order::Sha256First => &[IntegrityAlgorithm::Sha256, IntegrityAlgorithm::Sha1],
-        }
+        &self.algorithms[..usize::from(self.count)]
     }
 
     /// Whether an algorithm is among them.
     pub fn supports(&self, algorithm: IntegrityAlgorithm) -> bool
         ensures { result ≡ list_any (is_same_algorithm algorithm) self.now }
     {
-        match (self.order, algorithm) {
-            (Order::OnlySha1, IntegrityAlgorithm::Sha256) => false,
-            (Order::OnlySha256, IntegrityAlgorithm::Sha1) => false,
-            _ => true,
-        }
+        self.as_slice().contains(&algorithm)
     }
 
     /// The value of the PASSWORD-ALGORITHMS that lists them in their order (RFC 8489, section
     /// 14.11): of each the number, two bytes, and a length of its parameters of 0, two bytes.
-    #[tactic(auto, unfolding(stun_types_password::specs::Entries::entries))]
+    #[tactic(auto, using(crate::proofs::Keeping::front_told))]
     pub fn entries(&self) -> &[u8]
         ensures { result.now ≡ list_of self.now }
     {
-        match self.order {
-            Order::OnlySha1 => &[0, MD5, 0, 0],
-            Order::OnlySha256 => &[0, SHA256, 0, 0],
-            Order::Sha1First => &[0, MD5, 0, 0, 0, SHA256, 0, 0],
-            Order::Sha256First => &[0, SHA256, 0, 0, 0, MD5, 0, 0],
-        }
+        &self.entries[..4 * usize::from(self.count)]
+    }
+}
+
+/// The value of the PASSWORD-ALGORITHMS that lists three algorithms.
+#[tactic(auto, using(crate::proofs::Keeping::three_told))]
+fn entries_of(algorithms: &[IntegrityAlgorithm; 3]) -> [u8; 12]
+    ensures { result ≡ list_of algorithms.now }
+{
+    let [first, second, third] = *algorithms;
+    let [a, b] = number_by(first).to_be_bytes();
+    let [c, d] = number_by(second).to_be_bytes();
+    let [e, f] = number_by(third).to_be_bytes();
+    [a, b, 0, 0, c, d, 0, 0, e, f, 0, 0]
+}
+
+/// Equal where the same algorithms are supported in the same order.
+impl PartialEq for SupportedIntegrity {
+    ghost use Rattle.std.specs.Cmp.{nat_eq_equiv, on_equiv, partial_equiv_from_equiv};
+    ghost use Rattle.std.specs.Cmp.Lexicographic.{lists_equiv, pointwise};
+    ghost use Rattle.stun_types.specs.Strength.{strength};
+    ghost use Rattle.stun_proto_auth.specs.SupportedAlgorithms.{is_same_algorithm};
+
+    ghost eq = { λ a b. pointwise is_same_algorithm a b };
+
+    ghost laws = { partial_equiv_from_equiv (lists_equiv (on_equiv strength nat_eq_equiv)) };
+
+    fn eq(&self, other: &Self) -> bool {
+        self.as_slice() == other.as_slice()
+    }
+}
+
+impl Eq for SupportedIntegrity {
+    ghost use Rattle.std.specs.Cmp.{nat_eq_equiv, on_equiv};
+    ghost use Rattle.std.specs.Cmp.Lexicographic.{lists_equiv};
+    ghost use Rattle.stun_types.specs.Strength.{strength};
+
+    ghost laws = { lists_equiv (on_equiv strength nat_eq_equiv) };
+}
+
+impl fmt::Debug for SupportedIntegrity {
+    /// Shows the list.
+    fn fmt<W: fmt::Write>(&self, f: &mut fmt::Formatter<W>) -> fmt::Result {
+        self.as_slice().fmt(f)
     }
 }

@@ -14,7 +14,6 @@ pub use Rattle.stun_proto_auth.specs.MessageClasses
 pub use Rattle.stun_proto_auth.specs.MessageReading
 pub use Rattle.stun_proto_auth.specs.MessageValidation
 pub use Rattle.stun_proto_auth.specs.Nonce
-pub use Rattle.stun_proto_auth.specs.Orders
 pub use Rattle.stun_proto_auth.specs.Outcomes
 pub use Rattle.stun_proto_auth.specs.PasswordAlgorithmNumbers
 pub use Rattle.stun_proto_auth.specs.RawBytes

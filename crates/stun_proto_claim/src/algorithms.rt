@@ -7,7 +7,7 @@ ghost use Rattle.stun_proto_claim.specs.Offers.{offers};
 
 use byteorder::{BigEndian, ByteOrder};
 use stun_proto_auth::message::IntegrityAlgorithm;
-use stun_proto_auth::registry::{MD5_NUMBER, SHA256_NUMBER};
+use stun_proto_auth::number::number_by;
 
 /// Whether the value of a PASSWORD-ALGORITHMS lists the algorithm by which the keys of an integrity
 /// algorithm are made (RFC 8489, sections 14.11 and 18.5).
@@ -23,16 +23,6 @@ pub fn offers(value: &[u8], algorithm: IntegrityAlgorithm) -> bool
         left = rest;
     }
     false
-}
-
-/// The number of the password algorithm by which the keys of an integrity algorithm are made.
-fn number_by(algorithm: IntegrityAlgorithm) -> u16
-    ensures { result ≡ number_by algorithm }
-{
-    match algorithm {
-        IntegrityAlgorithm::Sha1 => MD5_NUMBER,
-        IntegrityAlgorithm::Sha256 => SHA256_NUMBER,
-    }
 }
 
 /// Whether an entry tells the algorithm by which the keys of an integrity algorithm are made.

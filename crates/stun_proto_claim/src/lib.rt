@@ -8,5 +8,5 @@ mod last;
 
 // What stands above this crate has these through it.
 pub use stun_proto_auth::{
-    NoMemory, attribute, feature, message, nonce, registry, room, supported,
+    NoMemory, attribute, feature, message, nonce, number, registry, room, supported,
 };

@@ -2,7 +2,7 @@
 use Rattle.std.proofs.Common.{◌≡◌, ℕ, Bool, true, false, ◌&&◌, ◌==◌, List, Option, Some, None, refl, sym, ap, ◌∙◌, nat_eq, arith, inl, inr}
 use Rattle.std.specs.Cmp.Lexicographic.{pointwise, same_text, nat_list_eq_equiv}
 use Rattle.std.specs.List.{list_any}
-use Rattle.stun_proto_claim.specs.IntegrityAlgorithms.{IntegrityAlgorithm, Sha1, Sha256}
+use Rattle.stun_proto_claim.specs.IntegrityAlgorithms.{IntegrityAlgorithm, Sha1, Sha256, Sha512}
 use Rattle.stun_proto_claim.specs.SupportedAlgorithms.{is_same_algorithm, list_of, number_by}
 use Rattle.stun_proto_claim.specs.Claims.{Claimed}
 use Rattle.stun_proto_judge.specs.Consistency.{AreConsistent, fits_shown, is_consistent}
@@ -17,6 +17,7 @@ same_number a b h = grind (arith, h)
 same_sha1 : (a : IntegrityAlgorithm) → is_same_algorithm Sha1 a ≡ true → a ≡ Sha1
 same_sha1 Sha1 h = refl
 same_sha1 Sha256 h = absurd (Prim.cc h)
+same_sha1 Sha512 h = absurd (Prim.cc h)
 
 shows : (supported : List IntegrityAlgorithm) (claim : Claimed) (algorithm : IntegrityAlgorithm) (list : Option (List ℕ)) (choice : Option ℕ)
     → claim.algorithms ≡ list → claim.algorithm ≡ choice → fits_shown supported list choice algorithm ≡ true → AreConsistent supported claim algorithm
@@ -41,6 +42,7 @@ consistent_by supported claim algorithm h = shows supported claim algorithm clai
 own_number : (a : IntegrityAlgorithm) → (number_by a == number_by a) ≡ true
 own_number Sha1 = refl
 own_number Sha256 = refl
+own_number Sha512 = refl
 
 pub shown_consistent : (supported : List IntegrityAlgorithm) (claim : Claimed) (algorithm : IntegrityAlgorithm)
     → AreConsistent supported claim algorithm → is_consistent supported claim (Some algorithm) ≡ true

@@ -6,5 +6,4 @@ pub mod UserKeys
 -- What stands above this crate has these through it.
 pub use Rattle.stun_proto_claim.specs.Claims
 pub use Rattle.stun_proto_claim.specs.Nonce
-pub use Rattle.stun_proto_claim.specs.Orders
 pub use Rattle.stun_proto_claim.specs.SupportedAlgorithms

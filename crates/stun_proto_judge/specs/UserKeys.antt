@@ -1,6 +1,6 @@
 -- The keys of a user in a realm, which are kept.
 use Rattle.std.specs.Prelude.{◌≡◌}
-use Rattle.stun_proto_claim.specs.IntegrityAlgorithms.{Sha1, Sha256}
+use Rattle.stun_proto_claim.specs.IntegrityAlgorithms.{Sha1, Sha256, Sha512}
 use Rattle.stun_proto_claim.specs.Credentials.{LongTermSecret, long_term_key}
 use Rattle.stun_proto_judge.specs.declared.keys.UserKeys.{UserKeys}
 
@@ -8,3 +8,4 @@ use Rattle.stun_proto_judge.specs.declared.keys.UserKeys.{UserKeys}
 pub record AreKeysOf (secret : LongTermSecret) (keys : UserKeys) : Type 0 where
   pub sha1 : keys.sha1 ≡ long_term_key secret Sha1
   pub sha256 : keys.sha256 ≡ long_term_key secret Sha256
+  pub sha512 : keys.sha512 ≡ long_term_key secret Sha512

@@ -118,6 +118,7 @@ fn is_by(chosen: PasswordAlgorithmValue, algorithm: IntegrityAlgorithm) -> bool
     match (chosen, algorithm) {
         (PasswordAlgorithmValue::MD5, IntegrityAlgorithm::Sha1) => true,
         (PasswordAlgorithmValue::SHA256, IntegrityAlgorithm::Sha256) => true,
+        (PasswordAlgorithmValue::SHA512, IntegrityAlgorithm::Sha512) => true,
         _ => false,
     }
 }

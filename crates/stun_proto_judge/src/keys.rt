@@ -11,6 +11,7 @@ use stun_proto_claim::message::{IntegrityAlgorithm, IntegrityKey};
 pub struct UserKeys {
     sha1: IntegrityKey<'static>,
     sha256: IntegrityKey<'static>,
+    sha512: IntegrityKey<'static>,
 }
 
 impl UserKeys {
@@ -25,6 +26,7 @@ impl UserKeys {
         UserKeys {
             sha1: IntegrityKey::long_term(name, realm, password, IntegrityAlgorithm::Sha1),
             sha256: IntegrityKey::long_term(name, realm, password, IntegrityAlgorithm::Sha256),
+            sha512: IntegrityKey::long_term(name, realm, password, IntegrityAlgorithm::Sha512),
         }
     }
 
@@ -36,6 +38,7 @@ impl UserKeys {
         match algorithm {
             IntegrityAlgorithm::Sha1 => &self.sha1,
             IntegrityAlgorithm::Sha256 => &self.sha256,
+            IntegrityAlgorithm::Sha512 => &self.sha512,
         }
     }
 }

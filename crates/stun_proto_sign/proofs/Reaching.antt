@@ -3,7 +3,7 @@ use Rattle.std.proofs.Common.{◌≡◌, ℕ, suc, ◌+◌, ◌-◌, ◌<◌, �
 use Rattle.std.specs.Prelude.{◌||◌}
 use Rattle.std.specs.Option.{option_or}
 use Rattle.std.proofs.lemmas.List.{length-append}
-use Rattle.stun_types.specs.IntegrityAlgorithms.{IntegrityAlgorithm, Sha1, Sha256}
+use Rattle.stun_types.specs.IntegrityAlgorithms.{IntegrityAlgorithm, Sha1, Sha256, Sha512}
 use Rattle.stun_types.specs.WriteErrors.{StunWriteError, FingerprintExists, MessageIntegrityExists}
 use Rattle.stun_types.specs.Attributes.{Attr, attr_size}
 use Rattle.stun_types.specs.Covered.{with_length}
@@ -46,7 +46,7 @@ length-after_add bytes a long =
 pub plain_ends_none : (kind : ℕ) (ended : Ended) → rank kind ≡ 0 → ended_by ended kind ≡ ended
 plain_ends_none kind ended plain =
     let none = none_of kind plain in
-    rw (none.integrity, none.sha256, none.fingerprint) refl
+    rw (none.integrity, none.sha256, none.sha512, none.fingerprint) refl
 
 -- a part more
 one_grown : (before after : ℕ) (old new : Draft) (p : PartOf) → rank p.kind ≡ 0 → IsGrown before old new → after ≡ before + size_of_part p → IsGrown after old (added (attr_of_part p) new)
@@ -67,7 +67,7 @@ one_grown before after old new p plain g is =
 abbrev refusal_at : Ended → Option ℕ → ℕ → Option StunWriteError
 refusal_at ended limit end =
     if ended.fingerprint then Some FingerprintExists
-    else if ended.integrity || ended.sha256 then Some MessageIntegrityExists
+    else if ended.integrity || (ended.sha256 || ended.sha512) then Some MessageIntegrityExists
     else size_refusal limit end
 
 add_refusal_behind : (before size : ℕ) (old new : Draft) → IsGrown before old new → add_refusal new size ≡ add_refusal old (before + size)
@@ -155,6 +155,7 @@ reached_end draft all place size end r =
 same_key : (algorithm : IntegrityAlgorithm) → key_refusal algorithm algorithm ≡ None
 same_key Sha1 = refl
 same_key Sha256 = refl
+same_key Sha512 = refl
 
 pub signing_behind : (before : ℕ) (old new : Draft) (algorithm : IntegrityAlgorithm) → IsGrown before old new → signing_refusal new algorithm algorithm ≡ signing_refusal_behind old before algorithm
 unfolding signing_refusal

@@ -34,7 +34,7 @@ fn fits_behind<W: MessageWrite>(
     if ended.fingerprint {
         return Err(StunWriteError::FingerprintExists);
     }
-    if ended.integrity || ended.sha256 {
+    if ended.integrity || ended.sha256 || ended.sha512 {
         return Err(StunWriteError::MessageIntegrityExists);
     }
     let after = before + (4 + pad_attribute_len(part.len()));
