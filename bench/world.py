@@ -3,7 +3,7 @@
 
 It knows nothing of the repository's code: messages and numbers are written by `traces.py`. The moments
 were worked out by hand, from the waits that a client is documented to have. It was run once, and what it
-wrote is stored: nine examples, and the traces of a client and a desk in the stored run of `turn_traces`,
+wrote is stored: nine examples, and the traces of a client and a desk in the stored run of `turn_replay`,
 behind those of a desk alone. Those with a stranger at the desk are in `strangers.py`, those of permissions
 in `permissions.py`, those of channels in `channels.py` and `channels_later.py`, those of sends and payloads
 in `payloads.py`, those of a client over TCP in `streams.py`, those of connections in `connections.py`, those
@@ -726,8 +726,8 @@ def store_examples():
 
 def store_traces():
     """Puts the traces in the place of those that stand there from the first of them on, or behind all."""
-    given, printed = (TOP / f"crates/turn_traces/{it}" for it in ("stdin", "stdout"))
-    before = given.read_bytes().split(b"%")
+    given, printed = (TOP / f"crates/turn_replay/{it}" for it in ("stdin", "stdout"))
+    before = given.read_bytes().split(b"%")[1:]
     mark = b"# " + handshake()[0].encode()
     names = [it.split(b"\n")[0] for it in before]
     if mark in names:
@@ -738,7 +738,7 @@ def store_traces():
             front.append(line)
             left -= line.startswith(b"status ")
     made = list(all_traces())
-    given.write_bytes(b"%".join(before + [it.encode() for it, _ in made]))
+    given.write_bytes(b"".join(b"%" + it for it in before + [it.encode() for it, _ in made]))
     printed.write_bytes(b"".join(front + [it.encode() for _, it in made]))
 
 
