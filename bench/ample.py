@@ -164,7 +164,7 @@ def stored(program):
 def of_traces(given, printed):
     """The events of all traces, with their answers."""
     told = re.split(r"^status \d+\n", printed, flags=re.M)
-    for trace, lines in zip(given.split("%"), told):
+    for trace, lines in zip(given.split("%")[1:], told):
         said = [it for it in trace.split("\n") if it and it[0] != "#"]
         events = [it for it in said if it.split(" ")[0] not in ("desk", "user", "rto", "client")]
         yield from zip(events, lines.split("\n"))
@@ -189,7 +189,7 @@ def of_lines(given, printed):
 
 
 ANSWERED = {
-    "turn_rows_wire": of_lines, "turn_rows_client": of_lines, "turn_rows_proto": of_sections, "turn_traces": of_traces,
+    "turn_rows_wire": of_lines, "turn_rows_client": of_lines, "turn_rows_proto": of_sections, "turn_replay": of_traces,
 }
 
 

@@ -14,6 +14,7 @@
 enum {
     SHA1_SIZE = 20,
     SHA256_SIZE = 32,
+    SHA512_SIZE = 64,
     LIFETIME_SIZE = 8,          // with its header
     FINGERPRINT_SIZE = 8,       // with its header
     ERROR_CODE_SIZE = 28,       // of 420 with its reason, header and padding
@@ -29,6 +30,7 @@ enum {
     UNKNOWN_ATTRIBUTES = 0x000a,
     LIFETIME = 0x000d,
     MESSAGE_INTEGRITY_SHA256 = 0x001c,
+    MESSAGE_INTEGRITY_SHA512 = 0x3f12,
     CHANNEL = 0x4001,
     FRAME_DATA = 60,            // of each frame of a stream
     FRAME_SIZE = 64,            // with its header
@@ -51,6 +53,7 @@ bool stun_bench_shows(SLICE(bytes), const uint16_t *types, size_t count);
 bool stun_bench_read(SLICE(bytes), struct allocation *told, bool *fingerprint);
 struct answer stun_bench_validate_sha1(SLICE(password), SLICE(bytes));
 struct answer stun_bench_validate_sha256(SLICE(password), SLICE(bytes));
+struct answer stun_bench_validate_sha512(SLICE(password), SLICE(bytes));
 size_t stun_bench_build(const struct allocation *told, uint64_t number, SLICE(software), OUT);
 size_t stun_bench_mark_sha1(SLICE(password), const struct allocation *told, uint64_t number,
                             SLICE(software), OUT);
@@ -119,8 +122,9 @@ static const uint8_t payload[PAYLOAD];
 #define REQUEST ASKED_SECONDS, number, TEXT(user), TEXT(realm), TEXT(nonce), WHOLE(out)
 // the text that the FINGERPRINT of a message covers
 #define COVERED(message) message, sizeof message - FINGERPRINT_SIZE
-// five blocks of a digest: so long a text takes four, and its padding the fifth
+// five blocks of a digest: so long a text takes four, and its padding the fifth; those of SHA-512 are twice as long
 #define FIVE_BLOCKS large, 256
+#define FIVE_LONG_BLOCKS large, 512
 #define LIFETIMES(count) lifetimes, count, number, WHOLE(wide)
 
 // ---- what is timed: each takes how often it is to run
@@ -128,7 +132,7 @@ static const uint8_t payload[PAYLOAD];
 static volatile unsigned sink;
 static uint8_t out[256];
 static uint8_t wide[HEADER_SIZE + BODY_MOST];
-static uint8_t digest[SHA256_SIZE];
+static uint8_t digest[SHA512_SIZE];
 static struct allocation told;
 static bool fingerprint;
 
@@ -141,6 +145,7 @@ static bool fingerprint;
 
 TIMED(sha1_five, stun_bench_sha1(FIVE_BLOCKS, digest))
 TIMED(sha256_five, stun_bench_sha256(FIVE_BLOCKS, digest))
+TIMED(sha512_five, stun_bench_sha512(FIVE_LONG_BLOCKS, digest))
 TIMED(crc_long, sink += stun_bench_crc32(WHOLE(large)))
 TIMED(crc_short, sink += stun_bench_crc32(WHOLE(response_sha1)))
 TIMED(parse_response, sink += stun_bench_parse(WHOLE(response_sha1)))
@@ -152,6 +157,7 @@ TIMED(look_up_whole, sink += stun_bench_shows(WHOLE(response_whole), ELEMENTS(wh
 TIMED(read_whole, sink += stun_bench_read(WHOLE(response_whole), &told, &fingerprint))
 TIMED(key_sha1, sink += stun_bench_validate_sha1(KEY, response_sha1, 0).known)
 TIMED(key_sha256, sink += stun_bench_validate_sha256(KEY, response_sha256, 0).known)
+TIMED(key_sha512, sink += stun_bench_validate_sha512(KEY, response_sha512, 0).known)
 TIMED(validate_response_sha1, sink += stun_bench_validate_sha1(KEY, WHOLE(response_sha1)).holds)
 TIMED(validate_whole_sha1, sink += stun_bench_validate_sha1(KEY, WHOLE(response_whole)).holds)
 TIMED(validate_request_sha1, sink += stun_bench_validate_sha1(KEY, WHOLE(request_sha1)).holds)
@@ -159,12 +165,17 @@ TIMED(validate_response_sha256,
       sink += stun_bench_validate_sha256(KEY, WHOLE(response_sha256)).holds)
 TIMED(validate_request_sha256,
       sink += stun_bench_validate_sha256(KEY, WHOLE(request_sha256)).holds)
+TIMED(validate_response_sha512,
+      sink += stun_bench_validate_sha512(KEY, WHOLE(response_sha512)).holds)
+TIMED(validate_request_sha512,
+      sink += stun_bench_validate_sha512(KEY, WHOLE(request_sha512)).holds)
 TIMED(build, sink += stun_bench_build(RESPONSE))
 TIMED(build_lent, sink += stun_bench_build_lent(RESPONSE))
 TIMED(sign_sha1, sink += stun_bench_sign_sha1(KEY, RESPONSE))
 TIMED(mark_sha1, sink += stun_bench_mark_sha1(KEY, RESPONSE))
 TIMED(mark_lent_sha1, sink += stun_bench_mark_lent_sha1(KEY, RESPONSE))
 TIMED(sign_sha256, sink += stun_bench_sign_sha256(KEY, RESPONSE))
+TIMED(sign_sha512, sink += stun_bench_sign_sha512(KEY, RESPONSE))
 TIMED(build_request, sink += stun_bench_build_request(REQUEST))
 TIMED(sign_request_sha1, sink += stun_bench_sign_request_sha1(KEY, REQUEST))
 TIMED(build_request_lent, sink += stun_bench_build_request_lent(REQUEST))
@@ -193,11 +204,11 @@ struct row {
 
 // Those behind SMALL_ROWS fill the caches, and are timed in rounds of their own.
 enum {
-    SHA1_FIVE, SHA256_FIVE, CRC_LONG, CRC_SHORT, PARSE_RESPONSE, READ_RESPONSE, PARSE_REQUEST,
-    LOOK_UP_REQUEST, PARSE_WHOLE, LOOK_UP_WHOLE, READ_WHOLE, KEY_SHA1, KEY_SHA256, VALIDATE_RESPONSE_SHA1,
-    VALIDATE_WHOLE_SHA1, VALIDATE_REQUEST_SHA1, VALIDATE_RESPONSE_SHA256, VALIDATE_REQUEST_SHA256,
-    BUILD, BUILD_LENT, SIGN_SHA1, MARK_SHA1, MARK_LENT_SHA1, SIGN_SHA256, BUILD_REQUEST,
-    SIGN_REQUEST_SHA1, BUILD_REQUEST_LENT, SIGN_REQUEST_LENT_SHA1, FINGERPRINT_RESPONSE, FINGERPRINT_REQUEST,
+    SHA1_FIVE, SHA256_FIVE, SHA512_FIVE, CRC_LONG, CRC_SHORT, PARSE_RESPONSE, READ_RESPONSE, PARSE_REQUEST,
+    LOOK_UP_REQUEST, PARSE_WHOLE, LOOK_UP_WHOLE, READ_WHOLE, KEY_SHA1, KEY_SHA256, KEY_SHA512,
+    VALIDATE_RESPONSE_SHA1, VALIDATE_WHOLE_SHA1, VALIDATE_REQUEST_SHA1, VALIDATE_RESPONSE_SHA256,
+    VALIDATE_REQUEST_SHA256, VALIDATE_RESPONSE_SHA512, VALIDATE_REQUEST_SHA512, BUILD, BUILD_LENT, SIGN_SHA1,
+    MARK_SHA1, MARK_LENT_SHA1, SIGN_SHA256, SIGN_SHA512, BUILD_REQUEST, SIGN_REQUEST_SHA1, BUILD_REQUEST_LENT, SIGN_REQUEST_LENT_SHA1, FINGERPRINT_RESPONSE, FINGERPRINT_REQUEST,
     PARSE_CHANNEL, WRITE_CHANNEL, FEED_FEW, FEED_MORE, SMALL_ROWS,
     ADD_1 = SMALL_ROWS, ADD_18, ADD_899, ADD_1100, PARSE_UNKNOWNS, CHECK_UNKNOWNS, FEED_MANY,
     FEED_MOST, FEED_BYTES, ROWS
@@ -206,6 +217,7 @@ enum {
 static const struct row rows[ROWS] = {
     [SHA1_FIVE] = {"SHA-1, five blocks", sha1_five, 16},
     [SHA256_FIVE] = {"SHA-256, five blocks", sha256_five, 16},
+    [SHA512_FIVE] = {"SHA-512, five blocks", sha512_five, 16},
     [CRC_LONG] = {"CRC-32, 4096 bytes", crc_long, 4},
     [CRC_SHORT] = {"CRC-32, 92 bytes", crc_short, 128},
     [PARSE_RESPONSE] = {"parse response, without FINGERPRINT", parse_response, 256},
@@ -217,18 +229,22 @@ static const struct row rows[ROWS] = {
     [READ_WHOLE] = {"parse it and read it", read_whole, 64},
     [KEY_SHA1] = {"key, SHA-1", key_sha1, 64},
     [KEY_SHA256] = {"key, SHA-256", key_sha256, 64},
+    [KEY_SHA512] = {"key, SHA-512", key_sha512, 64},
     [VALIDATE_RESPONSE_SHA1] = {"key, validate response, SHA-1", validate_response_sha1, 16},
     [VALIDATE_WHOLE_SHA1] = {"key, validate response with FINGERPRINT, SHA-1", validate_whole_sha1,
                              16},
     [VALIDATE_REQUEST_SHA1] = {"key, validate request, SHA-1", validate_request_sha1, 16},
     [VALIDATE_RESPONSE_SHA256] = {"key, validate response, SHA-256", validate_response_sha256, 16},
     [VALIDATE_REQUEST_SHA256] = {"key, validate request, SHA-256", validate_request_sha256, 16},
+    [VALIDATE_RESPONSE_SHA512] = {"key, validate response, SHA-512", validate_response_sha512, 16},
+    [VALIDATE_REQUEST_SHA512] = {"key, validate request, SHA-512", validate_request_sha512, 16},
     [BUILD] = {"build response into a vector", build, 64},
     [BUILD_LENT] = {"build response into a slice", build_lent, 64},
     [SIGN_SHA1] = {"key, build and sign response, SHA-1", sign_sha1, 16},
     [MARK_SHA1] = {"key, build and sign response, SHA-1, and its FINGERPRINT", mark_sha1, 16},
     [MARK_LENT_SHA1] = {"the same into a slice", mark_lent_sha1, 16},
     [SIGN_SHA256] = {"key, build and sign response, SHA-256", sign_sha256, 16},
+    [SIGN_SHA512] = {"key, build and sign response, SHA-512", sign_sha512, 16},
     [BUILD_REQUEST] = {"build request", build_request, 64},
     [SIGN_REQUEST_SHA1] = {"key, build and sign request, SHA-1", sign_request_sha1, 16},
     [BUILD_REQUEST_LENT] = {"build request into a slice", build_request_lent, 64},
@@ -289,7 +305,9 @@ static bool validates(struct answer answer) { return answer.known && answer.hold
 // the next type below 0x8000 that no integrity attribute has
 static unsigned next_type(unsigned type) {
     type++;
-    return type == MESSAGE_INTEGRITY || type == MESSAGE_INTEGRITY_SHA256 ? type + 1 : type;
+    bool is_integrity = type == MESSAGE_INTEGRITY || type == MESSAGE_INTEGRITY_SHA256 ||
+                        type == MESSAGE_INTEGRITY_SHA512;
+    return is_integrity ? type + 1 : type;
 }
 
 // the header as that of the response, but for type and length; then attributes of no value
@@ -318,11 +336,18 @@ static void check_digests(void) {
     static const uint8_t abc_sha256[SHA256_SIZE] = {
         0xba, 0x78, 0x16, 0xbf, 0x8f, 0x01, 0xcf, 0xea, 0x41, 0x41, 0x40, 0xde, 0x5d, 0xae, 0x22, 0x23,
         0xb0, 0x03, 0x61, 0xa3, 0x96, 0x17, 0x7a, 0x9c, 0xb4, 0x10, 0xff, 0x61, 0xf2, 0x00, 0x15, 0xad};
+    static const uint8_t abc_sha512[SHA512_SIZE] = {
+        0xdd, 0xaf, 0x35, 0xa1, 0x93, 0x61, 0x7a, 0xba, 0xcc, 0x41, 0x73, 0x49, 0xae, 0x20, 0x41, 0x31,
+        0x12, 0xe6, 0xfa, 0x4e, 0x89, 0xa9, 0x7e, 0xa2, 0x0a, 0x9e, 0xee, 0xe6, 0x4b, 0x55, 0xd3, 0x9a,
+        0x21, 0x92, 0x99, 0x2a, 0x27, 0x4f, 0xc1, 0xa8, 0x36, 0xba, 0x3c, 0x23, 0xa3, 0xfe, 0xeb, 0xbd,
+        0x45, 0x4d, 0x44, 0x23, 0x64, 0x3c, 0xe8, 0x0e, 0x2a, 0x9a, 0xc9, 0x4f, 0xa5, 0x4c, 0xa4, 0x9f};
     static const uint8_t abc[] = "abc", digits[] = "123456789";
     stun_bench_sha1(TEXT(abc), digest);
     must(memcmp(digest, abc_sha1, SHA1_SIZE) == 0, "SHA-1 of abc");
     stun_bench_sha256(TEXT(abc), digest);
     must(memcmp(digest, abc_sha256, SHA256_SIZE) == 0, "SHA-256 of abc");
+    stun_bench_sha512(TEXT(abc), digest);
+    must(memcmp(digest, abc_sha512, SHA512_SIZE) == 0, "SHA-512 of abc");
     must(stun_bench_crc32(TEXT(digits)) == 0xcbf43926, "CRC-32 of 123456789");
 }
 
@@ -349,6 +374,9 @@ static void check_validation(void) {
     must(validates(stun_bench_validate_sha1(KEY, WHOLE(request_sha1))), "SHA-1");
     must(validates(stun_bench_validate_sha256(KEY, WHOLE(response_sha256))), "SHA-256");
     must(validates(stun_bench_validate_sha256(KEY, WHOLE(request_sha256))), "SHA-256");
+    must(validates(stun_bench_validate_sha512(KEY, WHOLE(response_sha512))), "SHA-512");
+    must(validates(stun_bench_validate_sha512(KEY, WHOLE(request_sha512))), "SHA-512");
+    must(!validates(stun_bench_validate_sha512(KEY, WHOLE(response_sha256))), "another algorithm");
     must(!validates(stun_bench_validate_sha1(software, sizeof software - 1, WHOLE(response_sha1))),
          "another key");
 }
@@ -357,6 +385,7 @@ static void check_writing(void) {
     must_be(stun_bench_build(RESPONSE), WHOLE(response_unsigned), "build");
     must_be(stun_bench_sign_sha1(KEY, RESPONSE), WHOLE(response_sha1), "sign, SHA-1");
     must_be(stun_bench_sign_sha256(KEY, RESPONSE), WHOLE(response_sha256), "sign, SHA-256");
+    must_be(stun_bench_sign_sha512(KEY, RESPONSE), WHOLE(response_sha512), "sign, SHA-512");
     must_be(stun_bench_mark_sha1(KEY, RESPONSE), WHOLE(response_whole), "FINGERPRINT");
     must(stun_bench_fingerprint(COVERED(response_whole)) ==
              number_at(response_whole + sizeof response_whole - sizeof(uint32_t)),
@@ -514,6 +543,7 @@ void tell(const char *name, double wanted, double measured) {
 // the time of a row that makes a key for each message, without the key's own
 static double under_key(unsigned row) { return least[row] - least[KEY_SHA1]; }
 static double under_key_sha256(unsigned row) { return least[row] - least[KEY_SHA256]; }
+static double under_key_sha512(unsigned row) { return least[row] - least[KEY_SHA512]; }
 
 static void tell_integrity(void) {
     double sha1 = least[SHA1_FIVE];
@@ -535,6 +565,12 @@ static void tell_integrity(void) {
     tell("validate the request, SHA-256", NO_BOUND, under_key_sha256(VALIDATE_REQUEST_SHA256) / sha256);
     tell("sign the response, SHA-256", NO_BOUND,
          (under_key_sha256(SIGN_SHA256) - least[BUILD]) / sha256);
+    double sha512 = least[SHA512_FIVE];
+    tell("validate the response, SHA-512, to five SHA-512 blocks", NO_BOUND,
+         under_key_sha512(VALIDATE_RESPONSE_SHA512) / sha512);
+    tell("validate the request, SHA-512", NO_BOUND, under_key_sha512(VALIDATE_REQUEST_SHA512) / sha512);
+    tell("sign the response, SHA-512", NO_BOUND,
+         (under_key_sha512(SIGN_SHA512) - least[BUILD]) / sha512);
 }
 
 static void tell_reading(void) {
@@ -592,13 +628,15 @@ static void tell_allocations(void) {
                                        PARSE_UNKNOWNS};
     static const unsigned validation[] = {VALIDATE_RESPONSE_SHA1, VALIDATE_WHOLE_SHA1,
                                           VALIDATE_REQUEST_SHA1, VALIDATE_RESPONSE_SHA256,
-                                          VALIDATE_REQUEST_SHA256};
+                                          VALIDATE_REQUEST_SHA256, VALIDATE_RESPONSE_SHA512,
+                                          VALIDATE_REQUEST_SHA512};
     static const unsigned marks[] = {FINGERPRINT_RESPONSE, FINGERPRINT_REQUEST};
     static const unsigned into_slices[] = {BUILD_LENT, BUILD_REQUEST_LENT, ADD_1, ADD_18, ADD_899,
                                            ADD_1100, PARSE_CHANNEL, WRITE_CHANNEL};
     static const unsigned signed_slices[] = {MARK_LENT_SHA1, SIGN_REQUEST_LENT_SHA1};
     static const unsigned into_vectors[] = {BUILD, BUILD_REQUEST};
-    static const unsigned signed_vectors[] = {SIGN_SHA1, MARK_SHA1, SIGN_SHA256, SIGN_REQUEST_SHA1};
+    static const unsigned signed_vectors[] = {SIGN_SHA1, MARK_SHA1, SIGN_SHA256, SIGN_SHA512,
+                                              SIGN_REQUEST_SHA1};
     tell("allocations of parse and look-ups", 0, most_taken(ELEMENTS(reading)));
     tell("of a key and a validation under it", 0, most_taken(ELEMENTS(validation)));
     tell("of FINGERPRINT", 0, most_taken(ELEMENTS(marks)));

@@ -25,9 +25,12 @@ enum {
 // of the static library
 void stun_bench_sha1(SLICE(text), uint8_t *digest);
 void stun_bench_sha256(SLICE(text), uint8_t *digest);
+void stun_bench_sha512(SLICE(text), uint8_t *digest);
 size_t stun_bench_sign_sha1(SLICE(password), const struct allocation *told, uint64_t number,
                             SLICE(software), OUT);
 size_t stun_bench_sign_sha256(SLICE(password), const struct allocation *told, uint64_t number,
+                              SLICE(software), OUT);
+size_t stun_bench_sign_sha512(SLICE(password), const struct allocation *told, uint64_t number,
                               SLICE(software), OUT);
 size_t stun_bench_build_lent(const struct allocation *told, uint64_t number, SLICE(software), OUT);
 

@@ -1,5 +1,5 @@
 #!/usr/bin/env python3
-"""Makes hostile traces, runs them through the built `turn_traces`, and judges what they are answered.
+"""Makes hostile traces, runs them through the built `turn_replay`, and judges what they are answered.
 
     bench/hostile.py SEED COUNT [PROGRAM]   makes and judges COUNT traces of a seed
     bench/hostile.py store [PROGRAM]        writes 200 of the seed 0 to bench/hostile.traces
@@ -22,7 +22,7 @@ import time
 from pathlib import Path
 
 TOP = Path(__file__).resolve().parent.parent
-PROGRAM = TOP / "crates/turn_traces/out/turn_traces"
+PROGRAM = TOP / "crates/turn_replay/out/turn_replay"
 STORED = TOP / "bench/hostile.traces"
 STORED_COUNT = 200
 ROUNDS = 12
@@ -54,7 +54,7 @@ def run(program, traces):
     """The answers to each of some traces, and the status with which it ended."""
     with tempfile.TemporaryDirectory(prefix="hostile-") as room:
         given, printed = Path(room, "given"), Path(room, "printed")
-        given.write_text("%".join(traces))
+        given.write_text("".join(f"%{it}" for it in traces))
         printed.touch()
         small = [sys.executable, "-I", "-S", "-c", RUNNER, program, given, printed]
         try:

@@ -10,11 +10,11 @@ doesn't draw, or is an error. Messages of other runs come from clients of other 
 import random
 
 from hostile_judge import BAD, CLIENT_END
-from hostile_messages import REQUEST, hash_of, key_of, read, written
+from hostile_messages import BY, REQUEST, hash_of, key_of, read, written
 from hostile_spoiled import spoiled
 from traces import (
-    ALLOCATE, CHANNEL, ERROR, ERROR_CODE, INTEGRITY, INTEGRITY_SHA256, LIFETIME, MS, NONCE, PASSWORD_ALGORITHMS, PEER,
-    REALM, RELAYED_KIND, SECOND, SUCCESS, UNKNOWN, USERHASH, xored,
+    ALLOCATE, CHANNEL, ERROR, ERROR_CODE, INTEGRITY, INTEGRITY_SHA256, INTEGRITY_SHA512, LIFETIME, MS, NONCE,
+    PASSWORD_ALGORITHMS, PEER, REALM, RELAYED_KIND, SECOND, SUCCESS, UNKNOWN, USERHASH, xored,
 )
 
 LOCAL, REMOTE, STRANGER = "192.168.0.1:1000", "10.0.0.2:2000", "192.168.0.9:1"
@@ -24,6 +24,10 @@ PEERS = ("10.0.0.1:9000", "10.0.0.1:5", "10.0.0.3:9000", "10.0.0.9:9000", "[2001
 SOCKETS = tuple(f"192.168.0.1:{port}" for port in (1001, 1002, 1003))
 EVIL = "198.51.100.66:6666"
 WAITS = ("600 1000 3 3000", "0 0 1 0", "100 50 4 10", "1 1000000 12 1", "20000000 20000000 2 5000")
+# what a side supports
+ALGORITHMS = (
+    "sha1", "sha256", "sha512", "sha1,sha256", "sha256,sha1", "sha256,sha512", "sha1,sha256,sha512", "sha512,sha1,sha256",
+)
 # what a client is led to, by the transport of what it allocates
 AIMS = {"udp": ("permission", "channel", "channel", "nothing"), "tcp": ("connection", "connection", "permission")}
 # how much of a course is hostile; the seeds of clients, and those of other runs
@@ -55,7 +59,7 @@ class Course:
         self.own = dice.choice(("udp", "tcp"))
         self.transport = "udp" if self.own == "udp" else dice.choice(("udp", "tcp", "tcp"))
         self.families = dice.choice(("4", "4", "4", "6", "4,6", "6,4"))
-        algorithms, offered = (dice.choice(("sha1", "sha256", "sha1,sha256", "sha256,sha1")) for _ in range(2))
+        algorithms, offered = (dice.choice(ALGORITHMS) for _ in range(2))
         anonymity, hidden = (dice.choice(("auto", "auto", "required", "disabled")) for _ in range(2))
         if dice.random() < 0.8:
             algorithms, hidden = offered, "auto"
@@ -313,7 +317,7 @@ class Course:
             self.say(f"recv {self.moment()}")
 
     def key(self):
-        kind = self.dice.choice((INTEGRITY, INTEGRITY_SHA256))
+        kind = self.dice.choice(tuple(BY))
         return kind, key_of(kind, "user", "realm", "pass")
 
     def tries(self):
@@ -364,14 +368,15 @@ class Course:
         if dice.random() < 0.7:
             nonce = dice.choice((b"n", b"nonce", b"obMatJos2wAAAevil"))
             told += [(REALM, dice.choice((b"realm", b"realm", b"evil", b""))), (NONCE, nonce)]
-        told += dice.choice(([], [], [(PASSWORD_ALGORITHMS, b"\0\1\0\0\0\2\0\0")], [(UNKNOWN, b"\0\x17")]))
+        lists = [(PASSWORD_ALGORITHMS, it) for it in (b"\0\1\0\0\0\2\0\0", b"\0\1\0\0\xff\x12\0\0")]
+        told += dice.choice(([], [], [dice.choice(lists)], [(UNKNOWN, b"\0\x17")]))
         signed = dice.choice(((), (), (), self.key()))
         kind = asked.method | ERROR
         if dice.random() < 0.3:
             kind = asked.method | SUCCESS
             told = [(RELAYED_KIND, xored(EVIL, asked.number)), (LIFETIME, b"\0\0\2\x58"), (0x002A, b"\0\0\0\7")]
             md5 = key_of(INTEGRITY, "user", "realm", "pass")
-            signed = dice.choice(((), (INTEGRITY, b"wrong"), (INTEGRITY_SHA256, md5)))
+            signed = dice.choice(((), (INTEGRITY, b"wrong"), (INTEGRITY_SHA256, md5), (INTEGRITY_SHA512, md5)))
         return self.hears(written(kind, asked.number, told, *signed).hex(), source)
 
     def answer(self):

@@ -2,7 +2,7 @@
 
 By RFC 8489, sections 5, 6, 9.2, 14.2 and 14.5 to 14.7, and RFC 8656, sections 18.1 to 18.3. What a message shows
 ends with the first attribute that may not stand behind those before it (section 14.5: what follows
-MESSAGE-INTEGRITY is passed over, but for MESSAGE-INTEGRITY-SHA256 and FINGERPRINT).
+MESSAGE-INTEGRITY is passed over, but for MESSAGE-INTEGRITY-SHA256, -SHA512 and FINGERPRINT).
 """
 
 import hashlib
@@ -12,13 +12,17 @@ import struct
 import zlib
 from typing import NamedTuple, Optional
 
-from traces import INTEGRITY, INTEGRITY_SHA256, MAGIC, USERHASH, USERNAME, attribute, block
+from traces import INTEGRITY, INTEGRITY_SHA256, INTEGRITY_SHA512, MAGIC, USERHASH, USERNAME, attribute, block
 
 REQUEST, INDICATION, SUCCESS, ERROR = range(4)
 FINGERPRINT = 0x8028
-RANKS = {INTEGRITY: 1, INTEGRITY_SHA256: 2, FINGERPRINT: 3}
+RANKS = {INTEGRITY: 1, INTEGRITY_SHA256: 2, INTEGRITY_SHA512: 3, FINGERPRINT: 4}
 # an integrity attribute's digest, that of a long-term key, and the lengths that are lawful
-BY = {INTEGRITY: ("sha1", "md5", (20,)), INTEGRITY_SHA256: ("sha256", "sha256", (16, 20, 24, 28, 32))}
+BY = {
+    INTEGRITY: ("sha1", "md5", (20,)),
+    INTEGRITY_SHA256: ("sha256", "sha256", range(16, 33, 4)),
+    INTEGRITY_SHA512: ("sha512", "sha512", range(16, 65, 4)),
+}
 
 
 class Message(NamedTuple):

@@ -10,7 +10,9 @@ from traces import CHANNEL, attribute
 KINDS = (
     0x0101, 0x0103, 0x0113, 0x0003, 0x0104, 0x0108, 0x0109, 0x010A, 0x010B, 0x0118, 0x0017, 0x000C, 0x8000, 0x4000,
 )
-ATTRIBUTE_KINDS = (0x0006, 0x0008, 0x0009, 0x000C, 0x000D, 0x0012, 0x0013, 0x0014, 0x0016, 0x001C, 0x002A, 0x7FFF)
+ATTRIBUTE_KINDS = (
+    0x0006, 0x0008, 0x0009, 0x000C, 0x000D, 0x0012, 0x0013, 0x0014, 0x0016, 0x001C, 0x002A, 0x3F12, 0x7FFF,
+)
 
 
 def part(k, a, b):
@@ -122,6 +124,7 @@ def added_behind(dice, k, data):
         attribute(0x0012, bytes.fromhex("000121122b12a44b")),
         attribute(CHANNEL, bytes.fromhex("40010000")),
         attribute(0x001C, hashlib.sha256(data).digest()),
+        attribute(0x3F12, hashlib.sha512(data).digest()),
         attribute(0x0008, hashlib.sha1(data).digest()),
         attribute(0x000D, bytes.fromhex("ffffffff")),
     ))
@@ -135,7 +138,7 @@ def shorter_signature(dice, k, data):
     if found is None:
         return added_behind(dice, k, data)
     at, _, value = found
-    size = dice.choice((0, 4, 12, 16, 20, 24, 28))
+    size = dice.choice((0, 4, 12, 16, 20, 24, 28, 32, 48, 60))
     if size >= len(value):
         return added_behind(dice, k, data)
     return parts_of(k, at + 4 + size, sized(at + 4 + size - 20), (at + 2, 2, f"{size:04x}"))

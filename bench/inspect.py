@@ -29,12 +29,13 @@ NAMES = {
     0x0016: "XOR-RELAYED-ADDRESS", 0x0017: "REQUESTED-ADDRESS-FAMILY", 0x0018: "EVEN-PORT",
     0x0019: "REQUESTED-TRANSPORT", 0x001A: "DONT-FRAGMENT", 0x001C: "MESSAGE-INTEGRITY-SHA256",
     0x001D: "PASSWORD-ALGORITHM", 0x001E: "USERHASH", 0x0020: "XOR-MAPPED-ADDRESS",
-    0x0022: "RESERVATION-TOKEN", 0x002A: "CONNECTION-ID", 0x8000: "ADDITIONAL-ADDRESS-FAMILY",
-    0x8001: "ADDRESS-ERROR-CODE", 0x8002: "PASSWORD-ALGORITHMS", 0x8003: "ALTERNATE-DOMAIN",
-    0x8004: "ICMP", 0x8022: "SOFTWARE", 0x8023: "ALTERNATE-SERVER", 0x8028: "FINGERPRINT",
+    0x0022: "RESERVATION-TOKEN", 0x002A: "CONNECTION-ID", 0x3F12: "MESSAGE-INTEGRITY-SHA512",
+    0x8000: "ADDITIONAL-ADDRESS-FAMILY", 0x8001: "ADDRESS-ERROR-CODE", 0x8002: "PASSWORD-ALGORITHMS",
+    0x8003: "ALTERNATE-DOMAIN", 0x8004: "ICMP", 0x8022: "SOFTWARE", 0x8023: "ALTERNATE-SERVER",
+    0x8028: "FINGERPRINT",
 }
 TEXTS = {0x0006: 513, 0x0014: 763, 0x0015: 763, 0x8003: 255, 0x8022: 763}
-ALGORITHMS = {1: "MD5", 2: "SHA256"}
+ALGORITHMS = {1: "MD5", 2: "SHA256", 0xFF12: "SHA512"}
 FAMILIES = {1: "IPv4", 2: "IPv6"}
 # RFC 8656, section 12, goes up to 0x4FFF, RFC 5766 up to 0x7FFF; docs/DIFFERENCES.md says what holds.
 CHANNELS = range(0x4000, 0x8000)
@@ -45,7 +46,12 @@ EXTENDING = {
     0x115AF, 0x11930, 0x1D165, *range(0x1D16E, 0x1D173), *range(0xE0020, 0xE0080),
 }
 ESCAPES = {'"': '\\"', "\\": "\\\\", "\0": "\\0", "\t": "\\t", "\n": "\\n", "\r": "\\r"}
-INTEGRITY = {0x0008: ("Sha1", hashlib.sha1), 0x001C: ("Sha256", hashlib.sha256)}
+# Of each integrity attribute: its algorithm, the digest of its HMAC and of its long-term key, and its lengths.
+INTEGRITY = {
+    0x0008: ("Sha1", hashlib.sha1, hashlib.md5, (20,)),
+    0x001C: ("Sha256", hashlib.sha256, hashlib.sha256, range(16, 33, 4)),
+    0x3F12: ("Sha512", hashlib.sha512, hashlib.sha512, range(16, 65, 4)),
+}
 
 
 class Refused(Exception):
@@ -184,10 +190,10 @@ def in_words(kind, value, mask):
         if len(value) % 2:
             raise Refused("InvalidAttributeData")
         return " ".join(f"0x{number(value[i:i + 2]):04x}" for i in range(0, len(value), 2)) or "-"
-    sizes = {0x0008: (20, 20), 0x001C: (16, 32), 0x001E: (32, 32), 0x8028: (4, 4)}
+    sizes = {0x0008: (20, 20), 0x001C: (16, 32), 0x001E: (32, 32), 0x3F12: (16, 64), 0x8028: (4, 4)}
     if kind in sizes:
         of_length(value, *sizes[kind])
-        if kind == 0x001C and len(value) % 4:
+        if len(value) % 4:
             raise Refused("InvalidAttributeData")
         return in_hex(value)
     return turn_in_words(kind, value, mask) or in_hex(value)
@@ -202,7 +208,7 @@ def attribute(kind, value, mask):
 
 
 def rank(kind):
-    return {0x0008: 1, 0x001C: 2, 0x8028: 3}.get(kind, 0)
+    return {0x0008: 1, 0x001C: 2, 0x3F12: 3, 0x8028: 4}.get(kind, 0)
 
 
 def covered(data, end):
@@ -249,13 +255,12 @@ def key_of(credentials, kind):
         return credentials[0].encode()
     user, realm, password = credentials
     whole = f"{user}:{realm}:{password}".encode()
-    return (hashlib.md5 if kind == 0x0008 else hashlib.sha256)(whole).digest()
+    return INTEGRITY[kind][2](whole).digest()
 
 
 def verdict(data, at, kind, value, credentials):
-    name, digest = INTEGRITY[kind]
-    lawful = len(value) == 20 if kind == 0x0008 else len(value) in (16, 20, 24, 28, 32)
-    if not lawful:
+    name, digest, _, lawful = INTEGRITY[kind]
+    if len(value) not in lawful:
         return "refused InvalidAttributeData"
     made = hmac.new(key_of(credentials, kind), covered(data, at), digest).digest()
     return f"valid {name}" if made[:len(value)] == value else "refused IntegrityFailed"

@@ -29,7 +29,7 @@ TEXTS = {
     0x0006: "stun.att.username", 0x0014: "stun.att.realm", 0x0015: "stun.att.nonce",
     0x8022: "stun.att.software",
 }
-ALGORITHMS = {"1": "MD5", "2": "SHA256"}
+ALGORITHMS = {"1": "MD5", "2": "SHA256", "65298": "SHA512"}
 FAMILIES = {"0x01": "IPv4", "0x02": "IPv6"}
 UNESCAPED = {'"': '"', "\\": "\\", "0": "\0", "t": "\t", "n": "\n", "r": "\r"}
 
@@ -41,7 +41,7 @@ KNOWN = {
     "type and code of an ICMP": "tshark takes the first two bytes of the value for them. Those are "
     "reserved; type and code are the third and the fourth (RFC 8656, section 18.13).",
     "attributes behind the last one that counts": "tshark lists those behind MESSAGE-INTEGRITY, "
-    "MESSAGE-INTEGRITY-SHA256 and FINGERPRINT, too. A receiver ignores them (RFC 8489, sections 14.5 "
+    "-SHA256, -SHA512 and FINGERPRINT, too. A receiver ignores them (RFC 8489, sections 14.5 "
     "to 14.7), and stun-inspect prints them as bytes.",
     "the greatest method": "tshark takes a message of the method 0xFFF for none. Methods have twelve "
     "bits (RFC 8489, section 5).",

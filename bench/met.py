@@ -7,16 +7,24 @@ import itertools
 
 TRANSPORTS = ("UDP", "TCP")
 FAMILIES = ("IPV4", "IPV6")
-SUPPORTED = {"OnlySha1": {1}, "OnlySha256": {256}, "Both": {1, 256}}
+SUPPORTED = {"OnlySha1": {1}, "OnlySha256": {256}, "Both": {1, 256}, "OnlySha512": {512}, "All": {1, 256, 512}}
+EACH = tuple(SUPPORTED)[:3]
+SIDES = ("All All", "OnlySha512 All", "OnlySha512 Both")
 FEATURES = ("Auto", "Required", "Disabled")
 
 
+def come_together(row):
+    own, others, hides, takes = row[2:]
+    is_shown = hides == "Required" and takes == "Disabled"
+    come = SUPPORTED[own] & SUPPORTED[others] and not is_shown
+    print(f"{' '.join(row)}: {'Allocated' if come else 'TurnedAway'}")
+
+
 def main():
-    for row in itertools.product(TRANSPORTS, FAMILIES, SUPPORTED, SUPPORTED, FEATURES, FEATURES):
-        own, others, hides, takes = row[2:]
-        is_shown = hides == "Required" and takes == "Disabled"
-        come = SUPPORTED[own] & SUPPORTED[others] and not is_shown
-        print(f"{' '.join(row)}: {'Allocated' if come else 'TurnedAway'}")
+    for row in itertools.product(TRANSPORTS, FAMILIES, EACH, EACH, FEATURES, FEATURES):
+        come_together(row)
+    for transport, sides in itertools.product(TRANSPORTS, SIDES):
+        come_together((transport, "IPV4", *sides.split(), "Auto", "Auto"))
     # RFC 8656, sections 10 and 12: a client that has met a desk asks for a permission, or for a channel,
     # and the desk grants it
     for transport in TRANSPORTS:

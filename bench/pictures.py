@@ -29,7 +29,9 @@ SHOWN = {
     "ERROR-CODE", "UNKNOWN-ATTRIBUTES", "USERNAME", "REALM", "LIFETIME", "XOR-RELAYED-ADDRESS",
     "XOR-PEER-ADDRESS", "CHANNEL-NUMBER", "CONNECTION-ID", "DATA",
 }
-SIGNED = {"MESSAGE-INTEGRITY": "SHA-1", "MESSAGE-INTEGRITY-SHA256": "SHA-256"}
+SIGNED = {
+    "MESSAGE-INTEGRITY": "SHA-1", "MESSAGE-INTEGRITY-SHA256": "SHA-256", "MESSAGE-INTEGRITY-SHA512": "SHA-512",
+}
 ALLOWED = {
     "svg": {"width", "viewBox", "font-family", "font-size"}, "style": set(), "defs": set(),
     "marker": {"id", "viewBox", "refX", "refY", "markerWidth", "markerHeight", "orient"},

@@ -297,7 +297,7 @@ COURSES = (
     Course("over UDP", whole),
     Course("over TCP", whole, TCP),
     Course("over TCP, in pieces", in_pieces, TCP),
-    Course("both families", of_both_families, families=3, integrity=3, server=featured),
+    Course("both families", of_both_families, families=3, integrity=7, server=featured),
     Course("events that are taken late", taken_late),
     Course("requests that are lost, and another nonce", lost_and_stale),
     Course("refused", refused),

@@ -13,23 +13,24 @@ from hostile_messages import FINGERPRINT, REQUEST, address_in, is_named, is_sign
 from payloads import DATA, ICMP, TOLD, frame
 from sockets import CONNECTION_BIND
 from traces import (
-    ADDITIONAL_FAMILY, ALLOCATE, CHANNEL_BIND, CREATE_PERMISSION, ERROR, FAMILY, INTEGRITY, INTEGRITY_SHA256,
-    LIFETIME, MAPPED, NONCE, PASSWORD_ALGORITHMS, PEER, REALM, REFRESH, RELAYED_KIND, SHA1, SHA256, SUCCESS,
-    code, lifetime, message, xored,
+    ADDITIONAL_FAMILY, ALLOCATE, CHANNEL_BIND, CREATE_PERMISSION, ERROR, FAMILY, LIFETIME, MAPPED, NONCE,
+    PASSWORD_ALGORITHMS, PEER, REALM, REFRESH, RELAYED_KIND, SHA1, SHA256, SHA512, SUCCESS, code, lifetime, message,
+    xored,
 )
 
 USER, DOMAIN, SECRET = "user", "realm", "pass"
 OWN, SERVER = "192.0.2.1:5000", "192.0.2.2:3478"
 RELAYED, RELAYED_6 = "203.0.113.5:50000", "[2001:db8::5]:50001"
 ORDINARY, OTHER, FEATURED = b"nonce", b"another nonce", b"obMatJos2wAAA and more"
-ALL_ALGORITHMS = PASSWORD_ALGORITHMS, b"\0\1\0\0\0\2\0\0"
+ALL_ALGORITHMS = PASSWORD_ALGORITHMS, b"\0\1\0\0\0\2\0\0\xff\x12\0\0"
 SECONDS = 600
 REASONS = {
     401: b"Unauthorized", 403: b"Forbidden", 438: b"Stale Nonce", 447: b"Connection Timeout or Failure",
     486: b"Allocation Quota Reached",
 }
 ADDRESSES = (PEER, RELAYED_KIND, MAPPED)
-SIGNATURES = (INTEGRITY, INTEGRITY_SHA256)
+# how a response is signed, by the integrity attribute of its request
+SIGNATURES = {it[0]: it for it in (SHA1, SHA256, SHA512)}
 IS_SERVED = (ALLOCATE, REFRESH, CREATE_PERMISSION, CHANNEL_BIND, CONNECT, CONNECTION_BIND)
 
 
@@ -111,7 +112,7 @@ class Server:
             return self.challenge(asked, 401)
         if asked.last(NONCE) != self.nonce:
             return self.challenge(asked, 438)
-        return self.judged(asked, SHA1 if signature[1] == INTEGRITY else SHA256)
+        return self.judged(asked, SIGNATURES[signature[1]])
 
     def challenge(self, asked, reason):
         lists = [ALL_ALGORITHMS] if self.nonce == FEATURED else []

@@ -6,6 +6,7 @@ the calls of a client's settings, errors, payloads and sends are documented to d
 `rows_proto_base.py`.
 """
 
+import itertools
 import sys
 from pathlib import Path
 
@@ -24,7 +25,7 @@ CRATE = Path(__file__).resolve().parent.parent / "crates/turn_rows_client"
 # ---- settings, and the agent that they make
 
 FAMILIES = {"v4": "IPV4", "v6": "IPV6"}
-ALGORITHMS = {"sha1": "Sha1", "sha256": "Sha256"}
+ALGORITHMS = {"sha1": "Sha1", "sha256": "Sha256", "sha512": "Sha512"}
 
 
 def changed(names, known, how, name):
@@ -112,6 +113,7 @@ def lists():
             for it in ("+sha1", "+sha256", "+sha1", "+sha256", "=sha256", "+sha256", "+sha1", "+sha256", "=sha1")
         ],
     )
+    step_by_step([f"algorithm{it}" for it in ("+sha512", "+sha1", "+sha256", "+sha512", "=sha512", "+sha256", "+sha1")])
 
 
 AT_FIRST = (500, "max", 7, 8000)
@@ -139,6 +141,11 @@ def kinds():
     settings("algorithm=sha256")
     settings("algorithm+sha256")
     settings("algorithm=sha256", "algorithm+sha1")
+    for order in itertools.permutations(ALGORITHMS):
+        settings(*(f"algorithm{sign}{it}" for sign, it in zip("=++", order)))
+    settings("algorithm=sha512")
+    settings("algorithm=sha512", "algorithm+sha256")
+    settings("algorithm+sha512")
     part("names that are hidden always, and never")
     settings("anonymity=required")
     settings("anonymity=disabled")

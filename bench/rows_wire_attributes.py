@@ -123,10 +123,14 @@ def numbers_made():
             row(word, name)(*made(kind, bytes([number, 0, 0, 0])))
 
 
-ALGORITHMS = {"MD5": (1, "Sha1"), "SHA256": (2, "Sha256")}
-# the second sample of RFC 4231 is this HMAC-SHA256
-HMAC = hmac.new(b"Jefe", b"what do ya want for nothing?", "sha256").digest()
+ALGORITHMS = {"MD5": (1, "Sha1"), "SHA256": (2, "Sha256"), "SHA512": (0xFF12, "Sha512")}
+# the second sample of RFC 4231 has this HMAC-SHA256 and this HMAC-SHA512
+HMAC, HMAC_512 = (hmac.new(b"Jefe", b"what do ya want for nothing?", it).digest() for it in ("sha256", "sha512"))
 assert HMAC.hex() == "5bdcc146bf60754e6a042426089575c75a003f089d2739839dec58b964ec3843"
+assert HMAC_512.hex() == (
+    "164b7a7bfcf819e2e395fbe73b56e0a387bd64222e831fd610270cd7ea2505549758bf75c05a994a6d034f65f8f0e6fdcaeab1a34d4a6b4b"
+    "636e070a38bce737"
+)
 # of RFC 8489, appendix B.1
 USERHASH = "4a3cf38fef6992bda952c6780417da0f24819415569e60b205c46e41407f1704"
 MATRIX = "マトリックス"
@@ -135,8 +139,9 @@ MATRIX = "マトリックス"
 def algorithms_made():
     part("password algorithms: one, and lists of up to eight and of more; none are made and not read")
     for name, (number, integrity) in ALGORITHMS.items():
-        row("password-algorithm", name)(name, integrity == "Sha1", *made(0x001D, struct.pack(">HH", number, 0)))
+        row("password-algorithm", name)(name, integrity, *made(0x001D, struct.pack(">HH", number, 0)))
     lists = [["MD5"], ["SHA256"], ["SHA256", "MD5"], ["MD5", "SHA256"], ["MD5"] * 8, ["SHA256"] * 7, []]
+    lists += [["SHA512"], ["MD5", "SHA256", "SHA512"], ["SHA512", "SHA256", "MD5"], ["SHA512"] * 8]
     for names in lists:
         value = b"".join(struct.pack(">HH", ALGORITHMS[it][0], 0) for it in names)
         again = None if names else truncated(4, 0)
@@ -153,15 +158,17 @@ def digests_made():
         row("userhash", user, realm)(*made(0x001E, value))
     for value in (b"\x11" * 20, bytes(range(20)), b"\xff" * 20):
         row("integrity", value)(*made(0x0008, value))
-    for size in range(37):
-        value = (HMAC + bytes(4))[:size]
-        if size < 16:
-            answer = [too_small(16, size)]
-        elif size > 32:
-            answer = [too_large(32, size)]
-        else:
-            answer = [FAILED] if size % 4 else made(0x001C, value)
-        row("integrity-sha256", value)(*answer)
+    for kind, word, whole in ((0x001C, "integrity-sha256", HMAC), (0x3F12, "integrity-sha512", HMAC_512)):
+        most = len(whole)
+        for size in range(most + 5):
+            value = (whole + bytes(4))[:size]
+            if size < 16:
+                answer = [too_small(16, size)]
+            elif size > most:
+                answer = [too_large(most, size)]
+            else:
+                answer = [FAILED] if size % 4 else made(kind, value)
+            row(word, value)(*answer)
     # the CRC-32 of `123456789` is that by which CRCs are told apart
     assert zlib.crc32(b"123456789") == 0xCBF43926
     for text in (b"", b"cccc", b"123456789", bytes(64), bytes(range(256)) * 2):
@@ -269,7 +276,7 @@ def algorithms_read(most):
     def read(value, _):
         sized(value, 4, most)
         numbers = [value[at : at + 2] for at in range(0, len(value), 4)]
-        if len(value) % 4 or any(it not in (b"\0\1", b"\0\2") for it in numbers):
+        if len(value) % 4 or any(it not in (b"\0\1", b"\0\2", b"\xff\x12") for it in numbers):
             raise Refused(INVALID)
         return [b"".join(it + b"\0\0" for it in numbers)]
 
@@ -294,11 +301,16 @@ def same(value):
     return value
 
 
-def sha256_read(value, _):
-    sized(value, 16, 32)
-    if len(value) % 4:
-        raise Refused(INVALID)
-    return [value]
+def front_read(most):
+    """A front of an HMAC: 16 bytes and more, by fours."""
+
+    def read(value, _):
+        sized(value, 16, most)
+        if len(value) % 4:
+            raise Refused(INVALID)
+        return [value]
+
+    return read
 
 
 def family_read(value, _):
@@ -328,7 +340,8 @@ READ = {
     0x0016: ("XorRelayedAddress", address_read),
     0x8023: ("AlternateServer", address_read),
     0x0008: ("MessageIntegrity", number_read(20, same, nothing)),
-    0x001C: ("MessageIntegritySha256", sha256_read),
+    0x001C: ("MessageIntegritySha256", front_read(32)),
+    0x3F12: ("MessageIntegritySha512", front_read(64)),
     0x001E: ("Userhash", number_read(32, same, nothing)),
     0x8028: ("Fingerprint", number_read(4, same, nothing)),
     0x0017: ("RequestedAddressFamily", family_read),
@@ -378,7 +391,8 @@ def fixed_values():
         (0x8000, "02000000", "01ffffff", "00000000", "03000000"),
         (0x000C, "40000000", "1234ffff", "00000000"), (0x002A, "00000007", "ffffffff"),
         (0x8004, "0000030100000005", "ffff0b04000005dc"),
-        (0x001D, "00010000", "0002ffff", "00000000", "00030000", "01020000"),
+        (0x001D, "00010000", "0002ffff", "ff12ffff", "00000000", "00030000", "01020000", "00120000", "ff130000",
+         "12ff0000"),
     ):
         yield from ((kind, bytes.fromhex(it)) for it in values)
         value = bytes.fromhex(values[0])
@@ -409,10 +423,12 @@ def other_values():
     for value in ("", "17", "0017", "001700", "00177fff", "00170017"):
         yield 0x000A, bytes.fromhex(value)
     for value in ("", "000100", "00010000", "0002ffff", "0001000400010100", "0002000000010000", "0001000000",
-                  "0001000000030000", "00010000" * 8, "00010000" * 9, "00010000" * 8 + "00"):
+                  "0001000000030000", "00010000" * 8, "00010000" * 9, "00010000" * 8 + "00",
+                  "ff12000000020000000100ff", "00120000", "ff120000ff110000"):
         yield 0x8002, bytes.fromhex(value)
-    for size in range(38):
-        yield 0x001C, (HMAC + bytes(8))[:size]
+    for kind, whole in ((0x001C, HMAC), (0x3F12, HMAC_512)):
+        for size in range(len(whole) + 6):
+            yield kind, (whole + bytes(8))[:size]
     for size in (0, 1, 2, 3, 4, 5, 65535):
         yield 0x0013, b"\7" * size
 

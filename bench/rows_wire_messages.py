@@ -2,6 +2,7 @@
 
 import hashlib
 import hmac
+import itertools
 import struct
 import zlib
 
@@ -91,9 +92,9 @@ def small():
 
 # ---- messages that are read (RFC 8489, sections 6 and 14)
 
-USERNAME, INTEGRITY, INTEGRITY_SHA256, FINGERPRINT = 0x0006, 0x0008, 0x001C, 0x8028
+USERNAME, INTEGRITY, INTEGRITY_SHA256, INTEGRITY_SHA512, FINGERPRINT = 0x0006, 0x0008, 0x001C, 0x3F12, 0x8028
 # the attributes that end a message, in their order
-RANKS = {INTEGRITY: 1, INTEGRITY_SHA256: 2, FINGERPRINT: 3}
+RANKS = {INTEGRITY: 1, INTEGRITY_SHA256: 2, INTEGRITY_SHA512: 3, FINGERPRINT: 4}
 
 
 def covered(data, end):
@@ -169,19 +170,47 @@ def looks():
     for kind in (0x06, 0x14, 0x15, 0x09, 0x20, 0x1D):
         for count in range(4):
             look(repeated, kind, count)
-    # MESSAGE-INTEGRITY-SHA256, and behind it MESSAGE-INTEGRITY with a length that is not there; FINGERPRINT,
-    # whose CRC-32 counts the length through itself, and SOFTWARE behind it
-    sha256 = message(BINDING, SMALL, [])[:2] + b"\0\x08" + COOKIE + SMALL + bytes.fromhex("001c00000008ffff")
+    # MESSAGE-INTEGRITY-SHA256, and behind it MESSAGE-INTEGRITY with a length that is not there; -SHA512, and such
+    # a -SHA256; FINGERPRINT, whose CRC-32 counts the length through itself, and SOFTWARE behind it
+    sha256, sha512 = (
+        message(BINDING, SMALL, [])[:2] + b"\0\x08" + COOKIE + SMALL + bytes.fromhex(it)
+        for it in ("001c00000008ffff", "3f120000001cffff")
+    )
     head = message(BINDING, SMALL, [])[:2] + b"\0\x10" + COOKIE + SMALL
     marked = attribute(FINGERPRINT, crc(message(BINDING, SMALL, [])[:2] + b"\0\x08" + head[4:]))
     behind = head + marked + attribute(0x8022, b"abcd")
     for data, kinds in (
         (UNSIGNED, (0x1D, 0x06)), (SAMPLE, (0x24, 0x8029, 0x8022, 0x06, 0x08, 0x8028, 0x1C)),
-        (sha256, (0x1C, 0x08)), (behind, (0x8028, 0x8022)),
+        (sha256, (0x1C, 0x08)), (sha512, (0x3F12, 0x1C)), (behind, (0x8028, 0x8022)),
     ):
         for kind in kinds:
             look(data, kind)
+    endings()
     typed_looks()
+
+
+# one attribute of each type that ends a message, in their order, but FINGERPRINT, whose value tells of the whole
+ENDINGS = [(INTEGRITY, bytes(20)), (INTEGRITY_SHA256, bytes(32)), (INTEGRITY_SHA512, bytes(64))]
+
+
+def endings():
+    part("attributes that end a message: shown are those in their order, each once, and none behind them")
+    for kind, value in ENDINGS:
+        before = [(0x0014, b"realm"), (kind, value)]
+        for behind in ((0x0006, b"user"), (0x7FFF, b""), (0xFFFF, b"\1"), *ENDINGS):
+            data = message(BINDING, SMALL, [*before, behind])
+            for it in dict.fromkeys((kind, behind[0])):
+                look(data, it)
+        whole = message(BINDING, SMALL, before)
+        whole = whole[:2] + struct.pack(">H", len(whole) - 12) + whole[4:]
+        marked = whole + attribute(FINGERPRINT, crc(whole))
+        look(marked, kind)
+        look(marked, FINGERPRINT)
+    shown, user = ENDINGS, (0x0006, b"user")
+    for listed in (shown, [*reversed(shown)], [*shown, user], [user, *shown]):
+        data = message(BINDING, SMALL, listed)
+        for kind in (*dict(shown), 0x0006):
+            look(data, kind)
 
 
 def typed_looks():
@@ -208,7 +237,12 @@ USER = ("user", "realm", "pass")
 PAST = ("user", "realm", "past")
 PASSWORD = ("-", "-", "VOkJxbRl1RmTxUk/WvJxBt")
 NAMED = [(0x0006, b"user"), (0x0014, b"realm")]
-DIGESTS = {INTEGRITY: ("Sha1", "sha1", "md5"), INTEGRITY_SHA256: ("Sha256", "sha256", "sha256")}
+# of each algorithm: its name, the digests of its HMAC and of its key, and the lengths that its attribute may have
+DIGESTS = {
+    INTEGRITY: ("Sha1", "sha1", "md5", (20,)),
+    INTEGRITY_SHA256: ("Sha256", "sha256", "sha256", range(16, 33, 4)),
+    INTEGRITY_SHA512: ("Sha512", "sha512", "sha512", range(16, 65, 4)),
+}
 
 
 def key_of(credentials, kind):
@@ -226,8 +260,7 @@ def verdict(data, kind, credentials):
     """By the integrity attribute of one algorithm."""
     for at, it, value in attributes_of(data):
         if it == kind:
-            lawful = len(value) == 20 if kind == INTEGRITY else len(value) in (16, 20, 24, 28, 32)
-            if not lawful:
+            if len(value) not in DIGESTS[kind][3]:
                 return INVALID
             right = hmac_of(credentials, kind, covered(data, at)).startswith(value)
             return DIGESTS[kind][0] if right else UNSIGNED_TEXT
@@ -235,7 +268,7 @@ def verdict(data, kind, credentials):
 
 
 def verdicts(data, credentials):
-    """By the last integrity attribute, and by the key of either algorithm."""
+    """By the last integrity attribute, and by the key of each algorithm."""
     ends = [kind for _, kind, _ in attributes_of(data) if kind in DIGESTS]
     last = ends[-1] if ends else INTEGRITY
     return [verdict(data, kind, credentials) for kind in (last, *DIGESTS)]
@@ -244,7 +277,7 @@ def verdicts(data, credentials):
 def judge(data, credentials, accepted=None):
     answer = answer_of(verdicts, data, credentials)
     if accepted is not None:
-        assert accepted == (answer[0] in ("Sha1", "Sha256")), (answer, data.hex())
+        assert accepted == (answer[0] in [name for name, *_ in DIGESTS.values()]), (answer, data.hex())
     row("judge", *credentials, data)(*answer)
     return answer
 
@@ -253,17 +286,16 @@ def signed(*kinds, attributes=NAMED, credentials=USER):
     """A BINDING request, signed by the integrity attributes of these types."""
     data = message(BINDING, SMALL, attributes)
     for kind in kinds:
-        size = 24 if kind == INTEGRITY else 36
-        data = data[:2] + struct.pack(">H", len(data) + size - 20) + data[4:]
+        data = data[:2] + struct.pack(">H", len(data) + 4 + max(DIGESTS[kind][3]) - 20) + data[4:]
         data += attribute(kind, hmac_of(credentials, kind, data))
     return data
 
 
-def with_front(size):
-    """A BINDING request with so many bytes of its HMAC-SHA256, as if it had been signed with these alone."""
+def with_front(kind, size):
+    """A BINDING request with so many bytes of its HMAC, as if it had been signed with these alone."""
     padded = size + -size % 4
     text = struct.pack(">HH", BINDING, 4 + padded) + COOKIE + SMALL
-    return text + attribute(INTEGRITY_SHA256, (hmac_of(USER, INTEGRITY_SHA256, text) + bytes(8))[:size])
+    return text + attribute(kind, (hmac_of(USER, kind, text) + bytes(8))[:size])
 
 
 # messages that show a FINGERPRINT as their last attribute: of RFC 5769, sections 2.1, 2.2 and 2.3; ALLOCATEs that
@@ -290,18 +322,22 @@ PION = MARKED[6]
 
 
 def judgements():
-    part("messages judged under the right password and another: by the last attribute, by HMAC-SHA1, by HMAC-SHA256")
-    both = signed(INTEGRITY, INTEGRITY_SHA256)
+    part("messages judged under the right password and another: by the last attribute, and by each algorithm")
+    both, all_three = signed(INTEGRITY, INTEGRITY_SHA256), signed(*DIGESTS)
     short = message(BINDING, SMALL, [(INTEGRITY, bytes.fromhex("f6702465"))])
-    assert judge(UNSIGNED, USER) == [missing(8), missing(8), missing(28)]
-    assert judge(short, USER) == [INVALID, INVALID, missing(28)]
-    for data in (signed(INTEGRITY), signed(INTEGRITY_SHA256), both):
+    assert judge(UNSIGNED, USER) == [missing(8), missing(8), missing(28), missing(0x3F12)]
+    assert judge(short, USER) == [INVALID, INVALID, missing(28), missing(0x3F12)]
+    ways = [signed(*kinds) for count in (1, 2) for kinds in itertools.combinations(DIGESTS, count)]
+    for data in (*ways, all_three):
         judge(data, USER, True)
         judge(data, PAST, False)
     for at in (60, 99):
         judge(turned(both, at), USER, False)
-    for size in range(37):
-        judge(with_front(size), USER, size in (16, 20, 24, 28, 32))
+    for at in (63, 99, 103, 167):
+        judge(turned(all_three, at), USER, False)
+    for kind, most in ((INTEGRITY_SHA256, 32), (INTEGRITY_SHA512, 64)):
+        for size in range(most + 5):
+            judge(with_front(kind, size), USER, size in range(16, most + 1, 4))
     for size in (0, 19, 21, 24):
         judge(message(BINDING, SMALL, [(INTEGRITY, bytes(size))]), USER, False)
     part("recorded messages and samples of RFC 5769, each under all credentials")
@@ -322,8 +358,8 @@ def turned_bytes():
         for at in (*range(8, 20), *range(len(data) - 4, len(data))):
             assert judge(turned(data, at), USER) == [MISMATCH]
     part("a bit of each byte of a signed request is turned: none is accepted")
-    for kinds in ((INTEGRITY,), (INTEGRITY_SHA256,)):
-        data = signed(*kinds)
+    for kind in DIGESTS:
+        data = signed(kind)
         for at in range(len(data)):
             for bit in (1, 0x80):
                 judge(turned(data, at, bit), USER, False)

@@ -8,8 +8,8 @@ from rows_wire_base import (
 )
 from rows_wire_attributes import REASONS, types
 from rows_wire_messages import (
-    FINGERPRINT, INTEGRITY, INTEGRITY_SHA256, PASSWORD, PION, SAMPLE, USER, attributes_of, crc, hmac_of,
-    message_type, signed, type_told,
+    DIGESTS, FINGERPRINT, INTEGRITY, INTEGRITY_SHA256, INTEGRITY_SHA512, PASSWORD, PION, RANKS, SAMPLE, USER,
+    attributes_of, crc, hmac_of, message_type, signed, type_told,
 )
 from traces import attribute, block, message, xored
 
@@ -43,7 +43,7 @@ class Writer:
     def add(self, kind, value):
         if FINGERPRINT in self.kinds:
             raise Refused(MARKED_TEXT)
-        if INTEGRITY in self.kinds or INTEGRITY_SHA256 in self.kinds:
+        if any(it in self.kinds for it in DIGESTS):
             raise Refused(SIGNED_TEXT)
         self.push(kind, len(value), lambda _: value)
 
@@ -52,11 +52,11 @@ class Writer:
             raise Refused(MARKED_TEXT)
         if kind in self.kinds:
             raise Refused(exists(kind))
-        if kind == INTEGRITY and INTEGRITY_SHA256 in self.kinds:
+        if any(RANKS.get(it, 0) > RANKS[kind] for it in self.kinds):
             raise Refused(SIGNED_TEXT)
         if made_for != kind:
             raise Refused(FAILED)
-        self.push(kind, 20 if kind == INTEGRITY else 32, lambda text: hmac_of(credentials, kind, text))
+        self.push(kind, max(DIGESTS[kind][3]), lambda text: hmac_of(credentials, kind, text))
 
     def mark(self):
         if FINGERPRINT in self.kinds:
@@ -65,7 +65,7 @@ class Writer:
 
     def asked(self, word):
         """Does what a word of a row says."""
-        named = {"sha1": INTEGRITY, "sha256": INTEGRITY_SHA256}
+        named = {word: kind for kind, (_, word, *_) in DIGESTS.items()}
         kind, _, value = word.partition(" ")
         if kind == "fingerprint":
             self.mark()
@@ -157,6 +157,7 @@ def signed_messages_written():
                "sign sha256", "sign sha256", "sign sha1", "realm realm", expected=signed(INTEGRITY_SHA256))
     everywhere("HMAC-SHA256 under a key", "begin", HEAD, *BY_NAME, "key sha256 sha256", "key sha1 sha256",
                "key sha1 sha1", expected=signed(INTEGRITY_SHA256))
+    strongest_written()
     both = signed(INTEGRITY, INTEGRITY_SHA256)
     everywhere("both, under credentials", "begin", HEAD, *BY_NAME, "sign sha1", "sign sha256", expected=both)
     everywhere("both, under keys: that one is there is told before the order and before the key", "begin", HEAD,
@@ -164,6 +165,25 @@ def signed_messages_written():
     everywhere("nothing comes behind a FINGERPRINT", "begin", HEAD, "lifetime", "fingerprint", "fingerprint",
                "realm realm", "sign sha256", "key sha256 sha256", "key sha1 sha256", expected=bytes.fromhex(
                    "000100102112a442000000000000000000007392000d00040000025880280004c792f497"))
+
+
+def strongest_written():
+    by_sha512 = signed(INTEGRITY_SHA512)
+    everywhere("HMAC-SHA512 is not made by the keys of others, nor another by its key", "begin", HEAD, *BY_NAME,
+               "key sha1 sha512", "key sha256 sha512", "key sha512 sha1", "key sha512 sha256")
+    everywhere("HMAC-SHA512 under credentials: none behind it, and no ordinary attribute", "begin", HEAD, *BY_NAME,
+               "sign sha512", "sign sha512", "sign sha256", "sign sha1", "realm realm", expected=by_sha512)
+    everywhere("HMAC-SHA512 under a key: that one is there is told before the order and before the key", "begin",
+               HEAD, *BY_NAME, "key sha512 sha512", "key sha1 sha512", "key sha256 sha256", "key sha512 sha1",
+               expected=by_sha512)
+    all_three = signed(*DIGESTS)
+    everywhere("all three, under credentials", "begin", HEAD, *BY_NAME, "sign sha1", "sign sha256", "sign sha512",
+               expected=all_three)
+    everywhere("all three, under keys, and a FINGERPRINT behind them", "begin", HEAD, *BY_NAME, "key sha1 sha1",
+               "key sha256 sha256", "key sha512 sha512", "key sha256 sha1", "fingerprint", "sign sha512")
+    for first, weaker in ((INTEGRITY, "sha1"), (INTEGRITY_SHA256, "sha256")):
+        everywhere(f"HMAC-SHA512 behind {weaker} alone", "begin", HEAD, *BY_NAME, f"sign {weaker}", "sign sha512",
+                   f"sign {weaker}", expected=signed(first, INTEGRITY_SHA512))
 
 
 def recorded_messages_written():
@@ -179,6 +199,8 @@ def recorded_messages_written():
 def long_messages_written():
     everywhere("65,508 bytes behind the header leave the room for HMAC-SHA1, and not for HMAC-SHA256", "begin", HEAD,
                "zeros 00*65504", "sign sha256", "key sha256 sha256", "key sha1 sha1")
+    everywhere("65,468 bytes leave the room for HMAC-SHA256, and by four bytes not for HMAC-SHA512", "begin", HEAD,
+               "zeros 00*65464", "sign sha512", "key sha512 sha512", "key sha256 sha256")
     everywhere("65,532 bytes behind the header leave no room", "begin", HEAD, "zeros 00*65528", "zeros 00*0",
                "fingerprint", "sign sha1")
     part("lent bytes that are too few")
@@ -186,6 +208,7 @@ def long_messages_written():
         (20, ["lifetime", "fingerprint"]), (27, ["lifetime"]), (28, ["lifetime"]), (30, ["lifetime", "user user"]),
         (35, ["lifetime", "fingerprint"]), (36, ["lifetime", "fingerprint"]), (43, ["sign sha1", "sign sha256"]),
         (63, [*BY_NAME, "key sha1 sha1"]), (75, [*BY_NAME, "sign sha256", "sign sha1"]),
+        (107, [*BY_NAME, "sign sha512", "sign sha1"]), (108, [*BY_NAME, "sign sha512"]),
     ):
         written(room, "begin", HEAD, adds)
     everywhere("the first of some types that is there", "begin", HEAD, "lifetime", "realm realm", "user user")

@@ -52,23 +52,26 @@ ASKED = (
 )
 
 
-def both_ways(kind, body):
+def each_way(kind, body):
     by_sha1 = signed(kind, body, 0x0008, "sha1", 20)
     by_sha256 = signed(kind, body, 0x001C, "sha256", 32)
-    return by_sha1, by_sha256
+    by_sha512 = signed(kind, body, 0x3F12, "sha512", 64)
+    return by_sha1, by_sha256, by_sha512
 
 
 def main():
-    response_sha1, response_sha256 = both_ways(SUCCESS, RESPONSE)
-    request_sha1, request_sha256 = both_ways(REQUEST, ASKED)
+    response_sha1, response_sha256, response_sha512 = each_way(SUCCESS, RESPONSE)
+    request_sha1, request_sha256, request_sha512 = each_way(REQUEST, ASKED)
     samples = {
         "response_unsigned": message(SUCCESS, RESPONSE),
         "response_sha1": message(SUCCESS, response_sha1),
         "response_sha256": message(SUCCESS, response_sha256),
+        "response_sha512": message(SUCCESS, response_sha512),
         "response_whole": message(SUCCESS, marked(SUCCESS, response_sha1)),
         "request_unsigned": message(REQUEST, ASKED),
         "request_sha1": message(REQUEST, request_sha1),
         "request_sha256": message(REQUEST, request_sha256),
+        "request_sha512": message(REQUEST, request_sha512),
         "request_whole": message(REQUEST, marked(REQUEST, request_sha1)),
     }
     lines = ["// Made by samples.py. What each sample is stands there.", ""]

@@ -24,7 +24,7 @@ SUCCESS, ERROR, INDICATION = 0x100, 0x110, 0x010
 USERNAME, INTEGRITY, ERROR_CODE, UNKNOWN, CHANNEL, LIFETIME, PEER = 0x06, 0x08, 0x09, 0x0A, 0x0C, 0x0D, 0x12
 REALM, NONCE, RELAYED_KIND, FAMILY, TRANSPORT, DONT_FRAGMENT = 0x14, 0x15, 0x16, 0x17, 0x19, 0x1A
 INTEGRITY_SHA256, PASSWORD_ALGORITHM, USERHASH, MAPPED = 0x1C, 0x1D, 0x1E, 0x20
-ADDITIONAL_FAMILY, PASSWORD_ALGORITHMS = 0x8000, 0x8002
+INTEGRITY_SHA512, ADDITIONAL_FAMILY, PASSWORD_ALGORITHMS = 0x3F12, 0x8000, 0x8002
 
 MS = 1_000_000
 SECOND = 1000 * MS
@@ -72,10 +72,21 @@ def attribute(kind, value):
 
 
 SHA1, SHA256 = (INTEGRITY, "sha1", "md5"), (INTEGRITY_SHA256, "sha256", "sha256")
+SHA512 = INTEGRITY_SHA512, "sha512", "sha512"
+# each algorithm by its name in a trace, the weaker first: how a message is signed by it, and its entry in a
+# PASSWORD-ALGORITHMS
+ALGORITHMS = {
+    "sha1": (SHA1, b"\0\1\0\0"), "sha256": (SHA256, b"\0\2\0\0"), "sha512": (SHA512, b"\xff\x12\0\0"),
+}
+
+
+def entries(*names):
+    """The value of the PASSWORD-ALGORITHMS that lists algorithms."""
+    return b"".join(ALGORITHMS[it][1] for it in names)
 
 
 def message(kind, transaction, attributes, signed=None, realm=b"realm"):
-    """A message, signed by `SHA1` or `SHA256` where it is, under the key of the user in a realm."""
+    """A message, signed by `SHA1`, `SHA256` or `SHA512` where it is, under the key of the user in a realm."""
     body = b"".join(attribute(*it) for it in attributes)
     if signed is None:
         return struct.pack(">HHI", kind, len(body), MAGIC) + transaction + body

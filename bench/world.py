@@ -3,7 +3,7 @@
 
 It knows nothing of the repository's code: messages and numbers are written by `traces.py`. The moments
 were worked out by hand, from the waits that a client is documented to have. It was run once, and what it
-wrote is stored: nine examples, and the traces of a client and a desk in the stored run of `turn_traces`,
+wrote is stored: nine examples, and the traces of a client and a desk in the stored run of `turn_replay`,
 behind those of a desk alone. Those with a stranger at the desk are in `strangers.py`, those of permissions
 in `permissions.py`, those of channels in `channels.py` and `channels_later.py`, those of sends and payloads
 in `payloads.py`, those of a client over TCP in `streams.py`, those of connections in `connections.py`, those
@@ -15,11 +15,11 @@ import hashlib
 import sys
 
 from traces import (
-    ADDITIONAL_FAMILY, ALLOCATE, BINDING, CLIENT, END, ERROR, FAMILY, INDICATION, MS, NAMED, NONCE, NONCES,
-    OTHER, PASSWORD_ALGORITHM, PASSWORD_ALGORITHMS, REALM, REFRESH, REFUSED, RELAYED, SECOND, SERVER, SHA1,
-    SHA256, SIXTH, STALE, SUCCESS, TOP, Trace, UDP, UNKNOWN, USERHASH, USERNAME, V6, challenge, code, error,
-    first, grant, hashed, lifetime, message, number, refresh, relayed, setup, signed_allocate, stale,
-    success, unsigned,
+    ADDITIONAL_FAMILY, ALGORITHMS, ALLOCATE, BINDING, CLIENT, END, ERROR, FAMILY, INDICATION, MS, NAMED,
+    NONCE, NONCES, OTHER, PASSWORD_ALGORITHM, PASSWORD_ALGORITHMS, REALM, REFRESH, REFUSED, RELAYED, SECOND,
+    SERVER, SHA1, SIXTH, STALE, SUCCESS, TOP, Trace, UDP, UNKNOWN, USERHASH, USERNAME, V6, challenge, code,
+    entries, error, first, grant, hashed, lifetime, message, number, refresh, relayed, setup, signed_allocate,
+    stale, success, unsigned,
 )
 
 
@@ -138,34 +138,37 @@ def what_a_desk_passes_by():
     return "A desk's own reply, an indication, a response, and nineteen bytes: it answers none of them", t
 
 
-def offered_both(algorithms, value, by):
-    """The desk offers both algorithms: the client names the one of this value, and signs by it."""
-    t = Trace(setup(algorithms=algorithms, desk="sha1,sha256 auto"))
+def offered(algorithms, desk, chosen):
+    """The desk offers its algorithms: the client names the chosen one, and signs by it; where there is none, it ends."""
+    t = Trace(setup(algorithms=algorithms, desk=f"{desk} auto"))
     drawn = t.draw(0, first())
-    offered = (PASSWORD_ALGORITHMS, b"\0\1\0\0\0\2\0\0")
-    line = t.ask(0, f"@{drawn}", "refuse 400", challenge(0, b"wAAA", [offered]))
+    listed = (PASSWORD_ALGORITHMS, entries(*desk.split(",")))
+    line = t.ask(0, f"@{drawn}", "refuse 400", challenge(0, b"wAAA", [listed]))
     t.hear(0, f"@{line}")
-    chosen = [*hashed(b"wAAA"), offered, (PASSWORD_ALGORITHM, value)]
-    t.is_granted(50 * MS, 1, chosen, by)
+    if chosen is None:
+        t.fails(0)
+    else:
+        by, entry = ALGORITHMS[chosen]
+        t.is_granted(50 * MS, 1, [*hashed(b"wAAA"), listed, (PASSWORD_ALGORITHM, entry)], by)
     return t
 
 
-def both_algorithms():
-    return "Both sides know SHA-256: it is taken", offered_both("sha1,sha256", b"\0\2\0\0", SHA256)
+TWO, THREE = "sha1,sha256", "sha1,sha256,sha512"
 
 
-def the_weaker_algorithm():
-    return "The client knows SHA-1 alone: that is taken", offered_both("sha1", b"\0\1\0\0", SHA1)
-
-
-def no_common_algorithm():
-    t = Trace(setup(desk="sha256 auto"))
-    drawn = t.draw(0, first())
-    offered = (PASSWORD_ALGORITHMS, b"\0\2\0\0")
-    line = t.ask(0, f"@{drawn}", "refuse 400", challenge(0, b"wAAA", [offered]))
-    t.hear(0, f"@{line}")
-    t.fails(0)
-    return "The two sides have no algorithm in common: the client ends", t
+def offers():
+    yield "Both sides know SHA-256: it is taken", offered(TWO, TWO, "sha256")
+    yield "The client knows SHA-1 alone: that is taken", offered("sha1", TWO, "sha1")
+    yield "The two sides have no algorithm in common: the client ends", offered("sha1", "sha256", None)
+    t = offered(THREE, THREE, "sha512")
+    # the ends of the challenge and of the grant's request, and where that, and the grant, begin, worked by hand
+    for part in ("reply 011300542112a442", "8002000c0001000000020000ff120000\n", " 000300c02112a442",
+                 "reply 010300642112a442"):
+        assert part in t.answers
+    yield "Both sides know SHA-512: it is taken", t
+    yield "The client knows no SHA-512: SHA-256 is taken", offered(TWO, THREE, "sha256")
+    yield "The client knows SHA-512 alone, and the desk all but that: the client ends", offered("sha512", TWO, None)
+    yield "Both sides know SHA-512 alone, and no other", offered("sha512", "sha512", "sha512")
 
 
 def no_hashed_names():
@@ -523,13 +526,12 @@ def settings(algorithms, anonymity, desk_algorithms, desk_anonymity):
         )
     )
     bits = features(desk_algorithms, desk_anonymity)
-    values = {"sha1": b"\0\1\0\0", "sha256": b"\0\2\0\0"}
-    offered = (PASSWORD_ALGORITHMS, b"".join(values[it] for it in desk_algorithms))
+    listed = (PASSWORD_ALGORITHMS, entries(*desk_algorithms))
     has_list, hashes = bits in (b"gAAA", b"wAAA"), bits in (b"QAAA", b"wAAA")
     drawn = t.draw(0, first())
-    line = t.ask(0, f"@{drawn}", "refuse 400", challenge(0, bits, [offered] if has_list else []))
+    line = t.ask(0, f"@{drawn}", "refuse 400", challenge(0, bits, [listed] if has_list else []))
     t.hear(0, f"@{line}")
-    common = [it for it in ("sha256", "sha1") if it in algorithms and it in desk_algorithms]
+    common = [it for it in ALGORITHMS if it in algorithms and it in desk_algorithms]
     name = (
         f"The client has {' and '.join(algorithms)}, {anonymity}; "
         f"the desk has {' and '.join(desk_algorithms)}, {desk_anonymity}"
@@ -540,9 +542,9 @@ def settings(algorithms, anonymity, desk_algorithms, desk_anonymity):
     is_hashed = hashes and anonymity != "disabled"
     who = (USERHASH, hashlib.sha256(b"user:realm").digest()) if is_hashed else (USERNAME, b"user")
     told = [who, (REALM, b"realm"), (NONCE, NONCES[bits])]
+    by, entry = ALGORITHMS[common[-1]]
     if has_list:
-        told += [offered, (PASSWORD_ALGORITHM, values[common[0]])]
-    by = SHA256 if common[0] == "sha256" else SHA1
+        told += [listed, (PASSWORD_ALGORITHM, entry)]
     t.is_granted(50 * MS, 1, told, by)
     return name, t
 
@@ -554,6 +556,10 @@ def each_setting():
             for anonymity in ("auto", "required", "disabled"):
                 for desk_anonymity in ("auto", "disabled"):
                     yield settings(algorithms, anonymity, desk_algorithms, desk_anonymity)
+    three, ends = [*both, "sha512"], ["sha512", "sha1"]
+    for algorithms in (["sha512"], three, three[::-1], ends):
+        for desk_algorithms in (["sha1"], both, three, ["sha512", "sha256", "sha1"], ends):
+            yield settings(algorithms, "auto", desk_algorithms, "auto")
 
 
 def good_traces():
@@ -572,8 +578,7 @@ def good_traces():
     yield from (
         handshake(), forged_grant(), repeated_grant(), reflected_request(),
         address_behind_the_signature(), added_signature(), foreign_datagrams(), forged_challenge(),
-        repeated_challenge(), ten_challenges(), what_a_desk_passes_by(), both_algorithms(),
-        the_weaker_algorithm(), no_common_algorithm(), no_hashed_names(), lost_replies(), lost_reply(),
+        repeated_challenge(), ten_challenges(), what_a_desk_passes_by(), *offers(), no_hashed_names(), lost_replies(), lost_reply(),
         nobody_answers(), deleted(), renewed(), repeated_renewal(), error_above(),
         last_moment(), nothing_yet(), *first_answered(), request_for_a_response(), default_timeout(),
         *signed_answered(), signed_request(), expired(), stale_allocate(), half_stale(),
@@ -721,8 +726,8 @@ def store_examples():
 
 def store_traces():
     """Puts the traces in the place of those that stand there from the first of them on, or behind all."""
-    given, printed = (TOP / f"crates/turn_traces/{it}" for it in ("stdin", "stdout"))
-    before = given.read_bytes().split(b"%")
+    given, printed = (TOP / f"crates/turn_replay/{it}" for it in ("stdin", "stdout"))
+    before = given.read_bytes().split(b"%")[1:]
     mark = b"# " + handshake()[0].encode()
     names = [it.split(b"\n")[0] for it in before]
     if mark in names:
@@ -733,7 +738,7 @@ def store_traces():
             front.append(line)
             left -= line.startswith(b"status ")
     made = list(all_traces())
-    given.write_bytes(b"%".join(before + [it.encode() for it, _ in made]))
+    given.write_bytes(b"".join(b"%" + it for it in before + [it.encode() for it, _ in made]))
     printed.write_bytes(b"".join(front + [it.encode() for _, it in made]))
 
 

@@ -232,7 +232,7 @@ static void refuse_numbers(const turn_settings *good)
         {offsetof(turn_settings, transport), 5}, {offsetof(turn_settings, transport), 256 + 17},
         {offsetof(turn_settings, peers), 5}, {offsetof(turn_settings, peers), TURN_TCP},
         {offsetof(turn_settings, families), 4}, {offsetof(turn_settings, families), 1 | 8},
-        {offsetof(turn_settings, integrity), 4}, {offsetof(turn_settings, integrity), UINT32_MAX},
+        {offsetof(turn_settings, integrity), 8}, {offsetof(turn_settings, integrity), UINT32_MAX},
         {offsetof(turn_settings, anonymous), 3}, {offsetof(turn_settings, anonymous), 256},
     };
     for (size_t i = 0; i < sizeof wrong / sizeof *wrong; i++) {

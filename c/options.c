@@ -60,7 +60,7 @@ static const char usage[] =
     "  --server ADDRESS      IP or IP:PORT, of IPv6 [IP]:PORT; without a port 3478\n"
     "  --user NAME, --password TEXT\n"
     "  --family 4|6|both     of the address that is asked for; without it 4\n"
-    "  --algorithms sha1|sha256|both   that are supported; without it sha1\n"
+    "  --algorithms sha1|sha256|sha512|both|all   that are supported, both of the first two; without it sha1\n"
     "  --tcp                 a connection over TCP to the server; peers are reached over UDP\n"
     "  --peer ADDRESS        the peer, which is to send back what it gets\n"
     "  --echo                in its place one of this program's own, on loopback\n"
@@ -85,14 +85,26 @@ static const struct option names[] = {
     {"help", no_argument, NULL, 'h'},           {NULL, 0, NULL, 0},
 };
 
-/* One of two words, or `both`: its bits. */
-static bool read_bits(const char *text, const char *first, const char *second, uint32_t *bits)
+/* Words, and what bits they are; behind the last one comes none. */
+struct word {
+    const char *text;
+    uint32_t bits;
+};
+
+static const struct word families[] = {
+    {"4", TURN_IPV4}, {"6", TURN_IPV6}, {"both", TURN_IPV4 | TURN_IPV6}, {NULL, 0},
+};
+static const struct word algorithms[] = {
+    {"sha1", TURN_SHA1}, {"sha256", TURN_SHA256}, {"sha512", TURN_SHA512}, {"both", TURN_SHA1 | TURN_SHA256},
+    {"all", TURN_SHA1 | TURN_SHA256 | TURN_SHA512}, {NULL, 0},
+};
+
+/* One of some words: its bits. */
+static bool read_bits(const char *text, const struct word *words, uint32_t *bits)
 {
-    *bits = 0;
-    if (strcmp(text, first) == 0 || strcmp(text, "both") == 0)
-        *bits |= 1;
-    if (strcmp(text, second) == 0 || strcmp(text, "both") == 0)
-        *bits |= 2;
+    while (words->text != NULL && strcmp(text, words->text) != 0)
+        words++;
+    *bits = words->bits;
     return *bits != 0;
 }
 
@@ -103,8 +115,8 @@ static bool take_option(struct options *o, int option, const char *value)
     case 's': return read_address(value, SERVER_PORT, &o->server);
     case 'u': o->user = value; return true;
     case 'p': o->password = value; return true;
-    case 'f': return read_bits(value, "4", "6", &o->families);
-    case 'a': return read_bits(value, "sha1", "sha256", &o->integrity);
+    case 'f': return read_bits(value, families, &o->families);
+    case 'a': return read_bits(value, algorithms, &o->integrity);
     case 't': return o->is_over_tcp = true;
     case 'r': return read_address(value, 0, &o->peer);
     case 'e': return o->has_echo = true;

@@ -13,12 +13,12 @@ import sys
 sys.dont_write_bytecode = True
 
 from samples_base import (  # noqa: E402
-    A, ADDITIONAL_FAMILY, ALLOCATE, ALL_ALGORITHMS, B, BEHIND_PEER, BY_SHA1, BY_SHA256, CHANNEL_BIND, CHOSEN, CONNECT,
-    CONNECTION_ATTEMPT, CONNECTION_BIND, CREATE_PERMISSION, ELSEWHERE, ERROR, Exchange, FAMILY, FEATURED, HERE,
-    HIDDEN, LONGEST, MS, NAME, NOBODY, ONE, OTHER, OWN, REFRESH, RELAYED, RELAYED_6, REPORT, SECOND, SECRET, SEED,
-    SERVER, SIX, STRANGER, SUCCESS, TCP, TEXTS, TWO, UDP, V6, allocate, attempt, attempted, bind, c_fields, challenge,
-    code, connect, data, fingerprinted, first, frame, grant, host, identified, indication, join, lifetime, message,
-    named, number, padded, permit, refresh, success,
+    A, ADDITIONAL_FAMILY, ALLOCATE, ALL_ALGORITHMS, B, BEHIND_PEER, BY_SHA1, BY_SHA256, BY_SHA512, CHANNEL_BIND,
+    CHOSEN, CONNECT, CONNECTION_ATTEMPT, CONNECTION_BIND, CREATE_PERMISSION, ELSEWHERE, ERROR, Exchange, FAMILY,
+    FEATURED, HERE, HIDDEN, LONGEST, MS, NAME, NOBODY, ONE, OTHER, OWN, REFRESH, RELAYED, RELAYED_6, REPORT, SECOND,
+    SECRET, SEED, SERVER, SIX, STRANGER, STRONGEST, SUCCESS, TCP, TEXTS, TWO, TWO_ALGORITHMS, UDP, V6, allocate,
+    attempt, attempted, bind, c_fields, challenge, code, connect, data, fingerprinted, first, frame, grant, host,
+    identified, indication, join, lifetime, message, named, number, padded, permit, refresh, success,
 )
 
 
@@ -401,7 +401,7 @@ def both():
     more = ADDITIONAL_FAMILY, V6
     t.begins()
     t.draws(first(UDP, more))
-    t.feeds(challenge(0, ALLOCATE, code(401, b"Unauthorized"), FEATURED, ALL_ALGORITHMS))
+    t.feeds(challenge(0, ALLOCATE, code(401, b"Unauthorized"), FEATURED, TWO_ALGORITHMS))
     t.at(50)
     t.draws(allocate(UDP, more, told=HIDDEN, by=BY_SHA256))
     t.at(60)
@@ -433,7 +433,7 @@ def the_others():
     t.part("IPv6, SHA-256, and the name in the open")
     t.does("open")
     t.draws(first(UDP, (FAMILY, V6)))
-    t.feeds(challenge(0, ALLOCATE, code(401, b"Unauthorized"), FEATURED, ALL_ALGORITHMS))
+    t.feeds(challenge(0, ALLOCATE, code(401, b"Unauthorized"), FEATURED, TWO_ALGORITHMS))
     t.at(50)
     t.draws(allocate(UDP, (FAMILY, V6), told=CHOSEN, by=BY_SHA256))
     t.at(60)
@@ -442,6 +442,26 @@ def the_others():
     t.reaches("permit", ONE, "TURN_NO_ALLOCATION")
     t.at(100)
     t.deleted(2, CHOSEN, BY_SHA256)
+    t.does("close")
+    return t
+
+
+def strongest():
+    t = Exchange("all three algorithms", integrity=7)
+    t.part("SHA-512, and the name is hidden")
+    t.does("open")
+    t.draws(first())
+    t.feeds(challenge(0, ALLOCATE, code(401, b"Unauthorized"), FEATURED, ALL_ALGORITHMS))
+    t.at(50)
+    t.draws(allocate(told=STRONGEST, by=BY_SHA512))
+    t.at(60)
+    t.feeds(grant(RELAYED, by=BY_SHA256), "TURN_IGNORED", "signed by another algorithm")
+    t.feeds(grant(RELAYED, by=BY_SHA512))
+    t.tells("TURN_ALLOCATION_CREATED", RELAYED)
+    t.tells_no_more()
+    t.part("the end")
+    t.at(100)
+    t.deleted(2, STRONGEST, BY_SHA512)
     t.does("close")
     return t
 
@@ -479,6 +499,16 @@ def hidden():
     t.does("open")
     t.draws(first())
     t.feeds(challenge())
+    fails(t)
+    return t
+
+
+def none_in_common():
+    t = Exchange("an algorithm that the server has not", integrity=4)
+    t.part("SHA-512 alone")
+    t.does("open")
+    t.draws(first())
+    t.feeds(challenge(0, ALLOCATE, code(401, b"Unauthorized"), FEATURED, TWO_ALGORITHMS))
     fails(t)
     return t
 
@@ -622,7 +652,10 @@ def c_exchanges(name, exchanges):
 
 
 def main():
-    exchanges = [udp(), tcp(), connections(), both(), the_others(), unanswered(), hidden(), lapsed()]
+    exchanges = [
+        udp(), tcp(), connections(), both(), the_others(), unanswered(), hidden(), lapsed(), strongest(),
+        none_in_common(),
+    ]
     timed = [timed_udp(), timed_tcp()]
     tables = [*c_exchanges("exchanges", exchanges), *c_exchanges("timed", timed)]
     lines = [

@@ -21,9 +21,9 @@ from payloads import DATA, ICMP, SEND, TOLD, fingerprinted, frame  # noqa: E402
 from sockets import CONNECTION_BIND  # noqa: E402
 from traces import (  # noqa: E402
     ADDITIONAL_FAMILY, ALLOCATE, CHANNEL, CHANNEL_BIND, CREATE_PERMISSION, DONT_FRAGMENT, ERROR, FAMILY, INDICATION,
-    INTEGRITY, INTEGRITY_SHA256, MAGIC, MAPPED, MS, NONCE, PASSWORD_ALGORITHM, PASSWORD_ALGORITHMS, PEER, REALM,
-    REFRESH, RELAYED_KIND, SECOND, SUCCESS, TRANSPORT, USERHASH, USERNAME, V6, attribute, block, code, lifetime,
-    xored,
+    INTEGRITY, INTEGRITY_SHA256, INTEGRITY_SHA512, MAGIC, MAPPED, MS, NONCE, PASSWORD_ALGORITHM, PASSWORD_ALGORITHMS,
+    PEER, REALM, REFRESH, RELAYED_KIND, SECOND, SUCCESS, TRANSPORT, USERHASH, USERNAME, V6, attribute, block, code,
+    lifetime, xored,
 )
 
 SEED = bytes(range(1, 33))
@@ -38,7 +38,8 @@ LONGEST = 39500 * MS
 ORDINARY, OTHER, FEATURED = b"a nonce of ordinary text", b"another nonce", b"obMatJos2wAAA and more"
 # the number of the server's indications
 ANY = bytes(range(0xA0, 0xAC))
-ALL_ALGORITHMS = PASSWORD_ALGORITHMS, b"\0\1\0\0\0\2\0\0"
+TWO_ALGORITHMS = PASSWORD_ALGORITHMS, b"\0\1\0\0\0\2\0\0"
+ALL_ALGORITHMS = PASSWORD_ALGORITHMS, b"\0\1\0\0\0\2\0\0\xff\x12\0\0"
 
 
 # ---- messages
@@ -55,6 +56,7 @@ def number(k):
 
 # how a message is signed: the attribute, its digest, and the digest of which its key is
 BY_SHA1, BY_SHA256 = (INTEGRITY, hashlib.sha1, hashlib.md5), (INTEGRITY_SHA256, hashlib.sha256, hashlib.sha256)
+BY_SHA512 = (INTEGRITY_SHA512, hashlib.sha512, hashlib.sha512)
 
 
 def message(kind, transaction, attributes, by=None):
@@ -74,10 +76,11 @@ def named(nonce=ORDINARY):
     return [(USERNAME, NAME), (REALM, DOMAIN), (NONCE, nonce)]
 
 
-# under a nonce that tells of the features of RFC 8489, with both algorithms, of which the better one is chosen: the
-# name in the open, and hidden
-CHOSEN = [*named(FEATURED), ALL_ALGORITHMS, (PASSWORD_ALGORITHM, b"\0\2\0\0")]
+# under a nonce that tells of the features of RFC 8489, with two algorithms, of which the better one is chosen: the
+# name in the open, and hidden; hidden, with all three, of which the best one is chosen
+CHOSEN = [*named(FEATURED), TWO_ALGORITHMS, (PASSWORD_ALGORITHM, b"\0\2\0\0")]
 HIDDEN = [(USERHASH, hashlib.sha256(NAME + b":" + DOMAIN).digest()), *CHOSEN[1:]]
+STRONGEST = [*HIDDEN[:-2], ALL_ALGORITHMS, (PASSWORD_ALGORITHM, b"\xff\x12\0\0")]
 
 
 def transport_of(protocol):

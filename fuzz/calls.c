@@ -389,7 +389,7 @@ static bool are_good(const turn_settings *s)
     const bool is_to = s->transport == 0 || is_transport(s->transport);
     const bool is_between = s->peers == 0 || s->peers == TURN_UDP || (s->peers == TURN_TCP && s->transport == TURN_TCP);
     return is_family(&s->local) && is_family(&s->server) && is_to && is_between && s->families <= 3
-        && s->integrity <= 3 && s->anonymous <= TURN_ANONYMOUS_DISABLED;
+        && s->integrity <= 7 && s->anonymous <= TURN_ANONYMOUS_DISABLED;
 }
 
 static bool is_ascii(struct bytes text)

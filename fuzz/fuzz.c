@@ -412,7 +412,7 @@ static void open_any(void)
     memset(letters, kind & 0x40 ? 0xc3 : 'a', sizeof letters);
     if (kind & 1)
         s = (turn_settings){.local = next_address(), .server = next_address(), .transport = next_transport(),
-                            .peers = next_transport(), .families = next(), .integrity = next() % 5,
+                            .peers = next_transport(), .families = next(), .integrity = next() % 9,
                             .anonymous = next() % 4, .sends = next_number(4), .first_wait = next_number(4),
                             .most_wait = next_number(4), .last_wait = next_number(4)};
     if (kind & 2)

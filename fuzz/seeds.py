@@ -9,7 +9,7 @@ import os
 import re
 import sys
 
-EXCHANGES = [*range(8), 129, 131]  # the first byte: the eight exchanges, and the two that bench.c times
+EXCHANGES = [*range(10), 129, 131]  # the first byte: the ten exchanges, and the two that bench.c times
 STEPS = range(0, 126, 5)
 WALK_SOME, FEED_ANY, OPERATIONS, FIRST_CALL, CALLS = 0, 5, 14, 32, 13
 GIVEN, REFUSED = (1, 2, 3, 5, 8), (4, 1, 0, 0, 0)  # arguments; the first of the second is no transport

@@ -111,7 +111,7 @@ enum turn_status {
 
 enum { TURN_TCP = 6, TURN_UDP = 17 };                       /* transports, by their protocol numbers in IP */
 enum { TURN_IPV4 = 1, TURN_IPV6 = 2 };                                   /* bits of families */
-enum { TURN_SHA1 = 1, TURN_SHA256 = 2 };                                 /* bits of integrity */
+enum { TURN_SHA1 = 1, TURN_SHA256 = 2, TURN_SHA512 = 4 };                /* bits of integrity */
 enum { TURN_ANONYMOUS_AUTO = 0, TURN_ANONYMOUS_REQUIRED = 1, TURN_ANONYMOUS_DISABLED = 2 };
 
 /* An address and a port. Of IPv6 it has no flow information and no scope. */

@@ -308,7 +308,7 @@ def many() -> Any:
 
 
 EXCHANGES = (samples.udp, samples.tcp, samples.connections, samples.both, samples.the_others, samples.unanswered,
-             samples.hidden, samples.lapsed, many)
+             samples.hidden, samples.lapsed, samples.strongest, samples.none_in_common, many)
 
 
 class Exchanges(unittest.TestCase):

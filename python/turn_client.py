@@ -185,6 +185,7 @@ class Integrity(enum.IntFlag):
 
     SHA1 = 1
     SHA256 = 2
+    SHA512 = 4
 
 
 class Anonymous(enum.IntEnum):

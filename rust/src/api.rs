@@ -33,6 +33,8 @@ pub enum IntegrityAlgorithm {
     Sha1,
     /// HMAC-SHA256 (RFC 8489).
     Sha256,
+    /// HMAC-SHA512, which no RFC has.
+    Sha512,
 }
 
 /// Whether something is done.
@@ -240,6 +242,7 @@ fn bit_of_integrity(integrity: IntegrityAlgorithm) -> u32 {
     match integrity {
         IntegrityAlgorithm::Sha1 => sys::SHA1,
         IntegrityAlgorithm::Sha256 => sys::SHA256,
+        IntegrityAlgorithm::Sha512 => sys::SHA512,
     }
 }
 
@@ -517,9 +520,13 @@ mod tests {
             config.add_supported_integrity(IntegrityAlgorithm::Sha1);
             assert_eq!(bits(&config), (3, 3));
         }
+        config.add_supported_integrity(IntegrityAlgorithm::Sha512);
+        assert_eq!(bits(&config), (3, 7));
+        config.set_supported_integrity(IntegrityAlgorithm::Sha512);
+        assert_eq!(bits(&config), (3, 4));
         assert_eq!(
             (config.address_families().len(), config.supported_integrity().len()),
-            (2, 2)
+            (2, 1)
         );
     }
 

@@ -39,6 +39,16 @@ fn the_other_of_two() {
 }
 
 #[test]
+fn the_strongest_of_three() {
+    walk("all three algorithms");
+}
+
+#[test]
+fn no_algorithm_in_common() {
+    walk("an algorithm that the server has not");
+}
+
+#[test]
 fn nobody_answers() {
     walk("other waits");
 }

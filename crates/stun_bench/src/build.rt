@@ -1,7 +1,7 @@
 //! The building and the signing of a response into memory of its own.
 
 ghost use Rattle.std.specs.Prelude.{◌≡◌, [], IfOk};
-ghost use Rattle.stun_types.specs.IntegrityAlgorithms.{Sha1, Sha256};
+ghost use Rattle.stun_types.specs.IntegrityAlgorithms.{Sha1, Sha256, Sha512};
 ghost use Rattle.stun_types.specs.Adding.{IsBegun};
 ghost use Rattle.stun_types.specs.Text.{message_text};
 ghost use Rattle.stun_bench.specs.Allocated.{BeginsResponse, WritesOut, allocated_text, marked_text, signed_text};
@@ -17,7 +17,7 @@ use stun_types::message::{
 use stun_types::prelude::MessageWriteExt;
 
 /// For how many bytes a writer has room at first: those of a signed message with short texts.
-pub(crate) const ROOM: usize = 128;
+pub(crate) const ROOM: usize = 160;
 
 /// Writes the success response to an ALLOCATE of this number to the front of `out`: XOR-RELAYED-ADDRESS,
 /// LIFETIME, XOR-MAPPED-ADDRESS and SOFTWARE. Answers how many bytes it has; 0, with nothing written,
@@ -74,6 +74,23 @@ pub extern "C" fn stun_bench_sign_sha256(
         (signed_text Sha256 password.now told.now number software.now) out.old out.new result }
 {
     let algorithm = IntegrityAlgorithm::Sha256;
+    sign(alloc, password, algorithm, told, number, software, out)
+}
+
+/// The same with a MESSAGE-INTEGRITY-SHA512.
+#[unsafe(no_mangle)]
+pub extern "C" fn stun_bench_sign_sha512(
+    alloc: Global,
+    password: &[u8],
+    told: &Allocation,
+    number: u64,
+    software: &[u8],
+    out: &mut [u8],
+) -> usize
+    ensures { WritesOut
+        (signed_text Sha512 password.now told.now number software.now) out.old out.new result }
+{
+    let algorithm = IntegrityAlgorithm::Sha512;
     sign(alloc, password, algorithm, told, number, software, out)
 }
 

@@ -3,13 +3,14 @@
 ghost use Rattle.std.specs.Prelude.{◌≡◌};
 ghost use Rattle.sha1.specs.Sha1.{sha1};
 ghost use Rattle.sha2.specs.Sha256.{sha256};
+ghost use Rattle.sha2.specs.Sha512.{sha512};
 ghost use Rattle.byteorder.specs.Endian.{big_number};
 ghost use Rattle.stun_types.specs.Crc.{crc32};
 ghost use Rattle.stun_types.specs.Fingerprints.{fingerprint_value};
 
 use byteorder::{BigEndian, ByteOrder};
 use sha1::Sha1;
-use sha2::{Digest, Sha256};
+use sha2::{Digest, Sha256, Sha512};
 use stun_types::attribute::Fingerprint;
 use stun_types_digest::crc::Crc32;
 
@@ -29,6 +30,14 @@ pub struct Sha256Digest {
     pub bytes: [u8; 32],
 }
 
+/// A SHA-512 digest.
+#[repr(C)]
+#[derive(Clone, Copy, Debug)]
+pub struct Sha512Digest {
+    /// Its 64 bytes.
+    pub bytes: [u8; 64],
+}
+
 /// Writes the SHA-1 of a text.
 #[unsafe(no_mangle)]
 pub extern "C" fn stun_bench_sha1(text: &[u8], digest: &mut Sha1Digest)
@@ -43,6 +52,14 @@ pub extern "C" fn stun_bench_sha256(text: &[u8], digest: &mut Sha256Digest)
     ensures { digest.new.bytes ≡ sha256 text.now }
 {
     digest.bytes = Sha256::digest(text);
+}
+
+/// Writes the SHA-512 of a text.
+#[unsafe(no_mangle)]
+pub extern "C" fn stun_bench_sha512(text: &[u8], digest: &mut Sha512Digest)
+    ensures { digest.new.bytes ≡ sha512 text.now }
+{
+    digest.bytes = Sha512::digest(text);
 }
 
 /// The CRC-32 of a text, of which FINGERPRINT is made (RFC 8489, section 14.7).

@@ -27,13 +27,7 @@ pub extern "C" fn stun_bench_validate_all_sha1(
     messages: &[u8],
     size: usize,
 ) -> usize {
-    match text_of_password(password) {
-        Some(text) => {
-            let key = IntegrityKey::short_term(text, IntegrityAlgorithm::Sha1);
-            validated(&key, messages, size)
-        }
-        None => 0,
-    }
+    validate_all(password, IntegrityAlgorithm::Sha1, messages, size)
 }
 
 /// The same by SHA-256.
@@ -43,13 +37,17 @@ pub extern "C" fn stun_bench_validate_all_sha256(
     messages: &[u8],
     size: usize,
 ) -> usize {
-    match text_of_password(password) {
-        Some(text) => {
-            let key = IntegrityKey::short_term(text, IntegrityAlgorithm::Sha256);
-            validated(&key, messages, size)
-        }
-        None => 0,
-    }
+    validate_all(password, IntegrityAlgorithm::Sha256, messages, size)
+}
+
+/// The same by SHA-512.
+#[unsafe(no_mangle)]
+pub extern "C" fn stun_bench_validate_all_sha512(
+    password: &[u8],
+    messages: &[u8],
+    size: usize,
+) -> usize {
+    validate_all(password, IntegrityAlgorithm::Sha512, messages, size)
 }
 
 /// Writes a response to the front of `out` for each of these numbers, and signs it by SHA-1 under the key
@@ -63,13 +61,8 @@ pub extern "C" fn stun_bench_sign_all_sha1(
     software: &[u8],
     out: &mut [u8],
 ) -> usize {
-    match text_of_password(password) {
-        Some(text) => {
-            let key = IntegrityKey::short_term(text, IntegrityAlgorithm::Sha1);
-            signed(&key, told, numbers, software, out)
-        }
-        None => 0,
-    }
+    let algorithm = IntegrityAlgorithm::Sha1;
+    sign_all(password, algorithm, told, numbers, software, out)
 }
 
 /// The same by SHA-256.
@@ -81,9 +74,53 @@ pub extern "C" fn stun_bench_sign_all_sha256(
     software: &[u8],
     out: &mut [u8],
 ) -> usize {
+    let algorithm = IntegrityAlgorithm::Sha256;
+    sign_all(password, algorithm, told, numbers, software, out)
+}
+
+/// The same by SHA-512.
+#[unsafe(no_mangle)]
+pub extern "C" fn stun_bench_sign_all_sha512(
+    password: &[u8],
+    told: &Allocation,
+    numbers: &[u8],
+    software: &[u8],
+    out: &mut [u8],
+) -> usize {
+    let algorithm = IntegrityAlgorithm::Sha512;
+    sign_all(password, algorithm, told, numbers, software, out)
+}
+
+/// How many of the messages of this size validate by an algorithm under the key that a password makes; 0
+/// where the password is not UTF-8.
+fn validate_all(
+    password: &[u8],
+    algorithm: IntegrityAlgorithm,
+    messages: &[u8],
+    size: usize,
+) -> usize {
     match text_of_password(password) {
         Some(text) => {
-            let key = IntegrityKey::short_term(text, IntegrityAlgorithm::Sha256);
+            let key = IntegrityKey::short_term(text, algorithm);
+            validated(&key, messages, size)
+        }
+        None => 0,
+    }
+}
+
+/// How many bytes are written of the responses of these numbers, signed by an algorithm under the key that
+/// a password makes; 0 where the password is not UTF-8.
+fn sign_all(
+    password: &[u8],
+    algorithm: IntegrityAlgorithm,
+    told: &Allocation,
+    numbers: &[u8],
+    software: &[u8],
+    out: &mut [u8],
+) -> usize {
+    match text_of_password(password) {
+        Some(text) => {
+            let key = IntegrityKey::short_term(text, algorithm);
             signed(&key, told, numbers, software, out)
         }
         None => 0,

@@ -74,8 +74,8 @@ pub(crate) fn add_text<W: MessageWrite>(
     added
 }
 
-/// Adds the MESSAGE-INTEGRITY under a key to the response, or the MESSAGE-INTEGRITY-SHA256, and its
-/// FINGERPRINT. Refused as an add is.
+/// Adds the integrity attribute of a key's algorithm to the response, and its FINGERPRINT. Refused as an
+/// add is.
 pub(crate) fn mark_response<W: MessageWrite>(
     writer: &mut W,
     key: &IntegrityKey<'_>,

@@ -2,7 +2,7 @@
 
 ghost use Rattle.std.specs.Prelude.{◌≡◌, ◌↔◌, ℕ, List, IsTrue, MatchOption, false};
 ghost use Rattle.std.specs.Str.{IsUtf8};
-ghost use Rattle.stun_types.specs.IntegrityAlgorithms.{Sha1, Sha256};
+ghost use Rattle.stun_types.specs.IntegrityAlgorithms.{Sha1, Sha256, Sha512};
 ghost use Rattle.stun_types.specs.Integrity.{IsSigned};
 
 use crate::key::text_of_password;
@@ -39,6 +39,17 @@ pub extern "C" fn stun_bench_validate_sha256(password: &[u8], bytes: &[u8]) -> A
         × (result.holds ≡ false) }
 {
     told(validates(password, bytes, IntegrityAlgorithm::Sha256))
+}
+
+/// The same of a MESSAGE-INTEGRITY-SHA512.
+#[unsafe(no_mangle)]
+pub extern "C" fn stun_bench_validate_sha512(password: &[u8], bytes: &[u8]) -> Answer
+    ensures known { IsTrue result.known → (IsTrue result.holds
+        ↔ ((text : List ℕ) × IsSigned bytes.now password.now Sha512 text)) }
+    ensures unknown { result.known ≡ false → (¬ IsUtf8 password.now)
+        × (result.holds ≡ false) }
+{
+    told(validates(password, bytes, IntegrityAlgorithm::Sha512))
 }
 
 /// Whether bytes are a message that shows the integrity attribute of an algorithm with the right

@@ -4,7 +4,7 @@ use program_lines::lower_hex::write_hex;
 use std::alloc::Global;
 use stun_types::attribute::{
     Attribute, AttributeStaticType, Fingerprint, MessageIntegrity, MessageIntegritySha256,
-    RawAttribute,
+    MessageIntegritySha512, RawAttribute,
 };
 use stun_types::message::{
     IntegrityAlgorithm, Message, MessageHeader, MessageIntegrityCredentials, StunParseError,
@@ -114,6 +114,7 @@ fn push_integrity(
     for (atype, algorithm) in [
         (MessageIntegrity::TYPE, IntegrityAlgorithm::Sha1),
         (MessageIntegritySha256::TYPE, IntegrityAlgorithm::Sha256),
+        (MessageIntegritySha512::TYPE, IntegrityAlgorithm::Sha512),
     ] {
         if message.has_attribute(atype) {
             let key = credentials.make_key(algorithm);

@@ -16,7 +16,7 @@ neither : (a b : Bool) → (a || b) ≡ false → (a ≡ false) × (b ≡ false)
 neither true b h = absurd (Prim.cc h)
 neither false b h = (refl, h)
 
-others : (a b : IntegrityAlgorithm) → is_same_algorithm a b ≡ false → is_same_algorithm b a ≡ false
+pub others : (a b : IntegrityAlgorithm) → is_same_algorithm a b ≡ false → is_same_algorithm b a ≡ false
 others a b h = ne_eqb (strength b) (strength a) (λ same. eqb-false (strength a) (strength b) h (sym same))
 
 -- no algorithm is one that is put behind them
@@ -25,7 +25,7 @@ all_others x a [] all h = (h, tt)
 all_others x a (y ∷ xs) all h = (all.0, all_others x a xs all.1 h)
 
 -- another algorithm behind some that are distinct
-more_distinct : (xs : List IntegrityAlgorithm) (a : IntegrityAlgorithm) → IsDistinct is_same_algorithm xs → list_any (is_same_algorithm a) xs ≡ false → IsDistinct is_same_algorithm (xs ++ a ∷ [])
+pub more_distinct : (xs : List IntegrityAlgorithm) (a : IntegrityAlgorithm) → IsDistinct is_same_algorithm xs → list_any (is_same_algorithm a) xs ≡ false → IsDistinct is_same_algorithm (xs ++ a ∷ [])
 unfolding IsDistinct
 more_distinct [] a d h = (tt, tt)
 more_distinct (x ∷ xs) a d h =
@@ -51,7 +51,7 @@ no_four x y z w a b c d e f g h i j k l m n = omega arith
 apart : (a b : IntegrityAlgorithm) → is_same_algorithm a b ≡ false → strength a ≢ strength b
 apart a b h = eqb-false (strength a) (strength b) h
 
-few : (xs : List IntegrityAlgorithm) → IsDistinct is_same_algorithm xs → length xs ≤ 3
+pub few : (xs : List IntegrityAlgorithm) → IsDistinct is_same_algorithm xs → length xs ≤ 3
 unfolding IsDistinct
 few [] d = omega arith
 few (x ∷ []) d = omega arith

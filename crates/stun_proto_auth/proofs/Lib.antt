@@ -1,3 +1,4 @@
+pub mod Adding
 pub mod NonceLemmas
 pub mod Keeping
 -- What stands above this crate has these through it.

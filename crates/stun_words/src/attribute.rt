@@ -8,9 +8,9 @@ use std::convert::TryFrom;
 use std::net::SocketAddr;
 use stun_types::attribute::{
     AlternateDomain, AlternateServer, AttributeFromRaw, AttributeStaticType, AttributeType,
-    ErrorCode, Fingerprint, MessageIntegrity, MessageIntegritySha256, Nonce, PasswordAlgorithm,
-    PasswordAlgorithmValue, PasswordAlgorithms, RawAttribute, Realm, Software, UnknownAttributes,
-    Userhash, Username, XorMappedAddress, text_of,
+    ErrorCode, Fingerprint, MessageIntegrity, MessageIntegritySha256, MessageIntegritySha512,
+    Nonce, PasswordAlgorithm, PasswordAlgorithmValue, PasswordAlgorithms, RawAttribute, Realm,
+    Software, UnknownAttributes, Userhash, Username, XorMappedAddress, text_of,
 };
 use stun_types::message::{StunParseError, TransactionId};
 use stun_types::{Names, NoMemory};
@@ -205,6 +205,9 @@ fn push_digest(
         }
         MessageIntegritySha256::TYPE => {
             let _ = MessageIntegritySha256::try_from(raw)?;
+        }
+        MessageIntegritySha512::TYPE => {
+            let _ = MessageIntegritySha512::try_from(raw)?;
         }
         Userhash::TYPE => {
             let _ = Userhash::try_from(raw)?;

@@ -4,8 +4,8 @@ use crate::attribute::{push_hex, push_value};
 use crate::names::class_name;
 use std::alloc::{AllocError, Global};
 use stun_types::attribute::{
-    AttributeStaticType, ErrorCode, MessageIntegrity, MessageIntegritySha256, RawAttribute, Realm,
-    UnknownAttributes, Username,
+    AttributeStaticType, ErrorCode, MessageIntegrity, MessageIntegritySha256,
+    MessageIntegritySha512, RawAttribute, Realm, UnknownAttributes, Username,
 };
 use stun_types::message::{Message, TransactionId};
 use stun_types::{Names, NoMemory};
@@ -58,10 +58,7 @@ fn push_message(
             push_value(alloc, text, &raw, message.transaction_id())?;
         }
     }
-    if let Some(how) = signed_how(message) {
-        write!(text, "\n{how}")?;
-    }
-    Ok(())
+    push_signed(text, message)
 }
 
 /// Appends the first digits of a transaction ID.
@@ -71,17 +68,21 @@ fn push_digits(alloc: Global, text: &mut String, number: TransactionId) -> Resul
     text.push_str(number.as_str().get(from..to).unwrap_or(""))
 }
 
-/// By which algorithms a message is signed, by the integrity attributes that it shows. None where it shows
-/// none.
-fn signed_how(message: &Message<'_>) -> Option<&'static str> {
-    let by_sha1 = message.has_attribute(MessageIntegrity::TYPE);
-    let by_sha256 = message.has_attribute(MessageIntegritySha256::TYPE);
-    match (by_sha1, by_sha256) {
-        (true, true) => Some("signed by SHA-1 and SHA-256"),
-        (true, false) => Some("signed by SHA-1"),
-        (false, true) => Some("signed by SHA-256"),
-        (false, false) => None,
+/// Appends by which algorithms a message is signed, by the integrity attributes that it shows. Nothing is
+/// appended where it shows none.
+fn push_signed(text: &mut String, message: &Message<'_>) -> Result<(), NoMemory> {
+    let mut before = "\nsigned by ";
+    for (atype, name) in [
+        (MessageIntegrity::TYPE, "SHA-1"),
+        (MessageIntegritySha256::TYPE, "SHA-256"),
+        (MessageIntegritySha512::TYPE, "SHA-512"),
+    ] {
+        if message.has_attribute(atype) {
+            write!(text, "{before}{name}")?;
+            before = " and ";
+        }
     }
+    Ok(())
 }
 
 /// Whether an attribute is shown.

@@ -76,5 +76,6 @@ pub fn algorithm_name(algorithm: IntegrityAlgorithm) -> &'static str {
     match algorithm {
         IntegrityAlgorithm::Sha1 => "Sha1",
         IntegrityAlgorithm::Sha256 => "Sha256",
+        IntegrityAlgorithm::Sha512 => "Sha512",
     }
 }

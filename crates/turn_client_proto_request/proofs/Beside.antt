@@ -3,7 +3,7 @@
 use Rattle.std.proofs.Common.{◌≡◌, ℕ, Bool, true, false, eqb, List, [], ◌∷◌, ◌++◌, Option, Some, None, refl}
 use Rattle.std.specs.List.{AllByRecursion, filter, find, flat_map}
 use Rattle.stun_types.specs.Attributes.{Attr}
-use Rattle.stun_types.specs.IntegrityAlgorithms.{IntegrityAlgorithm, Sha1, Sha256}
+use Rattle.stun_types.specs.IntegrityAlgorithms.{IntegrityAlgorithm, Sha1, Sha256, Sha512}
 use Rattle.stun_types.specs.MessageClasses.{Request}
 use Rattle.stun_types.specs.Signing.{signature}
 use Rattle.stun_types.specs.declared.family.AddressFamily.{AddressFamily}
@@ -119,3 +119,4 @@ pub signature_other : (algorithm : IntegrityAlgorithm) (key text : List ℕ) →
 unfolding signature
 signature_other Sha1 key text = record { transport = refl; relayed = refl; lifetime = refl; peer = refl; channel = refl; connection = refl }
 signature_other Sha256 key text = record { transport = refl; relayed = refl; lifetime = refl; peer = refl; channel = refl; connection = refl }
+signature_other Sha512 key text = record { transport = refl; relayed = refl; lifetime = refl; peer = refl; channel = refl; connection = refl }

@@ -10,7 +10,7 @@ use Rattle.stun_types.specs.Calls.{Integrity, Ordinary, attributes_after, attrib
 use Rattle.stun_types.specs.Credentials.{Key, NameAndPassword}
 use Rattle.stun_types.specs.Entries.{algorithm_read_refusal, algorithms_read_refusal, entry, number_told}
 use Rattle.stun_types.specs.Integrity.{algorithm_of}
-use Rattle.stun_types.specs.IntegrityAlgorithms.{IntegrityAlgorithm, Sha1, Sha256}
+use Rattle.stun_types.specs.IntegrityAlgorithms.{IntegrityAlgorithm, Sha1, Sha256, Sha512}
 use Rattle.stun_types.specs.MessageValidation.{last_algorithm}
 use Rattle.stun_types.specs.ParseErrors.{StunParseError}
 use Rattle.stun_types.specs.PasswordAlgorithmNumbers as numbers
@@ -146,17 +146,25 @@ tail_is true name hash realm nonce None Sha1 key text =
     record { seal = refl; username = refl; user_hash = refl; told_realm = refl; told_nonce = refl; told_list = refl; told_choice = refl }
 tail_is true name hash realm nonce None Sha256 key text =
     record { seal = refl; username = refl; user_hash = refl; told_realm = refl; told_nonce = refl; told_list = refl; told_choice = refl }
+tail_is true name hash realm nonce None Sha512 key text =
+    record { seal = refl; username = refl; user_hash = refl; told_realm = refl; told_nonce = refl; told_list = refl; told_choice = refl }
 tail_is true name hash realm nonce (Some list) Sha1 key text =
     record { seal = refl; username = refl; user_hash = refl; told_realm = refl; told_nonce = refl; told_list = refl; told_choice = refl }
 tail_is true name hash realm nonce (Some list) Sha256 key text =
+    record { seal = refl; username = refl; user_hash = refl; told_realm = refl; told_nonce = refl; told_list = refl; told_choice = refl }
+tail_is true name hash realm nonce (Some list) Sha512 key text =
     record { seal = refl; username = refl; user_hash = refl; told_realm = refl; told_nonce = refl; told_list = refl; told_choice = refl }
 tail_is false name hash realm nonce None Sha1 key text =
     record { seal = refl; username = refl; user_hash = refl; told_realm = refl; told_nonce = refl; told_list = refl; told_choice = refl }
 tail_is false name hash realm nonce None Sha256 key text =
     record { seal = refl; username = refl; user_hash = refl; told_realm = refl; told_nonce = refl; told_list = refl; told_choice = refl }
+tail_is false name hash realm nonce None Sha512 key text =
+    record { seal = refl; username = refl; user_hash = refl; told_realm = refl; told_nonce = refl; told_list = refl; told_choice = refl }
 tail_is false name hash realm nonce (Some list) Sha1 key text =
     record { seal = refl; username = refl; user_hash = refl; told_realm = refl; told_nonce = refl; told_list = refl; told_choice = refl }
 tail_is false name hash realm nonce (Some list) Sha256 key text =
+    record { seal = refl; username = refl; user_hash = refl; told_realm = refl; told_nonce = refl; told_list = refl; told_choice = refl }
+tail_is false name hash realm nonce (Some list) Sha512 key text =
     record { seal = refl; username = refl; user_hash = refl; told_realm = refl; told_nonce = refl; told_list = refl; told_choice = refl }
 
 -- a request's own attributes, what the client adds, and the integrity attribute
@@ -277,6 +285,7 @@ module _ (client : Client) (request : TurnRequest) (number : ℕ) (s : Standing)
       choice_read None choice = refl
       choice_read (Some list) Sha1 = refl
       choice_read (Some list) Sha256 = refl
+      choice_read (Some list) Sha512 = refl
 
 pub claim_law : (client : Client) (request : TurnRequest) (number : ℕ) (s : Standing) → HasShortTexts client → HasReadTexts client → IsLawfulRequest request → number < 2 ^ 96 → is_signed request ≡ true → standing_of client ≡ Some s
     → claimed (request_text client request number) ≡ own_claim client.anonymous_username s

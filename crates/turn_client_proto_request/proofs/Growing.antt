@@ -28,7 +28,7 @@ small_room draft a o short small = open_room draft (attr_size a) o (let s = smal
 plain_ends_none : (kind : ℕ) (ended : Ended) → rank kind ≡ 0 → ended_by ended kind ≡ ended
 plain_ends_none kind ended plain =
     let none = none_of kind plain in
-    rw (none.integrity, none.sha256, none.fingerprint) refl
+    rw (none.integrity, none.sha256, none.sha512, none.fingerprint) refl
 
 -- an ordinary attribute leaves it open
 pub open_added : (a : Attr) (draft : Draft) → IsOpen draft → rank a.kind ≡ 0 → length draft.bytes + attr_size a ≤ greatest_size → IsOpen (added a draft)

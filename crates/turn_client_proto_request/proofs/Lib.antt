@@ -1,4 +1,3 @@
-pub mod Algorithms
 pub mod Answering
 pub mod Beside
 pub mod Claims

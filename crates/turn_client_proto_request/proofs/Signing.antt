@@ -8,7 +8,7 @@ use Rattle.stun_types.specs.Adding.{add_refusal}
 use Rattle.stun_types.specs.Calls.{AreAccepted, IsOrdinary, after_calls}
 use Rattle.stun_types.specs.Credentials.{Key, NameAndPassword}
 use Rattle.stun_types.specs.Drafts.{Draft}
-use Rattle.stun_types.specs.IntegrityAlgorithms.{IntegrityAlgorithm, Sha1, Sha256}
+use Rattle.stun_types.specs.IntegrityAlgorithms.{IntegrityAlgorithm, Sha1, Sha256, Sha512}
 use Rattle.stun_types.specs.MessageClasses.{Request}
 use Rattle.stun_types.specs.Outcomes.{added}
 use Rattle.stun_types.specs.Registry.{greatest_size}
@@ -70,6 +70,7 @@ signable : (draft : Draft) → IsOpen draft → length draft.bytes ≤ 65000 →
 unfolding signing_refusal order_refusal
 signable draft o short Sha1 = rw (o.ended, o.limit, le-ltb greatest_size (length draft.bytes + 24) (omega (arith, short))) refl
 signable draft o short Sha256 = rw (o.ended, o.limit, le-ltb greatest_size (length draft.bytes + 36) (omega (arith, short))) refl
+signable draft o short Sha512 = rw (o.ended, o.limit, le-ltb greatest_size (length draft.bytes + 68) (omega (arith, short))) refl
 
 signer_accepted : (draft : Draft) (signer : Option Key) → IsOpen draft → length draft.bytes ≤ 65000 → signer_refusal draft signer ≡ None
 signer_accepted draft None o short = refl

@@ -1,6 +1,6 @@
 //! The client's side of authentication, whose texts are short enough to be written.
 
-ghost use Rattle.std.specs.Prelude.{◌≡◌, ◌≢◌, ◌≤◌, [], ◌∷◌, IfOk, None, true, length};
+ghost use Rattle.std.specs.Prelude.{◌≡◌, ◌≢◌, ◌≤◌, [], IfOk, None, true, length};
 ghost use Rattle.std.specs.List.{IsDistinct};
 ghost use Rattle.turn_client_proto_api.specs.SupportedAlgorithms.{is_same_algorithm};
 ghost use Rattle.stun_types.specs.Grammar.{number_at, refusal};
@@ -41,21 +41,6 @@ impl Model for Signer {
     ghost invariant = { λ s. HasShortTexts s.auth };
 }
 
-/// Supports the first of these algorithms, too, where there is one.
-fn add_algorithm(
-    auth: &mut LongTermClientAuth,
-    first: IntegrityAlgorithm,
-    others: &[IntegrityAlgorithm],
-)
-    requires only { auth.old.algorithms ≡ first ∷ [] }
-    requires distinct { IsDistinct is_same_algorithm (first ∷ others.now) }
-    ensures { auth.new ≡ record auth.old { algorithms = first ∷ others.now } }
-{
-    if let Some((second, _)) = others.split_first() {
-        auth.add_supported_integrity(*second);
-    }
-}
-
 /// Supports these algorithms alone, in this order.
 fn set_algorithms(auth: &mut LongTermClientAuth, algorithms: &[IntegrityAlgorithm])
     requires never_empty { algorithms.now ≢ [] }
@@ -64,7 +49,11 @@ fn set_algorithms(auth: &mut LongTermClientAuth, algorithms: &[IntegrityAlgorith
 {
     if let Some((first, others)) = algorithms.split_first() {
         auth.set_supported_integrity(*first);
-        add_algorithm(auth, *first, others);
+        let mut left = others;
+        while let Some((algorithm, rest)) = left.split_first() {
+            auth.add_supported_integrity(*algorithm);
+            left = rest;
+        }
     }
 }
 

@@ -8,7 +8,7 @@ use Rattle.std.specs.Ordering.{is_eq, nat_cmp}
 use Rattle.std.specs.declared.net.socket_addr.SocketAddr.{SocketAddr}
 use Rattle.stun_types.specs.Attributes.{kind_at}
 use Rattle.stun_types.specs.Grammar.{number_at}
-use Rattle.stun_types.specs.IntegrityAlgorithms.{IntegrityAlgorithm, Sha1, Sha256}
+use Rattle.stun_types.specs.IntegrityAlgorithms.{IntegrityAlgorithm, Sha1, Sha256, Sha512}
 use Rattle.stun_types.specs.MessageClasses.{MessageClass, Request, Indication, Success, Error}
 use Rattle.stun_types.specs.Strength.{is_stronger}
 use Rattle.stun_types.specs.Types.{class_of, is_response_class}
@@ -66,8 +66,13 @@ challenges_respond bytes told is = by (class_of (kind_at bytes)) is
 as_strong : (one other : IntegrityAlgorithm) → is_stronger one other ≡ false → is_stronger other one ≡ false → one ≡ other
 as_strong Sha1 Sha1 no_less no_more = refl
 as_strong Sha256 Sha256 no_less no_more = refl
+as_strong Sha512 Sha512 no_less no_more = refl
 as_strong Sha1 Sha256 no_less no_more = absurd (Prim.cc no_more)
+as_strong Sha1 Sha512 no_less no_more = absurd (Prim.cc no_more)
+as_strong Sha256 Sha512 no_less no_more = absurd (Prim.cc no_more)
 as_strong Sha256 Sha1 no_less no_more = absurd (Prim.cc no_less)
+as_strong Sha512 Sha1 no_less no_more = absurd (Prim.cc no_less)
+as_strong Sha512 Sha256 no_less no_more = absurd (Prim.cc no_less)
 
 -- a challenge is answered by one algorithm alone
 pub one_choice : (config : Config) (told : Told) (one other : IntegrityAlgorithm) → IsAnsweredBy config told one → IsAnsweredBy config told other → one ≡ other

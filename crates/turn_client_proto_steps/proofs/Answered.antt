@@ -6,7 +6,7 @@ use Rattle.stun_types.specs.Credentials.{NameAndPassword}
 use Rattle.stun_types.specs.Grammar.{refusal, shown}
 use Rattle.stun_types.specs.Headers.{AreBytes}
 use Rattle.stun_types.specs.Integrity.{algorithm_of, attribute_kind}
-use Rattle.stun_types.specs.IntegrityAlgorithms.{IntegrityAlgorithm, Sha1, Sha256}
+use Rattle.stun_types.specs.IntegrityAlgorithms.{IntegrityAlgorithm, Sha1, Sha256, Sha512}
 use Rattle.stun_types.specs.MessageClasses.{Success}
 use Rattle.stun_types.specs.Registry.{header_size}
 use Rattle.turn_client_proto_data.specs.Hearing.{IsHeardAt}
@@ -102,6 +102,7 @@ in_numbered (a ∷ all) offset entry (inr later) = inr (in_numbered all (offset 
 of_kind : (algorithm : IntegrityAlgorithm) → algorithm_of (attribute_kind algorithm) ≡ None → ⊥
 of_kind Sha1 none = Prim.cc none
 of_kind Sha256 none = Prim.cc none
+of_kind Sha512 none = Prim.cc none
 
 pub none_signed : (account : NameAndPassword) (bytes : List ℕ) → ShowNoIntegrity bytes → IsSignedFor account bytes → ⊥
 none_signed account bytes none is =

@@ -23,7 +23,7 @@ pub record IsSignedFor (account : NameAndPassword) (bytes : List ℕ) : Type 0 w
   pub text : List ℕ
   pub valid : AreValid bytes key algorithm text
 
--- no attribute that the bytes show is a MESSAGE-INTEGRITY or a MESSAGE-INTEGRITY-SHA256
+-- no attribute that the bytes show is a MESSAGE-INTEGRITY, a MESSAGE-INTEGRITY-SHA256 or a MESSAGE-INTEGRITY-SHA512
 abbrev pub ShowNoIntegrity : List ℕ → Type 0
 ShowNoIntegrity bytes = (a : Attr) → IsIn a (shown bytes) → algorithm_of a.kind ≡ None
 

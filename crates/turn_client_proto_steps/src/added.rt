@@ -42,8 +42,8 @@ pub fn answers_alone_add()
 
 /// A message that is not signed, or is signed wrongly, adds nothing: where it validates under no key of
 /// the client's own name and password, in whichever realm and by whichever algorithm, all that is kept
-/// afterwards was kept before (RFC 8489, section 9.2.5). One that shows neither a MESSAGE-INTEGRITY nor a
-/// MESSAGE-INTEGRITY-SHA256 validates under none (`unsigned`).
+/// afterwards was kept before (RFC 8489, section 9.2.5). One that shows no MESSAGE-INTEGRITY, no
+/// MESSAGE-INTEGRITY-SHA256 and no MESSAGE-INTEGRITY-SHA512 validates under none (`unsigned`).
 pub fn unsigned_adds_nothing()
     ensures heard { (c : Client) (bytes : List ℕ) (now : ℕ) (handled : Bool) (new : Protocol)
         → IsSound c

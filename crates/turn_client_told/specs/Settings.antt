@@ -1,14 +1,14 @@
 -- The settings of a client, as C tells them.
-use Rattle.std.specs.Prelude.{ℕ, ◌*◌, ◌==◌, nat_lt, ◌||◌, List, [], ◌∷◌, Option, Some, None, if◌then◌else◌}
+use Rattle.std.specs.Prelude.{ℕ, ◌*◌, ◌/◌, ◌%◌, ◌==◌, nat_lt, Bool, ◌||◌, List, [], ◌∷◌, filter, Option, Some, None, if◌then◌else◌}
 use Rattle.stun_types.specs.Credentials.{NameAndPassword}
-use Rattle.stun_types.specs.IntegrityAlgorithms.{IntegrityAlgorithm, Sha256}
+use Rattle.stun_types.specs.IntegrityAlgorithms.{IntegrityAlgorithm, Sha1, Sha256, Sha512}
+use Rattle.stun_types.specs.Strength.{all_algorithms}
 use Rattle.stun_types.specs.declared.family.AddressFamily.{AddressFamily}
 use Rattle.stun_types.specs.declared.family.AddressFamily.TheVariants.{IPV6}
 use Rattle.stun_types.specs.declared.transport.TransportType.{TransportType}
 use Rattle.stun_types.specs.declared.transport.TransportType.TheVariants.{Udp, Tcp}
 use Rattle.stun_proto.specs.Features.{Feature, Required, Disabled}
 use Rattle.stun_proto.specs.Schedule.{Waits}
-use Rattle.stun_proto.specs.SupportedAlgorithms.{with_algorithm}
 use Rattle.turn_client_proto_api.specs.Config.{Config, default_config}
 use Rattle.turn_client_proto_api.specs.Families.{with_family}
 use Rattle.turn_client_told.specs.Addresses.{transport_of}
@@ -26,16 +26,31 @@ both_of _ _ = None
 
 -- the transports, where each number of the settings names something
 unfoldable pub transports_of : TurnSettings → Option (TransportType × TransportType)
-transports_of s = if nat_lt 3 s.families || (nat_lt 3 s.integrity || nat_lt 2 s.anonymous) then None
+transports_of s = if nat_lt 3 s.families || (nat_lt 7 s.integrity || nat_lt 2 s.anonymous) then None
     else both_of (transport_set s.transport) (transport_set s.peers)
 
 -- what is asked for by the bits of families: at first IPv4
 abbrev pub families_of : ℕ → List AddressFamily → List AddressFamily
 families_of bits first = if bits == 2 then IPV6 ∷ [] else if bits == 3 then with_family first IPV6 else first
 
--- what is supported by the bits of algorithms: at first HMAC-SHA1
+-- whether a number has a bit
+abbrev pub has_bit : ℕ → ℕ → Bool
+has_bit number bit = number / bit % 2 == 1
+
+-- the bit of an algorithm among algorithms
+abbrev pub bit_of : IntegrityAlgorithm → ℕ
+bit_of Sha1 = 1
+bit_of Sha256 = 2
+bit_of Sha512 = 4
+
+-- some algorithms, or others where there are none
+abbrev pub or_others : List IntegrityAlgorithm → List IntegrityAlgorithm → List IntegrityAlgorithm
+or_others [] others = others
+or_others (some ∷ rest) _ = some ∷ rest
+
+-- what is supported by the bits of algorithms, the weaker first: at first HMAC-SHA1
 abbrev pub algorithms_of : ℕ → List IntegrityAlgorithm → List IntegrityAlgorithm
-algorithms_of bits first = if bits == 2 then Sha256 ∷ [] else if bits == 3 then with_algorithm first Sha256 else first
+algorithms_of bits first = or_others (filter (λ algorithm. has_bit bits (bit_of algorithm)) all_algorithms) first
 
 -- whether the name is hidden: at first where the server can
 abbrev pub anonymous_of : ℕ → Feature → Feature

@@ -1,8 +1,8 @@
 //! The settings of a client, as C tells them.
 
-ghost use Rattle.std.specs.Prelude.{◌≡◌, IfOk, IfSome};
+ghost use Rattle.std.specs.Prelude.{◌≡◌, ◌<◌, IfOk, IfSome};
 ghost use Rattle.stun_types.specs.declared.transport.TransportType.TheVariants.{Udp};
-ghost use Rattle.turn_client_told.specs.Settings.{algorithms_of, anonymous_of, config_of, families_of, transport_set, transports_of, waits_of};
+ghost use Rattle.turn_client_told.specs.Settings.{algorithms_of, anonymous_of, config_of, families_of, has_bit, transport_set, transports_of, waits_of};
 
 use crate::address::{TurnAddress, transport_of};
 use std::alloc::Global;
@@ -16,11 +16,20 @@ use turn_types::TurnCredentials;
 /// The bit of IPv6 among families.
 const FAMILY_IPV6: u32 = 2;
 
+/// The bits of both families.
+const BOTH_FAMILIES: u32 = 3;
+
+/// The bit of HMAC-SHA1 among algorithms.
+const INTEGRITY_SHA1: u32 = 1;
+
 /// The bit of HMAC-SHA256 among algorithms.
 const INTEGRITY_SHA256: u32 = 2;
 
-/// The bits of both of two.
-const BOTH: u32 = 3;
+/// The bit of HMAC-SHA512 among algorithms.
+const INTEGRITY_SHA512: u32 = 4;
+
+/// The bits of all algorithms.
+const ALL_INTEGRITY: u32 = 7;
 
 /// The name is always hidden.
 const ANONYMOUS_REQUIRED: u32 = 1;
@@ -42,7 +51,8 @@ pub struct TurnSettings {
     pub peers: u32,
     /// The families of the relayed addresses that are asked for, as bits: 1 is IPv4, 2 is IPv6.
     pub families: u32,
-    /// The integrity algorithms that are supported, as bits: 1 is HMAC-SHA1, 2 is HMAC-SHA256.
+    /// The integrity algorithms that are supported, as bits: 1 is HMAC-SHA1, 2 is HMAC-SHA256, 4 is
+    /// HMAC-SHA512.
     pub integrity: u32,
     /// Whether the name is hidden: 0 where the server can, 1 always, 2 never.
     pub anonymous: u32,
@@ -75,6 +85,14 @@ fn transport_set(number: u32) -> Option<TransportType>
     }
 }
 
+/// Whether a number has a bit: that is a power of two.
+fn has_bit(number: u32, bit: u32) -> bool
+    requires { 0 < bit }
+    ensures { result ≡ has_bit number bit }
+{
+    number / bit % 2 == 1
+}
+
 impl TurnSettings {
     /// The transports to the server and between that and the peers, where each number of the settings names
     /// something, and over UDP the peers' is UDP.
@@ -83,7 +101,10 @@ impl TurnSettings {
         ensures value { result ≡ transports_of self.now }
         ensures over_udp { IfSome result (λ both. both.0 ≡ Udp → both.1 ≡ Udp) }
     {
-        if self.families > BOTH || self.integrity > BOTH || self.anonymous > ANONYMOUS_DISABLED {
+        if self.families > BOTH_FAMILIES
+            || self.integrity > ALL_INTEGRITY
+            || self.anonymous > ANONYMOUS_DISABLED
+        {
             return None;
         }
         match (transport_set(self.transport)?, transport_set(self.peers)?) {
@@ -125,21 +146,31 @@ impl TurnSettings {
     {
         if self.families == FAMILY_IPV6 {
             config.set_address_family(AddressFamily::IPV6);
-        } else if self.families == BOTH {
+        } else if self.families == BOTH_FAMILIES {
             config.add_address_family(AddressFamily::IPV6);
         }
     }
 
-    /// Sets the algorithms.
+    /// Sets the algorithms: the weakest whose bit is set, and those behind it.
     fn set_integrity(&self, config: &mut TurnConfig)
         ensures { config.new ≡ record config.old {
           algorithms = algorithms_of self.now.integrity config.old.algorithms;
         } }
     {
-        if self.integrity == INTEGRITY_SHA256 {
+        let by_sha256 = has_bit(self.integrity, INTEGRITY_SHA256);
+        let by_sha512 = has_bit(self.integrity, INTEGRITY_SHA512);
+        if has_bit(self.integrity, INTEGRITY_SHA1) {
+            config.set_supported_integrity(IntegrityAlgorithm::Sha1);
+        } else if by_sha256 {
             config.set_supported_integrity(IntegrityAlgorithm::Sha256);
-        } else if self.integrity == BOTH {
+        } else if by_sha512 {
+            config.set_supported_integrity(IntegrityAlgorithm::Sha512);
+        }
+        if by_sha256 {
             config.add_supported_integrity(IntegrityAlgorithm::Sha256);
+        }
+        if by_sha512 {
+            config.add_supported_integrity(IntegrityAlgorithm::Sha512);
         }
     }
 

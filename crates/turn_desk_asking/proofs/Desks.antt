@@ -12,7 +12,7 @@ use Rattle.stun_types.specs.Objections.{error_type}
 use Rattle.stun_types.specs.Types.{class_of, method_of, type_of}
 use Rattle.stun_types.specs.Attributes.{Attr}
 use Rattle.stun_types.specs.Grammar.{refusal, shown}
-use Rattle.stun_types.specs.IntegrityAlgorithms.{Sha1, Sha256}
+use Rattle.stun_types.specs.IntegrityAlgorithms.{Sha1, Sha256, Sha512}
 use Rattle.stun_types.specs.Registry.{bad_request_code, longest_text, realm_kind}
 use Rattle.stun_types.specs.Signing.{signature}
 use Rattle.stun_proto.specs.Challenges.{Told, asks_again, challenge_shown, told_by, told_of}
@@ -209,6 +209,7 @@ failure_signed : (code : ℕ) (algorithm : IntegrityAlgorithm) (key text : List 
 unfolding last_of_kind signature
 failure_signed code Sha1 key text = refl
 failure_signed code Sha256 key text = refl
+failure_signed code Sha512 key text = refl
 
 no_realm_shown : (reply : List ℕ) (all : List Attr) → shown reply ≡ all → last_of_kind realm_kind all ≡ None → challenge_shown reply ≡ None
 unfolding text_told

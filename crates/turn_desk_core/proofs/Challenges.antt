@@ -7,7 +7,7 @@ use Rattle.std.specs.Option.{option_and_then, option_copied, option_map, option_
 use Rattle.std.specs.FinMap as map
 use Rattle.std.specs.declared.net.socket_addr.SocketAddr.{SocketAddr}
 use Rattle.rand_core.specs.Stream.{Stream}
-use Rattle.stun_types.specs.IntegrityAlgorithms.{IntegrityAlgorithm, Sha1, Sha256}
+use Rattle.stun_types.specs.IntegrityAlgorithms.{IntegrityAlgorithm}
 use Rattle.stun_types.specs.MessageClasses.{MessageClass, Error}
 use Rattle.stun_types.specs.Attributes.{Attr, kind_at}
 use Rattle.stun_types.specs.Types.{class_of, method_of, type_of}
@@ -30,6 +30,7 @@ use Rattle.stun_proto.specs.SupportedAlgorithms.{is_same_algorithm, list_of}
 use Rattle.stun_proto.specs.Server.{Client, Server, nonce_at, outcome_at, refreshed, with_outcome}
 use Rattle.stun_proto.specs.ServerAuthErrors.{LongTermServerAuthError}
 use Rattle.stun_proto.specs.ServerSigning.{Party, addition, addition_for, challenge_parts, list_for, party_by_client, party_by_outcome, signing_refusal_for}
+use Rattle.stun_proto_auth.proofs.Keeping.{few as three_at_most}
 use Rattle.stun_proto_sign.proofs.Making.{made_written, parts_accept}
 use Rattle.stun_proto_sign.proofs.Reaching.{reached_end, reached_first, reached_step}
 use Rattle.turn_desk_grant.specs.Replies.{IsReply, failure_attributes}
@@ -97,19 +98,6 @@ failure_room kind number code draft is size small =
 
 -- ---- room for what is added
 
--- of distinct algorithms there are two at most
-two_at_most : (algorithms : List IntegrityAlgorithm) → IsDistinct is_same_algorithm algorithms → length algorithms ≤ 2
-unfolding IsDistinct
-two_at_most [] d = omega arith
-two_at_most (a ∷ []) d = omega arith
-two_at_most (a ∷ b ∷ []) d = omega arith
-two_at_most (Sha1 ∷ Sha1 ∷ c ∷ rest) d = absurd (Prim.cc d.0.0)
-two_at_most (Sha1 ∷ Sha256 ∷ Sha1 ∷ rest) d = absurd (Prim.cc d.0.1.0)
-two_at_most (Sha1 ∷ Sha256 ∷ Sha256 ∷ rest) d = absurd (Prim.cc d.1.0.0)
-two_at_most (Sha256 ∷ Sha1 ∷ Sha1 ∷ rest) d = absurd (Prim.cc d.1.0.0)
-two_at_most (Sha256 ∷ Sha1 ∷ Sha256 ∷ rest) d = absurd (Prim.cc d.0.1.0)
-two_at_most (Sha256 ∷ Sha256 ∷ c ∷ rest) d = absurd (Prim.cc d.0.0)
-
 -- the nonce that is found is short
 nonce_short : (found : Option (Bor (List ℕ))) (nonce : List ℕ) → option_copied found ≡ Some nonce → IfSome found (λ n. length n.now ≤ 763) → length nonce ≤ 763
 nonce_short None nonce is short = absurd (Prim.cc is)
@@ -131,7 +119,7 @@ pub server_fits : (server : Server) (from : SocketAddr) (realm nonce : List ℕ)
     → IfSome found (λ n. length n.now ≤ 763) → algorithms ≡ server.algorithms → IsDistinct is_same_algorithm algorithms
     → algorithms ≢ [] → utf8_refusal realm ≡ None → IfSome found (λ n. utf8_refusal n.now ≡ None) → nonce_at server from ≡ Some nonce → FitsChallenge (unvalidated_party server nonce)
 server_fits server from realm nonce found algorithms realm-is realm-short is short algorithms-are distinct some realm-reads reads has =
-    let few = two_at_most algorithms distinct in
+    let few = three_at_most algorithms distinct in
     record {
       realm = subst (λ (r : List ℕ). length r ≤ 763) realm-is realm-short;
       nonce = nonce_short found nonce (is ∙ has) short;

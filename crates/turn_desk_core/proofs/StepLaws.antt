@@ -6,7 +6,7 @@ use Rattle.std.specs.List.{AllByRecursion}
 use Rattle.std.specs.FinMap as map
 use Rattle.std.specs.declared.net.socket_addr.SocketAddr.{SocketAddr}
 use Rattle.rand_core.specs.Stream.{Stream}
-use Rattle.stun_types.specs.IntegrityAlgorithms.{IntegrityAlgorithm, Sha1, Sha256}
+use Rattle.stun_types.specs.IntegrityAlgorithms.{IntegrityAlgorithm, Sha1, Sha256, Sha512}
 use Rattle.stun_types.specs.MessageClasses.{MessageClass, Success, Error}
 use Rattle.stun_types.specs.Attributes.{Attr, attr_size, kind_at, numbered}
 use Rattle.stun_types.specs.Types.{class_of, is_response_class, method_of, type_of}
@@ -73,6 +73,7 @@ plain_there (a ∷ all) offset (b ∷ before) e behind plain is =
 no_plain : (algorithm : IntegrityAlgorithm) → rank (attribute_kind algorithm) ≡ 0 → ⊥
 no_plain Sha1 h = Prim.cc h
 no_plain Sha256 h = Prim.cc h
+no_plain Sha512 h = Prim.cc h
 
 -- a message of plain attributes validates under no key
 plain_unsigned : (reply : List ℕ) (all : List Attr) → shown reply ≡ all → ArePlain all → IsUnsigned reply
@@ -113,6 +114,7 @@ failure_without : (code : ℕ) (algorithm : IntegrityAlgorithm) (key bytes : Lis
 unfolding signature
 failure_without code Sha1 key bytes = refl
 failure_without code Sha256 key bytes = refl
+failure_without code Sha512 key bytes = refl
 
 -- ---- what is granted
 

@@ -7,7 +7,7 @@ use Rattle.std.specs.declared.net.socket_addr.SocketAddr.{SocketAddr}
 use Rattle.stun_types.specs.Attributes.{Attr}
 use Rattle.stun_types.specs.Calls.{attributes_after, attributes_of}
 use Rattle.stun_types.specs.Integrity.{Validates, algorithm_of}
-use Rattle.stun_types.specs.IntegrityAlgorithms.{IntegrityAlgorithm, Sha1, Sha256}
+use Rattle.stun_types.specs.IntegrityAlgorithms.{IntegrityAlgorithm, Sha1, Sha256, Sha512}
 use Rattle.stun_types.specs.MessageReading.{IsReadAs}
 use Rattle.stun_types.specs.MessageValidation.{last_algorithm}
 use Rattle.stun_types.specs.Types.{class_of, method_of}
@@ -91,7 +91,9 @@ own_choice : (algorithms : List IntegrityAlgorithm) (choice : IntegrityAlgorithm
 own_choice [] choice none among = absurd (Prim.cc among)
 own_choice (Sha1 ∷ []) Sha1 none among = refl
 own_choice (Sha1 ∷ []) Sha256 none among = absurd (Prim.cc among)
+own_choice (Sha1 ∷ []) Sha512 none among = absurd (Prim.cc among)
 own_choice (Sha256 ∷ []) choice none among = absurd (Prim.cc none)
+own_choice (Sha512 ∷ []) choice none among = absurd (Prim.cc none)
 own_choice (a ∷ b ∷ rest) choice none among = absurd (Prim.cc none)
 
 -- what is claimed of algorithms fits

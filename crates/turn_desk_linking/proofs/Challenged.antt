@@ -7,7 +7,7 @@ use Rattle.std.specs.declared.net.socket_addr.SocketAddr.{SocketAddr}
 use Rattle.rand_core.specs.Stream.{Stream}
 use Rattle.stun_types.specs.Attributes.{Attr, kind_at}
 use Rattle.stun_types.specs.Grammar.{number_at, refusal, shown}
-use Rattle.stun_types.specs.IntegrityAlgorithms.{IntegrityAlgorithm, Sha1, Sha256}
+use Rattle.stun_types.specs.IntegrityAlgorithms.{IntegrityAlgorithm, Sha1, Sha256, Sha512}
 use Rattle.stun_types.specs.MessageClasses.{MessageClass, Error, Success}
 use Rattle.stun_types.specs.Objections.{error_attribute}
 use Rattle.stun_types.specs.Signing.{signature}
@@ -55,6 +55,7 @@ signed_failure : (bytes : List ℕ) (code : ℕ) (algorithm : IntegrityAlgorithm
 unfolding last_of_kind text_told signature
 signed_failure bytes code Sha1 key text shows = untold bytes (ap (λ (l : List Attr). told_of (claim_of l)) shows)
 signed_failure bytes code Sha256 key text shows = untold bytes (ap (λ (l : List Attr). told_of (claim_of l)) shows)
+signed_failure bytes code Sha512 key text shows = untold bytes (ap (λ (l : List Attr). told_of (claim_of l)) shows)
 
 no_success : (bytes : List ℕ) → class_of (kind_at bytes) ≡ Success → challenge_shown bytes ≡ None
 no_success bytes is = ap (λ (c : MessageClass). if is_error c && is_challenge_code (code_shown bytes) then told_of (claimed bytes) else None) is

@@ -1,6 +1,7 @@
 -- What a replay keeps from line to line, and what a line makes of it.
 use Rattle.std.specs.Prelude.{◌≡◌, ◌≤◌, ℕ, Bool, true, false, not, ◌&&◌, ◌||◌, List, [], ◌∷◌, ◌++◌, length, Option, Some, None, is_some}
 use Rattle.std.specs.Option.{option_map}
+use Rattle.stun_types.specs.IntegrityAlgorithms.{IntegrityAlgorithm}
 use Rattle.stun_types.specs.declared.transport.TransportType.{TransportType}
 use Rattle.turn_desk_world.specs.Features.{Feature}
 use Rattle.turn_desk_world.specs.State.{State}
@@ -8,7 +9,6 @@ use Rattle.turn_desk_world.specs.declared.answer.Answer.{Answer}
 use Rattle.turn_desk_world.specs.declared.event.Event.{Event}
 use Rattle.turn_desk_world.specs.declared.event.Event.TheVariants.{Call, Draw, ToClient, ToDesk}
 use Rattle.turn_desk_trace.specs.Answer.{named_by}
-use Rattle.turn_desk_trace.specs.declared.setup.Algorithms.{Algorithms}
 use Rattle.turn_desk_trace.specs.Setup.{CanAsk}
 use Rattle.turn_desk_trace.specs.declared.setup.Client.{Client as ClientSetup}
 use Rattle.turn_desk_trace.specs.declared.setup.Setup.{Setup}
@@ -54,7 +54,7 @@ abbrev pub can_set_up : Progress → Setup → Bool
 can_set_up p setup = not (is_some p.world) && can_be_made p setup
 
 -- the desk was made
-abbrev pub IsDeskAdded : Progress → List ℕ → Algorithms → Feature → Progress → Type 0
+abbrev pub IsDeskAdded : Progress → List ℕ → List IntegrityAlgorithm → Feature → Progress → Type 0
 IsDeskAdded p realm algorithms anonymity q =
     (p.desk ≡ None) × (q ≡ record p { desk = Some (desk_of realm algorithms anonymity) })
 

@@ -2,6 +2,7 @@
 use Rattle.std.specs.Prelude.{◌≡◌, ℕ, List, [], Option, Some, None}
 use Rattle.std.specs.Duration.{as_nanos}
 use Rattle.std.specs.FinMap as map
+use Rattle.stun_types.specs.IntegrityAlgorithms.{IntegrityAlgorithm}
 use Rattle.stun_types.specs.declared.transport.TransportType.{TransportType}
 use Rattle.stun_types.specs.declared.transport.TransportType.TheVariants.{Udp, Tcp}
 use Rattle.std.specs.declared.net.socket_addr.SocketAddr.{SocketAddr}
@@ -12,20 +13,19 @@ use Rattle.turn_desk_world.specs.Features.{Feature}
 use Rattle.turn_desk_world.specs.Kept.{Kept, over_udp}
 use Rattle.turn_desk_world.specs.State.{State}
 use Rattle.turn_desk_world.specs.Config.{Config, default_config}
-use Rattle.turn_desk_trace.specs.Setup.{algorithms_in_order, families_in_order}
-use Rattle.turn_desk_trace.specs.declared.setup.Algorithms.{Algorithms}
+use Rattle.turn_desk_trace.specs.Setup.{families_in_order}
 use Rattle.turn_desk_trace.specs.declared.setup.Client.{Client}
 use Rattle.turn_desk_replay.specs.declared.setting.Rto.{Rto}
 
 -- a desk of a realm, which knows no user, has heard of no client and has granted nothing; its nonces stand for an hour
-abbrev pub desk_of : List ℕ → Algorithms → Feature → State
+abbrev pub desk_of : List ℕ → List IntegrityAlgorithm → Feature → State
 desk_of realm algorithms anonymity = record {
   auth = record {
     realm = realm;
     users = map.empty;
     clients = map.empty;
     nonce_expiry = 3_600_000_000_000;
-    algorithms = algorithms_in_order algorithms;
+    algorithms = algorithms;
     anonymous_username = anonymity;
   };
   grants = [];
@@ -55,7 +55,7 @@ config_of over client rto =
     waiting rto (record (default_config (record { username = client.name.now; password = client.password.now })) {
       transport = over;
       families = families_in_order client.families;
-      algorithms = algorithms_in_order client.algorithms;
+      algorithms = client.algorithms;
       anonymous_username = client.anonymity;
     })
 

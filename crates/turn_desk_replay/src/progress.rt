@@ -19,12 +19,12 @@ use stun_types::{NoMemory, TransportType};
 use turn_desk_print::print::answer_line;
 use turn_desk_trace::line::{Line, read_line};
 use turn_desk_trace::named::Named;
-use turn_desk_trace::setup::{Algorithms, Client, MAX_REALM, MAX_USERNAME, Setup};
+use turn_desk_trace::setup::{Client, MAX_REALM, MAX_USERNAME, Setup};
 use turn_desk_world::answer::Answer;
 use turn_desk_world::client::client::TurnClient;
 use turn_desk_world::core_desk::Desk;
 use turn_desk_world::event::Event;
-use turn_desk_world::proto::auth::Feature;
+use turn_desk_world::proto::auth::{Feature, SupportedIntegrity};
 use turn_desk_world::world::World;
 
 /// What a replay keeps from line to line: what the setup lines have made, the world from the first
@@ -124,7 +124,7 @@ impl Progress {
     fn add_desk(
         &mut self,
         realm: &str,
-        algorithms: Algorithms,
+        algorithms: SupportedIntegrity,
         anonymity: Feature,
     ) -> Result<(), LineError>
         requires { length realm.now ≤ MAX_REALM }

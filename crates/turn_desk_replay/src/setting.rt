@@ -1,22 +1,24 @@
 //! What the setup lines of a trace make: a desk and a client.
 
-ghost use Rattle.std.specs.Prelude.{◌≡◌, ◌≤◌, IfOk, OnErr, OnOk, length};
+ghost use Rattle.std.specs.Prelude.{◌≡◌, ◌≢◌, ◌≤◌, [], IfOk, OnErr, OnOk, length};
+ghost use Rattle.std.specs.List.{IsDistinct};
+ghost use Rattle.stun_proto.specs.SupportedAlgorithms.{is_same_algorithm};
 ghost use Rattle.turn_desk_world.specs.Clients.{kept_of};
 ghost use Rattle.turn_desk_replay.specs.Settings.{config_of, desk_of, IsNewBy, waiting, with_user};
-ghost use Rattle.turn_desk_trace.specs.Setup.{algorithms_in_order, CanAsk, families_in_order};
+ghost use Rattle.turn_desk_trace.specs.Setup.{CanAsk, families_in_order};
 
 use std::alloc::Global;
 use std::time::Duration;
 use stun_types::message::{IntegrityAlgorithm, LongTermCredentials};
 use stun_types::{AddressFamily, NoMemory, TransportType};
-use turn_desk_trace::setup::{Algorithms, Client, Families, MAX_REALM, MAX_USERNAME};
+use turn_desk_trace::setup::{Client, Families, MAX_REALM, MAX_USERNAME};
 use turn_desk_world::client::api::TurnConfig;
 use turn_desk_world::client::client::TurnClient;
 use turn_desk_world::client::tcp::TurnClientTcp;
 use turn_desk_world::client::types::TurnCredentials;
 use turn_desk_world::client::udp::TurnClientUdp;
 use turn_desk_world::core_desk::Desk;
-use turn_desk_world::proto::auth::{Feature, LongTermServerAuth};
+use turn_desk_world::proto::auth::{Feature, LongTermServerAuth, SupportedIntegrity};
 
 /// How long each request of a client waits for its response.
 #[derive(Clone, Copy, Debug)]
@@ -36,7 +38,7 @@ pub struct Rto {
 pub(crate) fn new_desk(
     alloc: Global,
     realm: &str,
-    algorithms: Algorithms,
+    algorithms: SupportedIntegrity,
     anonymity: Feature,
 ) -> Result<Desk, NoMemory>
     requires { length realm.now ≤ MAX_REALM }
@@ -44,25 +46,23 @@ pub(crate) fn new_desk(
 {
     let realm = String::from_str(alloc, realm)?;
     let mut auth = LongTermServerAuth::new(alloc, realm);
-    support(&mut auth, algorithms);
+    support(&mut auth, algorithms.as_slice());
     auth.set_anonymous_username(anonymity);
     Ok(Desk::new(alloc, auth))
 }
 
 /// Has a server support these algorithms in their order, and no other.
-fn support(auth: &mut LongTermServerAuth, algorithms: Algorithms)
-    ensures { auth.new ≡ record auth.old { algorithms = algorithms_in_order algorithms } }
+fn support(auth: &mut LongTermServerAuth, algorithms: &[IntegrityAlgorithm])
+    requires never_empty { algorithms.now ≢ [] }
+    requires distinct { IsDistinct is_same_algorithm algorithms.now }
+    ensures { auth.new ≡ record auth.old { algorithms = algorithms.now } }
 {
-    match algorithms {
-        Algorithms::Sha1 => auth.set_supported_integrity(IntegrityAlgorithm::Sha1),
-        Algorithms::Sha256 => auth.set_supported_integrity(IntegrityAlgorithm::Sha256),
-        Algorithms::Sha1AndSha256 => {
-            auth.set_supported_integrity(IntegrityAlgorithm::Sha1);
-            auth.add_supported_integrity(IntegrityAlgorithm::Sha256);
-        }
-        Algorithms::Sha256AndSha1 => {
-            auth.set_supported_integrity(IntegrityAlgorithm::Sha256);
-            auth.add_supported_integrity(IntegrityAlgorithm::Sha1);
+    if let Some((first, others)) = algorithms.split_first() {
+        auth.set_supported_integrity(*first);
+        let mut left = others;
+        while let Some((algorithm, rest)) = left.split_first() {
+            auth.add_supported_integrity(*algorithm);
+            left = rest;
         }
     }
 }
@@ -124,7 +124,7 @@ fn config_of(
     let mut config = TurnConfig::new(credentials);
     config.set_allocation_transport(over);
     ask_for(&mut config, settings.families);
-    offer(&mut config, settings.algorithms);
+    offer(&mut config, settings.algorithms.as_slice());
     config.set_anonymous_username(settings.anonymity);
     wait(&mut config, rto);
     Ok(config)
@@ -158,19 +158,17 @@ fn ask_for(config: &mut TurnConfig, families: Families)
 }
 
 /// Has a client support these algorithms in their order, and no other.
-fn offer(config: &mut TurnConfig, algorithms: Algorithms)
-    ensures { config.new ≡ record config.old { algorithms = algorithms_in_order algorithms } }
+fn offer(config: &mut TurnConfig, algorithms: &[IntegrityAlgorithm])
+    requires never_empty { algorithms.now ≢ [] }
+    requires distinct { IsDistinct is_same_algorithm algorithms.now }
+    ensures { config.new ≡ record config.old { algorithms = algorithms.now } }
 {
-    match algorithms {
-        Algorithms::Sha1 => config.set_supported_integrity(IntegrityAlgorithm::Sha1),
-        Algorithms::Sha256 => config.set_supported_integrity(IntegrityAlgorithm::Sha256),
-        Algorithms::Sha1AndSha256 => {
-            config.set_supported_integrity(IntegrityAlgorithm::Sha1);
-            config.add_supported_integrity(IntegrityAlgorithm::Sha256);
-        }
-        Algorithms::Sha256AndSha1 => {
-            config.set_supported_integrity(IntegrityAlgorithm::Sha256);
-            config.add_supported_integrity(IntegrityAlgorithm::Sha1);
+    if let Some((first, others)) = algorithms.split_first() {
+        config.set_supported_integrity(*first);
+        let mut left = others;
+        while let Some((algorithm, rest)) = left.split_first() {
+            config.add_supported_integrity(*algorithm);
+            left = rest;
         }
     }
 }

@@ -6,7 +6,7 @@ use Rattle.std.specs.List.{AllByRecursion}
 use Rattle.std.proofs.lemmas.Bool.{le-ltb}
 use Rattle.std.proofs.lemmas.List.{length-append}
 use Rattle.byteorder.specs.Endian.{big_bytes}
-use Rattle.stun_types.specs.IntegrityAlgorithms.{IntegrityAlgorithm, Sha1, Sha256}
+use Rattle.stun_types.specs.IntegrityAlgorithms.{IntegrityAlgorithm, Sha1, Sha256, Sha512}
 use Rattle.stun_types.specs.Attributes.{Attr, attr_size}
 use Rattle.stun_types.specs.Text.{header_text, attribute_text, body_text, message_text}
 use Rattle.stun_types.specs.Drafts.{Draft, empty, none_ended}
@@ -81,6 +81,7 @@ signable : (reply : Draft) → reply.ended ≡ none_ended → reply.limit ≡ No
 unfolding signing_refusal order_refusal
 signable reply none free short Sha1 = rw (none, free, le-ltb (20 + 65_535) (length reply.bytes + 24) (omega (arith, short))) refl
 signable reply none free short Sha256 = rw (none, free, le-ltb (20 + 65_535) (length reply.bytes + 36) (omega (arith, short))) refl
+signable reply none free short Sha512 = rw (none, free, le-ltb (20 + 65_535) (length reply.bytes + 68) (omega (arith, short))) refl
 
 -- the attributes of a success but for the relayed addresses
 abbrev pub lifetime_of : ℕ → Attr

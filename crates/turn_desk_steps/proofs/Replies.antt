@@ -5,7 +5,7 @@ use Rattle.std.specs.List.{filter, filter_map, find}
 use Rattle.std.specs.declared.net.socket_addr.SocketAddr.{SocketAddr}
 use Rattle.byteorder.specs.Endian.{big_bytes, big_number}
 use Rattle.byteorder.specs.Numbers.{big_number-reads_back}
-use Rattle.stun_types.specs.IntegrityAlgorithms.{IntegrityAlgorithm, Sha1, Sha256}
+use Rattle.stun_types.specs.IntegrityAlgorithms.{IntegrityAlgorithm, Sha1, Sha256, Sha512}
 use Rattle.stun_types.specs.Addresses.{address_value}
 use Rattle.stun_types.specs.Attributes.{Attr}
 use Rattle.stun_types.specs.Grammar.{number_at, shown}
@@ -61,6 +61,7 @@ pub no_relayed : (lifetime : ℕ) (mapped : List ℕ) (algorithm : IntegrityAlgo
 unfolding signature
 no_relayed lifetime mapped Sha1 key text = refl
 no_relayed lifetime mapped Sha256 key text = refl
+no_relayed lifetime mapped Sha512 key text = refl
 
 pub joined : (one two three : List Attr) → (one ++ two) ++ three ≡ one ++ (two ++ three)
 joined [] two three = refl

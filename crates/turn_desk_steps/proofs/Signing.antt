@@ -6,7 +6,7 @@ use Rattle.stun_types.specs.Attributes.{Attr, attr_size, numbered}
 use Rattle.stun_types.specs.Covered.{covered_text}
 use Rattle.stun_types.specs.Grammar.{shown}
 use Rattle.stun_types.specs.Integrity.{Validates, attribute_kind}
-use Rattle.stun_types.specs.IntegrityAlgorithms.{IntegrityAlgorithm, Sha1, Sha256}
+use Rattle.stun_types.specs.IntegrityAlgorithms.{IntegrityAlgorithm, Sha1, Sha256, Sha512}
 use Rattle.stun_types.specs.Shape.{rank}
 use Rattle.turn_desk_core.specs.Replies.{relayed_attributes}
 use Rattle.turn_desk_core.specs.Verdicts.{reply_attributes}
@@ -38,12 +38,18 @@ only_there (a ∷ all) seal offset (b ∷ before) e behind plain marked is =
 no_plain : (algorithm : IntegrityAlgorithm) → rank (attribute_kind algorithm) ≡ 0 → ⊥
 no_plain Sha1 h = Prim.cc h
 no_plain Sha256 h = Prim.cc h
+no_plain Sha512 h = Prim.cc h
 
 same_algorithm : (a b : IntegrityAlgorithm) → attribute_kind a ≡ attribute_kind b → a ≡ b
 same_algorithm Sha1 Sha1 h = refl
 same_algorithm Sha1 Sha256 h = absurd (Prim.cc h)
+same_algorithm Sha1 Sha512 h = absurd (Prim.cc h)
 same_algorithm Sha256 Sha1 h = absurd (Prim.cc h)
 same_algorithm Sha256 Sha256 h = refl
+same_algorithm Sha256 Sha512 h = absurd (Prim.cc h)
+same_algorithm Sha512 Sha1 h = absurd (Prim.cc h)
+same_algorithm Sha512 Sha256 h = absurd (Prim.cc h)
+same_algorithm Sha512 Sha512 h = refl
 
 -- a message with one integrity attribute behind plain ones: what it covers is what validates
 pub record IsTheText (one other : IntegrityAlgorithm) (text covered : List ℕ) : Type 0 where

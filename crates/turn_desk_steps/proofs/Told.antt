@@ -1,7 +1,7 @@
 -- A challenge of a desk is read by a client as one.
 use Rattle.std.specs.Prelude.{◌≢◌, ◌≤◌, ◌&&◌}
-use Rattle.std.proofs.Common.{◌≡◌, ℕ, Bool, true, false, if◌then◌else◌, List, [], ◌∷◌, length, Option, Some, None, refl, sym, ap, ◌∙◌, arith}
-use Rattle.std.specs.List.{IsDistinct}
+use Rattle.std.proofs.Common.{◌≡◌, ℕ, ◌*◌, ◌%◌, eqb, Bool, true, false, if◌then◌else◌, List, [], ◌∷◌, length, Option, Some, None, refl, sym, ap, ◌∙◌, arith}
+use Rattle.std.specs.List.{list_all}
 use Rattle.std.specs.Str.{chars, is_utf8}
 use Rattle.std.specs.declared.net.socket_addr.SocketAddr.{SocketAddr}
 use lib.Utf8.{encode}
@@ -12,18 +12,17 @@ use Rattle.stun_types.specs.Entries.{algorithms_read_refusal, entries, entries_r
 use Rattle.stun_types.specs.ErrorCodeReading.{error_told}
 use Rattle.stun_types.specs.ErrorCodes.{CodeAndReason, error_value, reason_for}
 use Rattle.stun_types.specs.Grammar.{number_at, shown}
-use Rattle.stun_types.specs.IntegrityAlgorithms.{IntegrityAlgorithm, Sha1, Sha256}
+use Rattle.stun_types.specs.IntegrityAlgorithms.{IntegrityAlgorithm, Sha1, Sha256, Sha512}
 use Rattle.stun_types.specs.MessageClasses.{MessageClass, Error}
 use Rattle.stun_types.specs.MessageReading.{IsReadAs}
 use Rattle.stun_types.specs.Objections.{error_attribute, error_type}
 use Rattle.stun_types.specs.ParseErrors.{StunParseError}
 use Rattle.stun_types.specs.PasswordAlgorithmNumbers as numbers
-use Rattle.stun_types.specs.RawBytes.{type_and_len_refusal}
 use Rattle.stun_types.specs.Registry.{error_code_kind, longest_text, nonce_kind, password_algorithms_kind, realm_kind, stale_nonce_code, unauthorized_code}
 use Rattle.stun_types.specs.Types.{class_of, method_of, type_of}
 use Rattle.stun_types.specs.ValueReading.{text_read_refusal, utf8_refusal}
 use Rattle.stun_types_attribute.proofs.Codes.{error_is_accepted, told_again}
-use Rattle.stun_types_write.proofs.Values.{text_is_accepted}
+use Rattle.stun_types_write.proofs.Values.{text_is_accepted, value_is_accepted}
 use Rattle.stun_proto.specs.Addition.{attrs, nonce_of, realm_of}
 use Rattle.stun_proto.specs.Challenges.{Told, asks_again, challenge_shown, is_challenge_code, is_error, told_by, told_of}
 use Rattle.stun_proto.specs.Choice.{supports, takes}
@@ -32,7 +31,7 @@ use Rattle.stun_proto.specs.Nonce.{features_told}
 use Rattle.stun_proto.specs.Offers.{offers}
 use Rattle.stun_proto.specs.ServerAuthErrors.{LongTermServerAuthError, Unauthorized, IntegrityFailed, BadRequest, StaleNonce, NoMemory}
 use Rattle.stun_proto.specs.ServerSigning.{Party, list_for}
-use Rattle.stun_proto.specs.SupportedAlgorithms.{is_same_algorithm, list_of, needs_password_algorithms}
+use Rattle.stun_proto.specs.SupportedAlgorithms.{list_of, needs_password_algorithms}
 use Rattle.turn_desk_grant.proofs.Methods.{by_method}
 use Rattle.turn_desk_core.specs.Requests.{IsServed}
 use Rattle.turn_desk_core.specs.State.{State}
@@ -47,8 +46,13 @@ unfolding entries numbers_told
 offered_as [] algorithm = refl
 offered_as (Sha1 ∷ rest) Sha1 = refl
 offered_as (Sha1 ∷ rest) Sha256 = offered_as rest Sha256
+offered_as (Sha1 ∷ rest) Sha512 = offered_as rest Sha512
 offered_as (Sha256 ∷ rest) Sha1 = offered_as rest Sha1
 offered_as (Sha256 ∷ rest) Sha256 = refl
+offered_as (Sha256 ∷ rest) Sha512 = offered_as rest Sha512
+offered_as (Sha512 ∷ rest) Sha1 = offered_as rest Sha1
+offered_as (Sha512 ∷ rest) Sha256 = offered_as rest Sha256
+offered_as (Sha512 ∷ rest) Sha512 = refl
 
 -- none but Sha1 alone goes without a list
 taken_by : (lists : Bool) (algorithms : List IntegrityAlgorithm) (algorithm : IntegrityAlgorithm) → lists ≡ needs_password_algorithms algorithms
@@ -57,7 +61,9 @@ taken_by true algorithms algorithm is = offered_as algorithms algorithm
 taken_by false [] algorithm is = absurd (Prim.cc is)
 taken_by false (Sha1 ∷ []) Sha1 is = refl
 taken_by false (Sha1 ∷ []) Sha256 is = refl
+taken_by false (Sha1 ∷ []) Sha512 is = refl
 taken_by false (Sha256 ∷ []) algorithm is = absurd (Prim.cc is)
+taken_by false (Sha512 ∷ []) algorithm is = absurd (Prim.cc is)
 taken_by false (first ∷ second ∷ others) algorithm is = absurd (Prim.cc is)
 
 pub takes_own : (party : Party) (algorithm : IntegrityAlgorithm) → (features_told party.nonce).password_algorithms ≡ needs_password_algorithms party.algorithms
@@ -66,20 +72,32 @@ takes_own party algorithm is = taken_by (features_told party.nonce).password_alg
 
 -- ---- what is read
 
--- a list of some algorithms, none twice, is read
-list_accepted : (algorithms : List IntegrityAlgorithm) → algorithms ≢ [] → IsDistinct is_same_algorithm algorithms → algorithms_read_refusal (attr_of password_algorithms_kind (list_of algorithms)) ≡ None
-unfolding algorithms_read_refusal entries_refusal type_and_len_refusal entries numbers_told numbers.is_known IsDistinct
-list_accepted [] some distinct = absurd (some refl)
-list_accepted (Sha1 ∷ []) some distinct = refl
-list_accepted (Sha256 ∷ []) some distinct = refl
-list_accepted (Sha1 ∷ Sha256 ∷ []) some distinct = refl
-list_accepted (Sha256 ∷ Sha1 ∷ []) some distinct = refl
-list_accepted (Sha1 ∷ Sha1 ∷ rest) some distinct = absurd (Prim.cc distinct.0.0)
-list_accepted (Sha256 ∷ Sha256 ∷ rest) some distinct = absurd (Prim.cc distinct.0.0)
-list_accepted (Sha1 ∷ Sha256 ∷ Sha1 ∷ rest) some distinct = absurd (Prim.cc distinct.0.1.0)
-list_accepted (Sha1 ∷ Sha256 ∷ Sha256 ∷ rest) some distinct = absurd (Prim.cc distinct.1.0.0)
-list_accepted (Sha256 ∷ Sha1 ∷ Sha1 ∷ rest) some distinct = absurd (Prim.cc distinct.1.0.0)
-list_accepted (Sha256 ∷ Sha1 ∷ Sha256 ∷ rest) some distinct = absurd (Prim.cc distinct.0.1.0)
+-- an entry of four bytes for each algorithm
+list-length : (algorithms : List IntegrityAlgorithm) → length (list_of algorithms) ≡ 4 * length algorithms
+unfolding entries
+list-length [] = refl
+list-length (a ∷ algorithms) = let rest = list-length algorithms in omega (arith, rest)
+
+-- which tells a number that is known
+all_known : (algorithms : List IntegrityAlgorithm) → list_all numbers.is_known (numbers_told (list_of algorithms)) ≡ true
+unfolding entries numbers_told numbers.is_known
+all_known [] = refl
+all_known (Sha1 ∷ rest) = all_known rest
+all_known (Sha256 ∷ rest) = all_known rest
+all_known (Sha512 ∷ rest) = all_known rest
+
+-- a list of some algorithms, of no more than fit a list, is read
+list_accepted : (algorithms : List IntegrityAlgorithm) → algorithms ≢ [] → length algorithms ≤ 8 → algorithms_read_refusal (attr_of password_algorithms_kind (list_of algorithms)) ≡ None
+unfolding algorithms_read_refusal entries_refusal
+list_accepted [] some few = absurd (some refl)
+list_accepted (a ∷ rest) some few =
+    let size = list-length (a ∷ rest) in
+    let value = value_is_accepted password_algorithms_kind 4 32 (list_of (a ∷ rest)) (omega (arith, size)) (omega (arith, size, few)) in
+    let whole : eqb (length (list_of (a ∷ rest)) % 4) 0 ≡ true = fours (length (a ∷ rest)) (length (list_of (a ∷ rest))) size in
+    rw (value, whole, all_known (a ∷ rest)) refl
+  where
+    fours : (n long : ℕ) → long ≡ 4 * n → eqb (long % 4) 0 ≡ true
+    fours n long is = let rest : long % 4 ≡ 0 = omega (arith, is) in rw rest refl
 
 -- the codes of challenges are read
 record IsReadCode (code : ℕ) : Type 0 where
@@ -148,7 +166,7 @@ read_by lists code party reply bit read fits class shown_is =
     let nonce_is : (claimed reply).nonce ≡ Some party.nonce =
     ap (text_told nonce_kind longest_text) (kind_is nonce_kind ∙ last.nonce_is) ∙ text_again nonce_kind longest_text party.nonce (text_is_accepted nonce_kind longest_text party.nonce fits.nonce fits.nonce_is_text) in
     let list_is : (claimed reply).algorithms ≡ list_by_bit lists party.algorithms =
-    ap algorithms_told (kind_is password_algorithms_kind ∙ last.list_is) ∙ list_again lists party.algorithms (list_accepted party.algorithms fits.never_empty fits.distinct) in
+    ap algorithms_told (kind_is password_algorithms_kind ∙ last.list_is) ∙ list_again lists party.algorithms (list_accepted party.algorithms fits.never_empty fits.algorithms) in
     let with_list : Option (List ℕ) → Told = λ offered. record { realm = party.realm; nonce = party.nonce; offered = offered } in
     ap (λ (b : Bool). if b then told_of (claimed reply) else None) asks
     ∙ (ap (λ (r : Option (List ℕ)). told_by r (claimed reply).nonce (claimed reply).algorithms) realm_is

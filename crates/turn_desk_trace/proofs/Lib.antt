@@ -1,3 +1,1 @@
-pub mod BytesLemmas
-pub mod LineLemmas
-pub mod NumberLemmas
+pub mod AlgorithmLemmas

@@ -1,4 +1,5 @@
 pub mod Address
+pub mod Algorithms
 pub mod Answer
 pub mod Bytes
 pub mod Decision

@@ -1,40 +1,25 @@
 -- Setup lines of a trace.
-use Rattle.std.specs.Prelude.{ℕ, ◌≡◌, ◌≤◌, ◌*◌, List, [], ◌∷◌, length, codes, Some}
+use Rattle.std.specs.Prelude.{ℕ, ◌≡◌, ◌≤◌, ◌*◌, ◌==◌, List, [], ◌∷◌, length, codes, Some}
 use Rattle.std.specs.Duration.{as_nanos}
+use Rattle.std.specs.List.{slice_split}
 use Rattle.std.specs.Option.{option_map}
 use Rattle.std.specs.Net.Grammar.{IsSocketText}
 use Rattle.std.specs.declared.time.Duration.{Duration}
 use Rattle.stun_proto.specs.Features.{Feature, Auto, Required, Disabled}
-use Rattle.stun_types.specs.IntegrityAlgorithms as integrity
 use Rattle.stun_types.specs.declared.family.AddressFamily.{AddressFamily}
 use Rattle.stun_types.specs.declared.family.AddressFamily.TheVariants.{IPV4, IPV6}
 use Rattle.stun_types.specs.declared.transport.TransportType.{TransportType}
 use Rattle.stun_types.specs.declared.transport.TransportType.TheVariants.{Udp, Tcp}
 use Rattle.turn_desk_print.specs.Printed.{transport_word}
+use Rattle.turn_desk_trace.specs.Algorithms.{AreAlgorithms}
 use Rattle.turn_desk_trace.specs.Decision.{IsU32}
 use Rattle.turn_desk_trace.specs.TraceNumbers.{number, seed_of}
-use Rattle.turn_desk_trace.specs.declared.setup.Algorithms.{Algorithms}
-use Rattle.turn_desk_trace.specs.declared.setup.Algorithms.TheVariants.{Sha1, Sha256, Sha1AndSha256, Sha256AndSha1}
 use Rattle.turn_desk_trace.specs.declared.setup.Client.{Client as ClientSetup}
 use Rattle.turn_desk_trace.specs.declared.setup.Families.{Families}
 use Rattle.turn_desk_trace.specs.declared.setup.Families.TheVariants.{V4, V6, V4AndV6, V6AndV4}
 use Rattle.turn_desk_trace.specs.declared.setup.Setup.{Setup}
 use Rattle.turn_desk_trace.specs.declared.setup.Setup.TheVariants.{Desk, User, Rto, Client}
 use Rattle.turn_desk_trace.specs.declared.setup.TheConstants.{MAX_REALM, MAX_USERNAME}
-
--- the word for the algorithms
-abbrev pub algorithms_word : Algorithms → List ℕ
-algorithms_word Sha1 = codes "sha1"
-algorithms_word Sha256 = codes "sha256"
-algorithms_word Sha1AndSha256 = codes "sha1,sha256"
-algorithms_word Sha256AndSha1 = codes "sha256,sha1"
-
--- the algorithms themselves, in the order in which the word names them
-abbrev pub algorithms_in_order : Algorithms → List integrity.IntegrityAlgorithm
-algorithms_in_order Sha1 = integrity.Sha1 ∷ []
-algorithms_in_order Sha256 = integrity.Sha256 ∷ []
-algorithms_in_order Sha1AndSha256 = integrity.Sha1 ∷ integrity.Sha256 ∷ []
-algorithms_in_order Sha256AndSha1 = integrity.Sha256 ∷ integrity.Sha1 ∷ []
 
 -- the word for the families
 abbrev pub families_word : Families → List ℕ
@@ -67,7 +52,8 @@ IsMillis word duration = option_map (λ millis. millis * millisecond) (number wo
 -- the words behind `desk` spell a desk of that realm and those settings
 abbrev pub IsDesk : List (List ℕ) → Setup → Type 0
 IsDesk (realm ∷ algorithms ∷ anonymity ∷ []) (Desk r a b) =
-    (r.now ≡ realm) × (length realm ≤ MAX_REALM) × (algorithms ≡ algorithms_word a) × (anonymity ≡ anonymity_word b)
+    (r.now ≡ realm) × (length realm ≤ MAX_REALM) × AreAlgorithms (slice_split (λ b. b == 44) algorithms) a
+    × (anonymity ≡ anonymity_word b)
 IsDesk words setup = ⊥
 
 -- the words behind `user` spell a user of that name and password
@@ -98,7 +84,7 @@ pub record IsClientOf (local remote families algorithms anonymity name password 
   pub here : IsSocketText local client.local
   pub server : IsSocketText remote client.remote
   pub asked : families ≡ families_word client.families
-  pub supported : algorithms ≡ algorithms_word client.algorithms
+  pub supported : AreAlgorithms (slice_split (λ b. b == 44) algorithms) client.algorithms
   pub hidden : anonymity ≡ anonymity_word client.anonymity
   pub user : client.name.now ≡ name
   pub bound : length name ≤ MAX_USERNAME

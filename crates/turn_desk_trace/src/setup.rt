@@ -4,17 +4,17 @@ ghost use Rattle.std.specs.Prelude.{◌≡◌, ◌≢◌, MatchOption, map};
 ghost use Rattle.std.specs.declared.time.Duration.{Duration};
 ghost use Rattle.stun_proto.specs.Features.{Feature};
 ghost use Rattle.stun_types.specs.declared.transport.TransportType.{TransportType};
-ghost use Rattle.turn_desk_trace.specs.declared.setup.Algorithms.{Algorithms};
 ghost use Rattle.turn_desk_trace.specs.declared.setup.Client.{Client};
 ghost use Rattle.turn_desk_trace.specs.declared.setup.Families.{Families};
 ghost use Rattle.turn_desk_trace.specs.declared.setup.Setup.{Setup};
-ghost use Rattle.turn_desk_trace.specs.Setup.{algorithms_word, anonymity_word, AreTransports, families_word, IsClient, IsClientAt, IsClientOf, IsClientWith, IsDesk, IsMillis, IsRto, IsRtoOf, IsRtoWith, IsSetup, IsUser};
+ghost use Rattle.turn_desk_trace.specs.Setup.{anonymity_word, AreTransports, families_word, IsClient, IsClientAt, IsClientOf, IsClientWith, IsDesk, IsMillis, IsRto, IsRtoOf, IsRtoWith, IsSetup, IsUser};
 
 use crate::address::{read_address, read_transport};
+use crate::algorithms::read_algorithms;
 use crate::number::{SEED_LENGTH, read_seed, read_u32, read_u64};
 use std::net::SocketAddr;
 use std::time::Duration;
-use stun_proto::auth::Feature as Anonymity;
+use stun_proto::auth::{Feature as Anonymity, SupportedIntegrity};
 use stun_types::{TransportType, registry};
 
 /// The most bytes of a realm (RFC 8489, section 14.9).
@@ -22,19 +22,6 @@ pub const MAX_REALM: usize = registry::MAX_TEXT_LENGTH;
 
 /// The most bytes of a user's name (RFC 8489, section 14.3).
 pub const MAX_USERNAME: usize = registry::MAX_USERNAME_LENGTH;
-
-/// The algorithms that a side supports, in their order.
-#[derive(Clone, Copy, Debug, PartialEq, Eq)]
-pub enum Algorithms {
-    /// `sha1`
-    Sha1,
-    /// `sha256`
-    Sha256,
-    /// `sha1,sha256`
-    Sha1AndSha256,
-    /// `sha256,sha1`
-    Sha256AndSha1,
-}
 
 /// The families of the addresses that a client asks for, in their order.
 #[derive(Clone, Copy, Debug, PartialEq, Eq)]
@@ -58,8 +45,8 @@ pub struct Client<'a> {
     pub remote: SocketAddr,
     /// The families of the addresses that it asks for.
     pub families: Families,
-    /// The algorithms that it supports.
-    pub algorithms: Algorithms,
+    /// The algorithms that it supports, in their order.
+    pub algorithms: SupportedIntegrity,
     /// Whether it hides the user's name.
     pub anonymity: Anonymity,
     /// The user's name, at most [`MAX_USERNAME`] bytes.
@@ -77,8 +64,8 @@ pub enum Setup<'a> {
     Desk {
         /// Its realm, at most [`MAX_REALM`] bytes.
         realm: &'a str,
-        /// The algorithms that it supports.
-        algorithms: Algorithms,
+        /// The algorithms that it supports, in their order.
+        algorithms: SupportedIntegrity,
         /// Whether it offers to take names in hashed form.
         anonymity: Anonymity,
     },
@@ -307,20 +294,6 @@ fn client_of<'a>(
         password,
         seed: read_seed(seed)?,
     })
-}
-
-/// The algorithms that a word names: one, or both in either order. None where it names none.
-pub fn read_algorithms(word: &str) -> Option<Algorithms>
-    ensures { MatchOption result ((a : Algorithms) → word.now ≢ algorithms_word a)
-        (λ a. word.now ≡ algorithms_word a) }
-{
-    match word {
-        "sha1" => Some(Algorithms::Sha1),
-        "sha256" => Some(Algorithms::Sha256),
-        "sha1,sha256" => Some(Algorithms::Sha1AndSha256),
-        "sha256,sha1" => Some(Algorithms::Sha256AndSha1),
-        _ => None,
-    }
 }
 
 /// The families that a word names: one, or both in either order. None where it names none.

@@ -1,4 +1,4 @@
-//! One exchange between a client and a desk that supports both algorithms, through the library's own
+//! One exchange between a client and a desk that supports Sha1 and Sha256, through the library's own
 //! calls. The client is challenged. It is granted by HMAC-SHA256, and again, under the hash of its name,
 //! by HMAC-SHA1; its first signed request then comes from another address. Each step prints a line:
 //! what was made, or what the desk replied, which nonce it then keeps for the address, and how many

@@ -6,7 +6,7 @@ use std::net::{IpAddr, Ipv4Addr, SocketAddr};
 /// A step of the exchange.
 #[derive(Clone, Copy)]
 pub(crate) enum Step {
-    /// A desk of the realm `realm` is made, which supports both algorithms.
+    /// A desk of the realm `realm` is made, which supports Sha1 and Sha256.
     Desk,
     /// The desk gets to know `user`.
     User,

@@ -1,17 +1,19 @@
 -- A client and a desk of some settings, as they are made.
 use Rattle.std.specs.Prelude.{List, [], ◌∷◌}
 use Rattle.std.specs.FinMap as map
-use Rattle.stun_types.specs.IntegrityAlgorithms.{IntegrityAlgorithm, Sha1, Sha256}
+use Rattle.stun_types.specs.IntegrityAlgorithms.{IntegrityAlgorithm, Sha1, Sha256, Sha512}
 use Rattle.stun_proto.specs.Server.{Server}
 use Rattle.turn_desk_world.specs.Config.{Config, default_config}
 use Rattle.turn_met.specs.declared.setting.Setting.{Setting}
 use Rattle.turn_met.specs.declared.setting.Supported.{Supported}
-use Rattle.turn_met.specs.declared.setting.Supported.TheVariants.{OnlySha1, OnlySha256, Both}
+use Rattle.turn_met.specs.declared.setting.Supported.TheVariants.{OnlySha1, OnlySha256, OnlySha512, Both, All}
 
 abbrev pub algorithms_of : Supported → List IntegrityAlgorithm
 algorithms_of OnlySha1 = Sha1 ∷ []
 algorithms_of OnlySha256 = Sha256 ∷ []
+algorithms_of OnlySha512 = Sha512 ∷ []
 algorithms_of Both = Sha1 ∷ Sha256 ∷ []
+algorithms_of All = Sha1 ∷ Sha256 ∷ Sha512 ∷ []
 
 -- the client asks for an address of the one family, for the allocation over UDP
 abbrev pub config_of : Setting → Config

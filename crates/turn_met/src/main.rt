@@ -32,6 +32,8 @@ fn main(rt: HostRuntime) -> anyhow::Result<()> {
             meet_by(&rt, rt.alloc(), transport, family)?;
         }
     }
+    meet_by_sha512(&rt, rt.alloc(), TransportType::Udp)?;
+    meet_by_sha512(&rt, rt.alloc(), TransportType::Tcp)?;
     ask_all(&rt, rt.alloc())?;
     link_by(&rt, rt.alloc())?;
     keep_by(&rt, rt.alloc(), TransportType::Udp)?;
@@ -136,6 +138,27 @@ fn meet_by(
                 }
             }
         }
+    }
+    Ok(())
+}
+
+/// Meetings over a transport in which SHA-512 counts: both sides have all algorithms, the client has that one
+/// alone, and the desk all but that one.
+fn meet_by_sha512(
+    rt: &impl Print,
+    alloc: Global,
+    transport: TransportType,
+) -> anyhow::Result<()> {
+    let sides = [
+        (Supported::All, Supported::All),
+        (Supported::OnlySha512, Supported::All),
+        (Supported::OnlySha512, Supported::Both),
+    ];
+    for (own, others) in sides {
+        let mut setting = over(transport, client_address(), Feature::Auto);
+        setting.own = own;
+        setting.others = others;
+        show(rt, alloc, &setting)?;
     }
     Ok(())
 }

@@ -20,8 +20,12 @@ pub(crate) enum Supported {
     OnlySha1,
     /// SHA-256 alone.
     OnlySha256,
-    /// Both.
+    /// SHA-512 alone.
+    OnlySha512,
+    /// SHA-1 and SHA-256.
     Both,
+    /// All three.
+    All,
 }
 
 /// A client's settings, and those of a desk that knows its user.
@@ -70,9 +74,15 @@ fn offer(config: &mut TurnConfig, own: Supported)
     match own {
         Supported::OnlySha1 => config.set_supported_integrity(IntegrityAlgorithm::Sha1),
         Supported::OnlySha256 => config.set_supported_integrity(IntegrityAlgorithm::Sha256),
+        Supported::OnlySha512 => config.set_supported_integrity(IntegrityAlgorithm::Sha512),
         Supported::Both => {
             config.set_supported_integrity(IntegrityAlgorithm::Sha1);
             config.add_supported_integrity(IntegrityAlgorithm::Sha256);
+        }
+        Supported::All => {
+            config.set_supported_integrity(IntegrityAlgorithm::Sha1);
+            config.add_supported_integrity(IntegrityAlgorithm::Sha256);
+            config.add_supported_integrity(IntegrityAlgorithm::Sha512);
         }
     }
 }
@@ -105,9 +115,15 @@ fn take(server: &mut LongTermServerAuth, others: Supported)
     match others {
         Supported::OnlySha1 => server.set_supported_integrity(IntegrityAlgorithm::Sha1),
         Supported::OnlySha256 => server.set_supported_integrity(IntegrityAlgorithm::Sha256),
+        Supported::OnlySha512 => server.set_supported_integrity(IntegrityAlgorithm::Sha512),
         Supported::Both => {
             server.set_supported_integrity(IntegrityAlgorithm::Sha1);
             server.add_supported_integrity(IntegrityAlgorithm::Sha256);
+        }
+        Supported::All => {
+            server.set_supported_integrity(IntegrityAlgorithm::Sha1);
+            server.add_supported_integrity(IntegrityAlgorithm::Sha256);
+            server.add_supported_integrity(IntegrityAlgorithm::Sha512);
         }
     }
 }

@@ -65,8 +65,10 @@ fn sign(line: &mut Line<'_>, config: &mut TurnConfig, word: &str) {
     match word {
         "algorithm=sha1" => config.set_supported_integrity(IntegrityAlgorithm::Sha1),
         "algorithm=sha256" => config.set_supported_integrity(IntegrityAlgorithm::Sha256),
+        "algorithm=sha512" => config.set_supported_integrity(IntegrityAlgorithm::Sha512),
         "algorithm+sha1" => config.add_supported_integrity(IntegrityAlgorithm::Sha1),
         "algorithm+sha256" => config.add_supported_integrity(IntegrityAlgorithm::Sha256),
+        "algorithm+sha512" => config.add_supported_integrity(IntegrityAlgorithm::Sha512),
         "anonymity=auto" => config.set_anonymous_username(Feature::Auto),
         "anonymity=required" => config.set_anonymous_username(Feature::Required),
         "anonymity=disabled" => config.set_anonymous_username(Feature::Disabled),

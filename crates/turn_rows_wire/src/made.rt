@@ -4,11 +4,12 @@ use crate::line::Line;
 use stun_types::AddressFamily;
 use stun_types::attribute::{
     AlternateDomain, AlternateServer, AttributeFromRaw, AttributeWrite, ErrorCode, Fingerprint,
-    MessageIntegrity, MessageIntegritySha256, Nonce, PasswordAlgorithm, PasswordAlgorithmValue,
-    PasswordAlgorithms, Realm, Software, UnknownAttributes, Userhash, Username, XorMappedAddress,
+    MessageIntegrity, MessageIntegritySha256, MessageIntegritySha512, Nonce, PasswordAlgorithm,
+    PasswordAlgorithmValue, PasswordAlgorithms, Realm, Software, UnknownAttributes, Userhash,
+    Username, XorMappedAddress,
 };
 use stun_types::laws::written_and_read;
-use stun_types::message::{IntegrityAlgorithm, StunWriteError};
+use stun_types::message::StunWriteError;
 use turn_types::attribute::{
     AdditionalAddressFamily, ChannelNumber, ConnectionId, Data, DontFragment, Icmp, Lifetime,
     RequestedAddressFamily, RequestedTransport, XorPeerAddress, XorRelayedAddress,
@@ -60,7 +61,9 @@ pub(crate) fn ask(line: &mut Line<'_>, kind: &str) {
         "mapped" | "relayed" | "peer" | "server" => address(line, kind),
         "unknown-attributes" => unknown(line),
         "password-algorithm" | "password-algorithms" => algorithms(line, kind),
-        "integrity" | "integrity-sha256" | "fingerprint" | "data" => bytes(line, kind),
+        "integrity" | "integrity-sha256" | "integrity-sha512" | "fingerprint" | "data" => {
+            bytes(line, kind);
+        }
         _ => number(line, kind),
     }
 }
@@ -142,20 +145,22 @@ fn family_of(name: &str) -> AddressFamily {
     }
 }
 
-/// `password-algorithm NAME`, with its name and whether it goes with HMAC-SHA1; `password-algorithms NAME..`.
+/// `password-algorithm NAME`, with its name and the algorithm of integrity that it goes with;
+/// `password-algorithms NAME..`.
 fn algorithms(line: &mut Line<'_>, kind: &str) {
     let mut algorithms = Vec::new(line.alloc);
     for _ in 0..line.left() {
-        let _ = algorithms.push(if line.word() == "MD5" {
-            PasswordAlgorithmValue::MD5
-        } else {
-            PasswordAlgorithmValue::SHA256
+        let _ = algorithms.push(match line.word() {
+            "MD5" => PasswordAlgorithmValue::MD5,
+            "SHA512" => PasswordAlgorithmValue::SHA512,
+            _ => PasswordAlgorithmValue::SHA256,
         });
     }
     match (kind, algorithms.as_slice()) {
         ("password-algorithm", [algorithm]) => {
             line.say(algorithm);
-            line.say(&(algorithm.as_integrity() == IntegrityAlgorithm::Sha1));
+            let integrity = algorithm.as_integrity();
+            let _ = write!(line.answer, " {integrity:?}");
             made(line, Ok(PasswordAlgorithm::new(*algorithm)));
         }
         (_, all) => made(line, PasswordAlgorithms::new(line.alloc, all)),
@@ -178,8 +183,8 @@ fn unknown(line: &mut Line<'_>) {
     made(line, unknown);
 }
 
-/// `integrity BYTES`, `integrity-sha256 BYTES`, `data BYTES`, and `fingerprint BYTES`, of the CRC-32 of these
-/// bytes.
+/// `integrity BYTES`, `integrity-sha256 BYTES`, `integrity-sha512 BYTES`, `data BYTES`, and
+/// `fingerprint BYTES`, of the CRC-32 of these bytes.
 fn bytes(line: &mut Line<'_>, kind: &str) {
     let bytes = line.bytes();
     let (front, _) = bytes.as_slice().split_at(bytes.len().min(65_535));
@@ -189,6 +194,7 @@ fn bytes(line: &mut Line<'_>, kind: &str) {
             None => line.is_bad = true,
         },
         "integrity-sha256" => made(line, MessageIntegritySha256::new(front)),
+        "integrity-sha512" => made(line, MessageIntegritySha512::new(front)),
         "fingerprint" => made(line, Ok(Fingerprint::new(Fingerprint::compute(front)))),
         _ => match Data::new(line.alloc, front) {
             Ok(data) => made(line, Ok(data)),

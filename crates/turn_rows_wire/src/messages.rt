@@ -57,18 +57,22 @@ pub(crate) fn credentials(
 }
 
 /// `judge USER REALM PASSWORD BYTES`: a message is judged by its last integrity attribute, and by the key of
-/// either algorithm.
+/// each algorithm.
 pub(crate) fn judge(line: &mut Line<'_>) {
     let (user, realm, password) = (line.word(), line.word(), line.word());
     let bytes = line.bytes();
     match Message::from_bytes(bytes.as_slice()) {
         Ok(message) => {
             let credentials = credentials(line.alloc, user, realm, password);
-            let sha1 = credentials.make_key(IntegrityAlgorithm::Sha1);
-            let sha256 = credentials.make_key(IntegrityAlgorithm::Sha256);
             verdict(line, message.validate_integrity(&credentials));
-            verdict(line, message.validate_integrity_with_key(&sha1));
-            verdict(line, message.validate_integrity_with_key(&sha256));
+            for algorithm in [
+                IntegrityAlgorithm::Sha1,
+                IntegrityAlgorithm::Sha256,
+                IntegrityAlgorithm::Sha512,
+            ] {
+                let key = credentials.make_key(algorithm);
+                verdict(line, message.validate_integrity_with_key(&key));
+            }
         }
         Err(error) => line.say(&error),
     }
@@ -77,8 +81,9 @@ pub(crate) fn judge(line: &mut Line<'_>) {
 /// A verdict: the algorithm, or why it is refused.
 fn verdict(line: &mut Line<'_>, verdict: Result<IntegrityAlgorithm, ValidateError>) {
     match verdict {
-        Ok(IntegrityAlgorithm::Sha1) => line.say(&"Sha1"),
-        Ok(IntegrityAlgorithm::Sha256) => line.say(&"Sha256"),
+        Ok(algorithm) => {
+            let _ = write!(line.answer, " {algorithm:?}");
+        }
         Err(error) => line.say(&error),
     }
 }

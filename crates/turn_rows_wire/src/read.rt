@@ -7,9 +7,9 @@ use std::ops::Bound;
 use stun_types::attribute::{
     AlternateDomain, AlternateServer, AttributeFromRaw, AttributeHeader, AttributeStaticType,
     AttributeType, AttributeWrite, ErrorCode, Fingerprint, MappedSocketAddr, MessageIntegrity,
-    MessageIntegritySha256, Nonce, PasswordAlgorithm, PasswordAlgorithms, RawAttribute, Realm,
-    Software, UnknownAttributes, Userhash, Username, XorMappedAddress, XorSocketAddr,
-    pad_attribute_len,
+    MessageIntegritySha256, MessageIntegritySha512, Nonce, PasswordAlgorithm, PasswordAlgorithms,
+    RawAttribute, Realm, Software, UnknownAttributes, Userhash, Username, XorMappedAddress,
+    XorSocketAddr, pad_attribute_len,
 };
 use stun_types::message::{BINDING, Message, MessageClass, TransactionId};
 use turn_types::attribute::{
@@ -90,6 +90,10 @@ fn as_value(line: &mut Line<'_>, raw: &RawAttribute<'_>) {
     line.read(
         "MessageIntegritySha256",
         MessageIntegritySha256::try_from(raw),
+    );
+    line.read(
+        "MessageIntegritySha512",
+        MessageIntegritySha512::try_from(raw),
     );
     line.read("Userhash", Userhash::try_from(raw));
     line.read("Fingerprint", Fingerprint::try_from(raw));

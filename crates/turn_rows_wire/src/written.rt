@@ -102,10 +102,10 @@ fn add<W: MessageWrite>(line: &mut Line<'_>, writer: &mut W) -> Result<(), StunW
 
 /// The algorithm of integrity of the next word.
 fn algorithm(line: &mut Line<'_>) -> IntegrityAlgorithm {
-    if line.word() == "sha1" {
-        IntegrityAlgorithm::Sha1
-    } else {
-        IntegrityAlgorithm::Sha256
+    match line.word() {
+        "sha1" => IntegrityAlgorithm::Sha1,
+        "sha512" => IntegrityAlgorithm::Sha512,
+        _ => IntegrityAlgorithm::Sha256,
     }
 }
 

@@ -1,6 +1,6 @@
 //! Tests of what no printed row shows: bytes that are lent and change hands, names that a program adds,
 //! readers and writers that fail. What has bytes or words to show stands in the stored runs of
-//! `turn_rows_wire`, `turn_rows_proto`, `turn_rows_client`, `turn_traces` and `stun_inspect`.
+//! `turn_rows_wire`, `turn_rows_proto`, `turn_rows_client`, `turn_replay` and `stun_inspect`.
 #![tactic(auto)]
 
 #[cfg(test)]

@@ -109,6 +109,7 @@ fn validate_sample(rt: &impl Print, alloc: Global) -> anyhow::Result<()> {
         match validate(SAMPLE, &MessageIntegrityCredentials::from(secret)) {
             Ok(IntegrityAlgorithm::Sha1) => println!(rt; "validate: signed by HMAC-SHA1")?,
             Ok(IntegrityAlgorithm::Sha256) => println!(rt; "validate: signed by HMAC-SHA256")?,
+            Ok(IntegrityAlgorithm::Sha512) => println!(rt; "validate: signed by HMAC-SHA512")?,
             Err(error) => println!(rt; "validate: refused: {error}")?,
         }
     }

@@ -16,6 +16,7 @@ const IPV4: u32 = 1;
 const IPV6: u32 = 2;
 const SHA1: u32 = 1;
 const SHA256: u32 = 2;
+const SHA512: u32 = 4;
 const ANY_ADDRESS: &str = "0.0.0.0:0";
 
 // ---- how things are written
@@ -83,10 +84,17 @@ fn config(exchange: &Exchange) -> TurnConfig {
         IPV6 => config.set_address_family(AddressFamily::IPV6),
         _ => config.add_address_family(AddressFamily::IPV6),
     }
-    match exchange.integrity {
-        SHA1 => {}
-        SHA256 => config.set_supported_integrity(IntegrityAlgorithm::Sha256),
-        _ => config.add_supported_integrity(IntegrityAlgorithm::Sha256),
+    let all = [
+        (SHA1, IntegrityAlgorithm::Sha1),
+        (SHA256, IntegrityAlgorithm::Sha256),
+        (SHA512, IntegrityAlgorithm::Sha512),
+    ];
+    let supported = all.iter().filter(|(bit, _)| exchange.integrity & bit != 0);
+    for (place, (_, algorithm)) in supported.enumerate() {
+        match place {
+            0 => config.set_supported_integrity(*algorithm),
+            _ => config.add_supported_integrity(*algorithm),
+        }
     }
     match exchange.anonymous {
         "TURN_ANONYMOUS_REQUIRED" => config.set_anonymous_username(Feature::Required),

@@ -1,6 +1,6 @@
 -- The verdict on a message, and the authenticator after it, are one, but for want of memory.
 use Rattle.std.proofs.Common.{◌≡◌, ◌≢◌, ℕ, List, Option, Some, Result, Ok, Err, refl, sym, ap, ◌∙◌, subst, inl, inr}
-use Rattle.stun_types.specs.IntegrityAlgorithms.{IntegrityAlgorithm, Sha1, Sha256}
+use Rattle.stun_types.specs.IntegrityAlgorithms.{IntegrityAlgorithm, Sha1, Sha256, Sha512}
 use Rattle.stun_types.proofs.Validating.{none_validates}
 use Rattle.stun_proto.specs.Challenges.{Told}
 use Rattle.stun_proto.specs.Choice.{IsStrongest}
@@ -33,8 +33,13 @@ no_memory = Err NoMemory
 strongest_same : (own : List IntegrityAlgorithm) (offered : Option (List ℕ)) (a b : IntegrityAlgorithm) → IsStrongest own offered a → IsStrongest own offered b → a ≡ b
 strongest_same own offered Sha1 Sha1 x y = refl
 strongest_same own offered Sha1 Sha256 x y = absurd (Prim.cc (x.greatest Sha256 y.common))
+strongest_same own offered Sha1 Sha512 x y = absurd (Prim.cc (x.greatest Sha512 y.common))
 strongest_same own offered Sha256 Sha1 x y = absurd (Prim.cc (y.greatest Sha256 x.common))
 strongest_same own offered Sha256 Sha256 x y = refl
+strongest_same own offered Sha256 Sha512 x y = absurd (Prim.cc (x.greatest Sha512 y.common))
+strongest_same own offered Sha512 Sha1 x y = absurd (Prim.cc (y.greatest Sha512 x.common))
+strongest_same own offered Sha512 Sha256 x y = absurd (Prim.cc (y.greatest Sha512 x.common))
+strongest_same own offered Sha512 Sha512 x y = refl
 
 -- a challenge that can be answered can't not be
 answerable_not : (client : Client) (told : Told) (choice : IntegrityAlgorithm) → IsAnswerable client told choice → IsUnanswerable client told → ⊥

@@ -1,0 +1,63 @@
+//! Integrity algorithms of a trace: their names, with commas between.
+
+ghost use Rattle.std.specs.Prelude.{◌≡◌, ◌≢◌, ◌∷◌, [], ◌==◌, ◌<◌, List, IfSome, MatchOption, length};
+ghost use Rattle.std.specs.List.{slice_split};
+ghost use Rattle.stun_types.specs.IntegrityAlgorithms.{IntegrityAlgorithm};
+ghost use Rattle.turn_desk_trace.specs.Algorithms.{AreAlgorithms, IsAnother, algorithm_word, listed};
+
+use stun_proto::auth::SupportedIntegrity;
+use stun_types::message::IntegrityAlgorithm;
+
+/// The algorithm that a word names. None where it names none.
+pub fn read_algorithm(word: &str) -> Option<IntegrityAlgorithm>
+    ensures { MatchOption result ((a : IntegrityAlgorithm) → word.now ≢ algorithm_word a)
+        (λ a. word.now ≡ algorithm_word a) }
+{
+    match word {
+        "sha1" => Some(IntegrityAlgorithm::Sha1),
+        "sha256" => Some(IntegrityAlgorithm::Sha256),
+        "sha512" => Some(IntegrityAlgorithm::Sha512),
+        _ => None,
+    }
+}
+
+/// The algorithms that a word names, one or several with commas between. None where it names none, and
+/// where it names one twice.
+pub fn read_algorithms(word: &str) -> Option<SupportedIntegrity>
+    ensures { MatchOption result ((algorithms : List IntegrityAlgorithm)
+        → ¬ (AreAlgorithms (slice_split (λ b. b == 44) word.now) algorithms))
+        (AreAlgorithms (slice_split (λ b. b == 44) word.now)) }
+{
+    let mut algorithms = None;
+    let mut left = word;
+    while let Some((name, rest)) = cut(left) {
+        algorithms = Some(with_named(algorithms, name)?);
+        left = rest;
+    }
+    with_named(algorithms, left)
+}
+
+/// What is before the first comma of a word, and what is behind it. None where there is no comma.
+fn cut(word: &str) -> Option<(&str, &str)>
+    ensures pieces { MatchOption result
+        (slice_split (λ b. b == 44) word.now ≡ word.now ∷ [])
+        (λ parts. slice_split (λ b. b == 44) word.now
+            ≡ parts.0.now ∷ slice_split (λ b. b == 44) parts.1.now) }
+    ensures shorter { IfSome result (λ parts. length parts.1.now < length word.now) }
+{
+    word.split_once(',')
+}
+
+/// The algorithms that were named before, and another one last, which the word names. None where it names
+/// none, or one of those.
+fn with_named(before: Option<SupportedIntegrity>, name: &str) -> Option<SupportedIntegrity>
+    ensures { MatchOption result ((algorithms : List IntegrityAlgorithm)
+        → ¬ (IsAnother (listed before) name.now algorithms)) (IsAnother (listed before) name.now) }
+{
+    let algorithm = read_algorithm(name)?;
+    match before {
+        None => Some(SupportedIntegrity::only(algorithm)),
+        Some(before) if before.supports(algorithm) => None,
+        Some(before) => Some(before.with(algorithm)),
+    }
+}
