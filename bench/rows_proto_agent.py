@@ -160,7 +160,7 @@ class Request:
 
     def integrity(self):
         """The algorithm of the last integrity attribute that it shows. Its bytes end in one, or show none."""
-        for size, kind, name in ((36, 0x1C, "Sha256"), (24, 0x08, "Sha1")):
+        for size, kind, name in ((68, 0x3F12, "Sha512"), (36, 0x1C, "Sha256"), (24, 0x08, "Sha1")):
             if self.data[-size:][:4] == struct.pack(">HH", kind, size - 4) and len(self.data) > size:
                 return f"Some({name})"
         return "None"

@@ -6,6 +6,7 @@ documented to do.
 
 from rows_proto_base import ALLOCATE, ERROR, INDICATION, REQUEST, SECOND, SUCCESS, Section, duration
 from rows_proto_keys import (
+    ALL,
     BY,
     ERROR_CODE,
     MOST_NAME,
@@ -27,6 +28,7 @@ from rows_proto_keys import (
     judged,
     key_of,
     nonce_of,
+    numbers_in,
     offered,
     rust_text,
     signed,
@@ -180,8 +182,8 @@ class Client(Section):
     def taken(self, claim):
         """What is made of a challenge."""
         listed = claim.algorithms if told(claim.nonce)[0] else None
-        theirs = [SHA1] if listed is None else [it for it in BY if entries([it])[1] in listed[1::4]]
-        common = [it for it in (SHA256, SHA1) if it in self.algorithms and it in theirs]
+        theirs = [SHA1] if listed is None else [it for it in ALL if BY[it][3] in numbers_in(listed)]
+        common = [it for it in reversed(ALL) if it in self.algorithms and it in theirs]
         if not common or (self.anonymity == "Required" and not told(claim.nonce)[1]):
             return "UnsupportedFeature"
         self.kept = claim.realm, claim.nonce, listed, common[0]

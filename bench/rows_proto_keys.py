@@ -14,15 +14,20 @@ from traces import (
     USERNAME, attribute as attribute_of, block,
 )
 
+INTEGRITY_SHA512 = 0x3F12
 FINGERPRINT = 0x8028
-SHA1, SHA256 = "Sha1", "Sha256"
-WORDS = {SHA1: "sha1", SHA256: "sha256"}
+SHA1, SHA256, SHA512 = "Sha1", "Sha256", "Sha512"
+# the weaker first
+ALL = (SHA1, SHA256, SHA512)
+WORDS = {SHA1: "sha1", SHA256: "sha256", SHA512: "sha512"}
 # the attribute and the digest of an HMAC, that of a long-term key, the number of the latter, the lawful lengths
 BY = {
     SHA1: (INTEGRITY, "sha1", "md5", 1, (20,)),
     SHA256: (INTEGRITY_SHA256, "sha256", "sha256", 2, (16, 20, 24, 28, 32)),
+    SHA512: (INTEGRITY_SHA512, "sha512", "sha512", 0xFF12, tuple(range(16, 65, 4))),
 }
-KIND = {INTEGRITY: SHA1, INTEGRITY_SHA256: SHA256}
+NUMBERS = [BY[it][3] for it in ALL]
+KIND = {BY[it][0]: it for it in ALL}
 MOST_NAME, MOST_TEXT, HASH_SIZE = 513, 763, 32
 NUMBER = 0x7392
 
@@ -106,7 +111,7 @@ def told(nonce):
 # ---- what a message claims
 
 
-RANKS = {INTEGRITY: 1, INTEGRITY_SHA256: 2, FINGERPRINT: 3}
+RANKS = {INTEGRITY: 1, INTEGRITY_SHA256: 2, INTEGRITY_SHA512: 3, FINGERPRINT: 4}
 
 
 def shown(data):
@@ -144,16 +149,23 @@ def text_in(value, most):
         return None
 
 
+def numbers_in(value):
+    """The numbers that entries tell. The length of their parameters is not looked at."""
+    return [it for it, _ in struct.iter_unpack(">HH", value)]
+
+
 def list_in(value):
     """The value of a list of one to eight password algorithms, each of them known."""
     if value is None or len(value) not in range(4, 33, 4):
         return None
-    numbers = [value[i] * 256 + value[i + 1] for i in range(0, len(value), 4)]
-    return value if all(it in (1, 2) for it in numbers) else None
+    return value if all(it in NUMBERS for it in numbers_in(value)) else None
 
 
 def algorithm_in(value):
-    return value[1] if value is not None and len(value) == 4 and value[0] == 0 and value[1] in (1, 2) else None
+    if value is None or len(value) != 4:
+        return None
+    number = numbers_in(value)[0]
+    return number if number in NUMBERS else None
 
 
 def code_in(value):

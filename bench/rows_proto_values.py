@@ -8,11 +8,14 @@ import zlib
 
 from rows_proto_base import Section, in_hex
 from rows_proto_keys import (
+    ALL,
+    BY,
     COOKIE,
     FEATURES,
     LETTERS,
     SHA1,
     SHA256,
+    SHA512,
     WORDS,
     hmac_of,
     judged,
@@ -25,8 +28,9 @@ from rows_proto_keys import (
     words,
 )
 
-# a key, a text, and its HMACs by HMAC-SHA1 and HMAC-SHA256: the vectors of RFC 2202, section 3, and of RFC 4231,
-# section 4, and an example of NIST. Where an RFC has one of the two alone, the other is that of Python's hmac.
+# a key, a text, and its HMACs by HMAC-SHA1, HMAC-SHA256 and HMAC-SHA512: the vectors of RFC 2202, section 3, and of
+# RFC 4231, section 4, and two examples of NIST. Where none has one of them, it is that of Python's hmac; so is the
+# whole HMAC-SHA512 of the text with truncation, of which RFC 4231 has 128 bits.
 BIG_KEY = "Test Using Larger Than Block-Size Key - Hash Key First"
 HMACS = [
     (
@@ -34,30 +38,40 @@ HMACS = [
         b"Hi There",
         "b617318655057264e28bc0b6fb378c8ef146be00",
         "b0344c61d8db38535ca8afceaf0bf12b881dc200c9833da726e9376c2e32cff7",
+        "87aa7cdea5ef619d4ff0b4241a1d6cb02379f4e2ce4ec2787ad0b30545e17cdedaa833b7d6b8a702038b274eaea3f4e4be9d914eeb61f1"
+        "702e696c203a126854",
     ),
     (
         b"Jefe",
         b"what do ya want for nothing?",
         "effcdf6ae5eb2fa2d27416d5f184df9c259a7c79",
         "5bdcc146bf60754e6a042426089575c75a003f089d2739839dec58b964ec3843",
+        "164b7a7bfcf819e2e395fbe73b56e0a387bd64222e831fd610270cd7ea2505549758bf75c05a994a6d034f65f8f0e6fdcaeab1a34d4a6b"
+        "4b636e070a38bce737",
     ),
     (
         b"\xaa" * 20,
         b"\xdd" * 50,
         "125d7342b9ac11cd91a39af48aa17b4f63f175d3",
         "773ea91e36800e46854db8ebd09181a72959098b3ef8c122d9635514ced565fe",
+        "fa73b0089d56a284efb0f0756c890be9b1b5dbdd8ee81a3655f83e33b2279d39bf3e848279a722c806b485a47e67c807b946a337bee894"
+        "2674278859e13292fb",
     ),
     (
         bytes(range(1, 26)),
         b"\xcd" * 50,
         "4c9007f4026250c6bc8414f9bf50c86c2d7235da",
         "82558a389a443c0ea4cc819899f2083a85f0faa3e578f8077a2e3ff46729665b",
+        "b0ba465637458c6990e5a8c5f61d4af7e576d97ff94b872de76f8050361ee3dba91ca5c11aa25eb4d679275cc5788063a5f19741120c4f"
+        "2de2adebeb10a298dd",
     ),
     (
         b"\x0c" * 20,
         b"Test With Truncation",
         "4c1a03424b55e07fe7f27be1d58bb9324a9a5a04",
         "a3b6167473100ee06e0c796c2955552bfa6f7c0a6a8aef8b93f860aab0cd20c5",
+        "415fad6271580a531d4179bc891d87a650188707922a4fbb36663a1eb16da008711c5b50ddd0fc235084eb9d3364a1454fb2ef67cd1d29"
+        "fe6773068ea266e96b",
     ),
     # a key of one block
     (
@@ -65,6 +79,17 @@ HMACS = [
         b"Sample message for keylen=blocklen",
         "5fd596ee78d5553c8ff4e72d266dfd192366da29",
         "8bb9a1db9806f20df7f77b82138c7914d174d59e13dc4d0169c9057b133e1d62",
+        "5baffa5b3cd7d37542657aec2792dc704b866d7e3d6d138a3eabf4d1ea4dc33543b3acc5d83b898d062828d200b648b6b946d228d75142"
+        "49d84bc02f2888873e",
+    ),
+    # a key of one block of SHA-512
+    (
+        bytes(range(128)),
+        b"Sample message for keylen=blocklen",
+        "ae9578e4947dd0ef5606785e662ea4f3252bc2ff",
+        "02ac78295aee848b01a18ca5400b0f56572fea92fa24dc5eb23e7be53f116fe2",
+        "fc25e240658ca785b7a811a8d3f7b4ca48cfa26a8a366bf2cd1f836b05fcb024bd36853081811d6cea4216ebad79da1cfcb95ea4586b8a"
+        "0ce356596a55fb1347",
     ),
     # keys that are longer than a block, and then texts too
     (
@@ -72,18 +97,24 @@ HMACS = [
         BIG_KEY.encode(),
         "aa4ae5e15272d00e95705637ce8a3b55ed402112",
         "6953025ed96f0c09f80a96f78e6538dbe2e7b820e3dd970e7ddd39091b32352f",
+        "132c9ebc32531071f6c4d9e8842291e9403e5940f813170a3ba3a0dd6c055c8b8ca587b24c56c47f3c1f2fb8ee8f9fbc8d92deed0f8342"
+        "6be3e8a2e9056778b3",
     ),
     (
         b"\xaa" * 131,
         BIG_KEY.encode(),
         "90d0dace1c1bdc957339307803160335bde6df2b",
         "60e431591ee0b67f0d8a26aacbf5b77f8e0bc6213728c5140546040f0ee37f54",
+        "80b24263c7c1a3ebb71493c1dd7be8b49b46d1f41b4aeec1121b013783f8f3526b56d037e05f2598bd0fd2215d6a1e5295e64f73f63f0a"
+        "ec8b915a985d786598",
     ),
     (
         b"\xaa" * 80,
         b"Test Using Larger Than Block-Size Key and Larger Than One Block-Size Data",
         "e8e99d0f45237d786d6bbaa7965c7808bbff1a91",
         "6355ac22e890d0a3c8481a5ca4825bc884d3e7a1ff98a2fc2ac7d8e064c3b2e6",
+        "09441cda584ed2f4d2f5b519c71baf3c79cce19dfc89a548e73b3bb382a9124d6e792b77bf57903ff5858e5d111d15f45d6fd118eea023"
+        "f28d2eb234ebe62f85",
     ),
     (
         b"\xaa" * 131,
@@ -91,6 +122,8 @@ HMACS = [
         b"be hashed before being used by the HMAC algorithm.",
         "217e44bb08b6e06a2d6c30f3cb9f537f97c63356",
         "9b09ffa71b942fcb27635fbcd5b0e944bfdc63644f0713938a7f51535c3a35e2",
+        "e37b6a775dc87dbaa4dfa9f96e5e3ffddebd71f8867289865df5a32d20cdc944b6022cac3c4982b10d5eeb55c3e4de15134676fb6de044"
+        "6065c97440fa8c6a58",
     ),
 ]
 
@@ -100,17 +133,21 @@ def numbered(size):
     return bytes(i * 37 % 251 for i in range(size))
 
 
+# about a block of each digest
+KEY_SIZES = (0, 1, 63, 64, 65, 127, 128, 129, 200)
+
+
 def hmacs(rows):
     """HMACs, each taken in three pieces and in one call."""
     rows.remark("a key and a text: its HMACs")
-    for key, text, sha1, sha256 in HMACS:
-        assert [hmac_of(SHA1, key, text).hex(), hmac_of(SHA256, key, text).hex()] == [sha1, sha256]
-    texts = [(key, text) for key, text, _, _ in HMACS]
-    sizes = (*range(8), 55, 56, 64, 165)
-    texts += [(numbered(key), numbered(size)) for key in (0, 1, 63, 64, 65, 200) for size in sizes]
+    for key, text, *hmacs_wanted in HMACS:
+        assert [hmac_of(by, key, text).hex() for by in ALL] == hmacs_wanted
+    texts = [(key, text) for key, text, *_ in HMACS]
+    sizes = (*range(8), 55, 56, 64, 111, 112, 128, 165)
+    texts += [(numbered(key), numbered(size)) for key in KEY_SIZES for size in sizes]
     for key, text in texts:
-        sha1, sha256 = hmac_of(SHA1, key, text).hex(), hmac_of(SHA256, key, text).hex()
-        rows.ask(f"{sha1} {sha1} {sha256} {sha256} hmac", "hmac", value=in_hex(key), bytes=in_hex(text))
+        answer = " ".join(f"{hmac} {hmac}" for hmac in (hmac_of(by, key, text).hex() for by in ALL))
+        rows.ask(f"{answer} hmac", "hmac", value=in_hex(key), bytes=in_hex(text))
     rows.ask("Hmac { .. } IntegrityKey { .. }", "hidden", password="pass")
 
 
@@ -121,20 +158,20 @@ def third(text):
 def hmacs_again(rows):
     """HMACs of several texts under one key, in both orders: the vectors, and keys about the size of a block."""
     rows.remark("a key and a text: its HMACs, those of its first third, its own again; and the third first")
-    texts = [(key, text) for key, text, _, _ in HMACS]
-    texts += [(numbered(key), numbered(size)) for key in (0, 1, 63, 64, 65, 200) for size in (0, 3, 55, 165)]
+    texts = [(key, text) for key, text, *_ in HMACS]
+    texts += [(numbered(key), numbered(size)) for key in KEY_SIZES for size in (0, 3, 55, 111, 165)]
     for key, text in texts:
         order = [text, third(text), text, third(text), text]
-        answer = " ".join(f"{hmac_of(SHA1, key, it).hex()} {hmac_of(SHA256, key, it).hex()}" for it in order)
+        answer = " ".join(hmac_of(by, key, it).hex() for it in order for by in ALL)
         rows.ask(f"{answer} hmac", "hmac-again", value=in_hex(key), bytes=in_hex(text))
 
 
 def signed_again(rows):
     """The same of keys of passwords and of users, for each algorithm, and of their clones."""
     rows.remark("a key and a text: what it and a clone sign of the text and of its first third, in both orders")
-    passwords = [("p" * size, "-", "-") for size in (0, 1, 63, 64, 65, 200)]
+    passwords = [("p" * size, "-", "-") for size in KEY_SIZES]
     for of in [PASS, USER, SAMPLE, *passwords]:
-        for by in (SHA1, SHA256):
+        for by in ALL:
             for text in (b"", b"what do ya want for nothing?", numbered(165)):
                 key = key_of(by, *of)
                 order = [text, third(text), text, third(text), text]
@@ -231,6 +268,8 @@ SIGNED = [
         b"\n" * 30,
         "5c5b94f31ca8109a89b3faa999de257fd294de77",
         "10af35c31232999407f71bb9c3ab16c516b4f443beb9472296c26c124b5eddb9",
+        "960562656fa3690f2d60c4bf18db2fa3ac92fb8acc1499e7cf13f2d2997671513f34aa48ca507fae158de5a0aa52eba0397752a2eafc6b"
+        "a074e79b535f2e5942",
     ),
     # the second sample of RFC 4231
     (
@@ -238,12 +277,16 @@ SIGNED = [
         NOTHING,
         "effcdf6ae5eb2fa2d27416d5f184df9c259a7c79",
         "5bdcc146bf60754e6a042426089575c75a003f089d2739839dec58b964ec3843",
+        "164b7a7bfcf819e2e395fbe73b56e0a387bd64222e831fd610270cd7ea2505549758bf75c05a994a6d034f65f8f0e6fdcaeab1a34d4a6b"
+        "4b636e070a38bce737",
     ),
     (
         USER,
         NOTHING,
         "543ff194a3bdb98c43c9235e7bfbd0c00022085b",
         "b50c997a78c613a592fda6da712c8888fd24acbd3e748105a8bd88c6a43bd36e",
+        "926144f4c6a33e151bfd5dcbabbac5fbdac5505b05d66076496b7bc308241cf4d8b006135cefc29d5129380fdf397f1a1f007e3dd659cb"
+        "01906cf267b46f364c",
     ),
     # the long-term sample of RFC 5769
     (
@@ -251,13 +294,27 @@ SIGNED = [
         NOTHING,
         "b3a2a8a7acb126b9896fea588b2a356fef674fa7",
         "a49e8a6e6a6b860e1ce09df0c56c266f5f42fb3ae5bc1a3eac2c64e2df152c77",
+        "0cf274be6abe9dd6599b27ed900108c185edf69ad4c607b144ef9dc74547bd3e183b32152ca3739bfc118480e68693e4a452ed6aaa6ea4"
+        "fe3c1a9873a369e978",
     ),
 ]
 LONG_KEYS = [
     (USER, SHA1, "8493fbc53ba582fb4c044c456bdc40eb"),
     (USER, SHA256, "07e934117abd40836e7c6329b54731b2b2d2a5f9a71f544922d75e0730d8251b"),
+    (
+        USER,
+        SHA512,
+        "b222af09cf23da9c2b4505147dfd6a12535d6f2776ab6b6db2f7e98bb96d8aaac3b4c6691af835231600b6c9b5cf0c75a976122a223f02"
+        "919c21e53b70bde6e5",
+    ),
     (SAMPLE, SHA1, "e8ca7ad59d5eb0518e312911d2dab2a9"),
     (SAMPLE, SHA256, "dd295a613b9058c3c23d6dc7165bda072304d989c9d0af3a8c7e184b4f9bb4a1"),
+    (
+        SAMPLE,
+        SHA512,
+        "f27729dc8484755e3dc9ef2915ceff0f6c7313b08ebae8a64e5893c96eaac9156bd77ac6234535b876212d8512d757814da151b697b1f7"
+        "c21fda901d33fbf625",
+    ),
 ]
 
 
@@ -270,18 +327,18 @@ def signatures(rows):
     """What keys of credentials sign."""
     rows.remark("credentials and a text: what they tell, and the HMACs under their keys")
     assert all(key_of(by, *of).hex() == key for of, by, key in LONG_KEYS)
-    for of, text, sha1, sha256 in SIGNED:
-        made = [hmac_of(by, key_of(by, *of), text).hex() for by in (SHA1, SHA256)]
-        assert made == [sha1, sha256]
-    texts = [(of, text) for of, text, _, _ in SIGNED]
-    texts += [(of, numbered(size)) for of in (PASS, USER) for size in (0, 1, 2, 3, 64)]
+    for of, text, *wanted in SIGNED:
+        assert [hmac_of(by, key_of(by, *of), text).hex() for by in ALL] == wanted
+    texts = [(of, text) for of, text, *_ in SIGNED]
+    texts += [(of, numbered(size)) for of in (PASS, USER) for size in (0, 1, 2, 3, 64, 128)]
     for of, text in texts:
-        sha1, sha256 = (hmac_of(by, key_of(by, *of), text).hex() for by in (SHA1, SHA256))
         password, name, realm = of
-        tells = password if name == "-" else f"{name} {realm} {password}"
-        no = "IntegrityFailed IntegrityFailed"
-        answer = f"{tells} Sha1 {sha1} {sha1} {no} {sha1} Sha256 {no} {sha256} {sha256} {sha256}"
-        rows.ask(answer, "sign", **credentials(of), bytes=in_hex(text))
+        tells = [password] if name == "-" else [name, realm, password]
+        for by in ALL:
+            hmac = hmac_of(by, key_of(by, *of), text).hex()
+            # by the attribute of each algorithm, twice, and by the key itself
+            tells += [by, *(hmac if it == by else "IntegrityFailed" for it in ALL for _ in range(2)), hmac]
+        rows.ask(" ".join(tells), "sign", **credentials(of), bytes=in_hex(text))
 
 
 def verdict(holds):
@@ -293,9 +350,10 @@ def verify(rows, of, algorithm, value, text):
     right = hmac_of(algorithm, key_of(algorithm, *of), text)
     by_sha1 = verdict(algorithm == SHA1 and value == right) if len(value) == 20 else "none"
     is_front = right.startswith(value)
-    by_sha256 = verdict(algorithm == SHA256 and is_front and len(value) in (16, 20, 24, 28, 32))
+    others = (SHA256, SHA512)
+    by_others = " ".join(verdict(algorithm == it and is_front and len(value) in BY[it][4]) for it in others)
     given = {"algorithm": WORDS[algorithm], **credentials(of), "value": in_hex(value), "bytes": in_hex(text)}
-    rows.ask(f"{by_sha1} {by_sha256} {str(is_front).lower()}", "verify", **given)
+    rows.ask(f"{by_sha1} {by_others} {str(is_front).lower()}", "verify", **given)
 
 
 def turned(value, bit):
@@ -307,16 +365,16 @@ def turned(value, bit):
 def verifications(rows):
     """HMACs that are verified, and refused."""
     rows.remark("a key, a value and a text: whether the value is its HMAC")
-    for of, text, _, _ in SIGNED:
-        for algorithm, other in ((SHA1, SHA256), (SHA256, SHA1)):
+    for of, text, *_ in SIGNED:
+        for algorithm in ALL:
             right = hmac_of(algorithm, key_of(algorithm, *of), text)
-            verify(rows, of, algorithm, right, text)
-            verify(rows, of, other, right, text)
+            for by in ALL:
+                verify(rows, of, by, right, text)
             verify(rows, of, algorithm, right, text[1:])
             verify(rows, of, algorithm, right, text + b"\0")
             verify(rows, (of[0] + "x", *of[1:]), algorithm, right, text)
-    for of in (PASS, USER):
-        for algorithm in (SHA1, SHA256):
+    for of in (PASS, JEFE, USER):
+        for algorithm in ALL:
             right = hmac_of(algorithm, key_of(algorithm, *of), NOTHING)
             # fronts of each length, and more
             for size in range(len(right) + 1):
@@ -336,7 +394,7 @@ def equalities(rows):
     keys = [key_of(SHA1, *PASS), key_of(SHA1, *USER)]
     others = [("past", "-", "-"), ("passx", "-", "-"), ("pass", "user", "other"), ("word", "user", "realm")]
     for of in [PASS, USER, SAMPLE, *others]:
-        for by in (SHA1, SHA256):
+        for by in ALL:
             is_one, is_other = (str(key_of(by, *of) == it).lower() for it in keys)
             rows.ask(f"{is_one} {is_other} {by}", "equal", algorithm=WORDS[by], **credentials(of))
 
@@ -354,6 +412,10 @@ SETTINGS = [
     ("sha1,sha256", [SHA1, SHA256]),
     ("sha256,sha1", [SHA256, SHA1]),
     ("sha1,sha1", [SHA1]),
+    ("sha512", [SHA512]),
+    ("sha512,sha1", [SHA512, SHA1]),
+    ("sha1,sha256,sha512", [SHA1, SHA256, SHA512]),
+    ("sha512,sha256,sha1,sha256,sha512", [SHA512, SHA256, SHA1]),
 ]
 
 
@@ -435,8 +497,12 @@ def judgements(rows):
         judge(rows, data, "realm", [SHA1], nonce, user)
         judge(rows, data, "realm", [SHA1, SHA256], nonce, user)
         judge(rows, data, "realm", [SHA256, SHA1], nonce, user)
-        # the other algorithm alone
+        judge(rows, data, "realm", [SHA1, SHA256, SHA512], nonce, user)
+        judge(rows, data, "realm", [SHA512, SHA1], nonce, user)
+        # other algorithms alone
         judge(rows, data, "realm", [SHA256], nonce, user)
+        judge(rows, data, "realm", [SHA512], nonce, user)
+        judge(rows, data, "realm", [SHA512, SHA256], nonce, user)
         # another nonce stands, or none
         judge(rows, data, "realm", [SHA1], nonce_of((False, True), words(0)), user)
         judge(rows, data, "realm", [SHA1], nonce[:-1], user)
@@ -452,7 +518,7 @@ def judgements(rows):
         judge(rows, bytes.fromhex(text), "realm", [SHA1], "nonce", user)
     sample = (SAMPLE_NAME, SAMPLE_SECRET)
     nonce = "f//499k954d6OL34oL9FSTvy64sA"
-    for algorithms in ([SHA1], [SHA256], [SHA1, SHA256]):
+    for algorithms in ([SHA1], [SHA256], [SHA1, SHA256], [SHA512], [SHA512, SHA256, SHA1]):
         judge(rows, SAMPLE_LONG, SAMPLE_REALM, algorithms, nonce, sample)
     # a bit of it is turned: in the number, the name and its padding, the nonce, the realm and its padding, the
     # signature
@@ -480,11 +546,7 @@ def refusals(rows):
         "WriteError(IntegrityFailed) the message can't be written",
         "NoMemory no memory",
     ]
-    both = [
-        ("Unauthorized", None, "unauthorized"),
-        ("IntegrityFailed", SHA1, failed),
-        ("IntegrityFailed", SHA256, failed),
-    ]
+    both = [("Unauthorized", None, "unauthorized"), *(("IntegrityFailed", it, failed) for it in ALL)]
     client = [*both, ("UnsupportedFeature", None, "unsupported feature"), ("NoMemory", None, "no memory")]
     server = [*both, ("BadRequest", None, "bad request"), ("StaleNonce", None, "stale nonce")]
     for reason, algorithm, text in [*client, *server, ("NoMemory", None, "no memory")]:

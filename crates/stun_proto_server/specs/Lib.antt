@@ -14,7 +14,6 @@ pub use Rattle.stun_proto_judge.specs.Consistency
 pub use Rattle.stun_proto_judge.specs.Judgement
 pub use Rattle.stun_proto_judge.specs.Knowledge
 pub use Rattle.stun_proto_judge.specs.Nonce
-pub use Rattle.stun_proto_judge.specs.Orders
 pub use Rattle.stun_proto_judge.specs.SupportedAlgorithms
 pub use Rattle.stun_proto_sign.specs.Addition
 pub use Rattle.stun_proto_sign.specs.AdditionStages

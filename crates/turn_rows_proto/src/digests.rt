@@ -6,7 +6,7 @@ use program_lines::refusal::LineError;
 use stun_types::attribute::Fingerprint;
 use stun_types::message::{IntegrityAlgorithm, IntegrityKey, MessageHeader};
 use stun_types_digest::crc::{Crc32, bitwise};
-use stun_types_digest::hmac::{HmacSha1, HmacSha256};
+use stun_types_digest::hmac::{HmacSha1, HmacSha256, HmacSha512};
 
 /// A text in three pieces, as long as one another but for the last ones.
 pub(crate) fn thirds(bytes: &[u8]) -> [&[u8]; 3] {
@@ -15,20 +15,30 @@ pub(crate) fn thirds(bytes: &[u8]) -> [&[u8]; 3] {
     [head, middle, tail]
 }
 
-/// Appends the HMACs of a text under a key, by HMAC-SHA1 and HMAC-SHA256, each taken in three pieces and in
-/// one call.
+/// Appends the HMACs of a text under a key, by HMAC-SHA1, HMAC-SHA256 and HMAC-SHA512, each taken in three
+/// pieces and in one call.
 pub(crate) fn hmacs(key: &[u8], bytes: &[u8], text: &mut String) -> Result<(), LineError> {
     let [head, middle, tail] = thirds(bytes);
     let mut sha1 = HmacSha1::new(key);
     let mut sha256 = HmacSha256::new(key);
+    let mut sha512 = HmacSha512::new(key);
     for piece in [head, middle, tail] {
         sha1.update(piece);
         sha256.update(piece);
+        sha512.update(piece);
     }
-    let (sha1, sha256) = (sha1.finalize(), sha256.finalize());
+    let (sha1, sha256, sha512) = (sha1.finalize(), sha256.finalize(), sha512.finalize());
     let sha1_again = HmacSha1::of_pieces(key, head, middle, tail);
     let sha256_again = HmacSha256::of_pieces(key, head, middle, tail);
-    let hmacs: [&[u8]; 4] = [&sha1, &sha1_again, &sha256, &sha256_again];
+    let sha512_again = HmacSha512::of_pieces(key, head, middle, tail);
+    let hmacs: [&[u8]; 6] = [
+        &sha1,
+        &sha1_again,
+        &sha256,
+        &sha256_again,
+        &sha512,
+        &sha512_again,
+    ];
     for hmac in hmacs {
         push_hex(text, hmac)?;
         text.push_str(" ")?;
@@ -36,11 +46,15 @@ pub(crate) fn hmacs(key: &[u8], bytes: &[u8], text: &mut String) -> Result<(), L
     Ok(text.push_str("hmac")?)
 }
 
-/// Appends the HMACs, by HMAC-SHA1 and HMAC-SHA256, of a text, of its first third and of the text again under
-/// one key, and then of the third first under the same key once more.
+/// Appends the HMACs, by HMAC-SHA1, HMAC-SHA256 and HMAC-SHA512, of a text, of its first third and of the text
+/// again under one key, and then of the third first under the same key once more.
 pub(crate) fn hmacs_again(key: &[u8], bytes: &[u8], text: &mut String) -> Result<(), LineError> {
-    let (sha1, sha256) = (HmacSha1::new(key), HmacSha256::new(key));
-    let (other_sha1, other_sha256) = (sha1.again(), sha256.again());
+    let (sha1, sha256, sha512) = (
+        HmacSha1::new(key),
+        HmacSha256::new(key),
+        HmacSha512::new(key),
+    );
+    let (other_sha1, other_sha256, other_sha512) = (sha1.again(), sha256.again(), sha512.again());
     let [head, middle, tail] = thirds(bytes);
     let none: &[u8] = &[];
     for [one, two, three] in [
@@ -52,11 +66,15 @@ pub(crate) fn hmacs_again(key: &[u8], bytes: &[u8], text: &mut String) -> Result
         text.push_str(" ")?;
         push_hex(text, &sha256.with_pieces(one, two, three))?;
         text.push_str(" ")?;
+        push_hex(text, &sha512.with_pieces(one, two, three))?;
+        text.push_str(" ")?;
     }
     for [one, two, three] in [[none, head, none], [head, middle, tail]] {
         push_hex(text, &other_sha1.with_pieces(one, two, three))?;
         text.push_str(" ")?;
         push_hex(text, &other_sha256.with_pieces(one, two, three))?;
+        text.push_str(" ")?;
+        push_hex(text, &other_sha512.with_pieces(one, two, three))?;
         text.push_str(" ")?;
     }
     Ok(text.push_str("hmac")?)

@@ -8,7 +8,7 @@ use std::alloc::Global;
 use stun_proto_judge::claim::Claim;
 use stun_proto_judge::judgement::judge_message;
 use stun_proto_judge::known::{Known, NamedUser};
-use stun_types::attribute::{MessageIntegrity, MessageIntegritySha256};
+use stun_types::attribute::{MessageIntegrity, MessageIntegritySha256, MessageIntegritySha512};
 use stun_types::message::{
     IntegrityAlgorithm, IntegrityKey, LongTermCredentials, MessageIntegrityCredentials,
     ShortTermCredentials,
@@ -46,7 +46,7 @@ pub(crate) fn sign(
     }
 }
 
-/// Appends what credentials tell, and what their keys for either algorithm sign.
+/// Appends what credentials tell, and what their keys for each algorithm sign.
 fn push_signed(
     credentials: &MessageIntegrityCredentials,
     bytes: &[u8],
@@ -59,16 +59,18 @@ fn push_signed(
             write!(text, "{name} {realm} {}", secret.password())?;
         }
     }
-    push_hmacs(&credentials.make_key(IntegrityAlgorithm::Sha1), bytes, text)?;
-    push_hmacs(
-        &credentials.make_key(IntegrityAlgorithm::Sha256),
-        bytes,
-        text,
-    )
+    for algorithm in [
+        IntegrityAlgorithm::Sha1,
+        IntegrityAlgorithm::Sha256,
+        IntegrityAlgorithm::Sha512,
+    ] {
+        push_hmacs(&credentials.make_key(algorithm), bytes, text)?;
+    }
+    Ok(())
 }
 
-/// Appends what a key signs of a text: by MESSAGE-INTEGRITY and by MESSAGE-INTEGRITY-SHA256, each in one
-/// piece and in three, and by the algorithm that the key was made for.
+/// Appends what a key signs of a text: by MESSAGE-INTEGRITY, by MESSAGE-INTEGRITY-SHA256 and by
+/// MESSAGE-INTEGRITY-SHA512, each in one piece and in three, and by the algorithm that the key was made for.
 fn push_hmacs(key: &IntegrityKey<'_>, bytes: &[u8], text: &mut String) -> Result<(), LineError> {
     let [head, middle, tail] = thirds(bytes);
     write!(text, " {:?}", key.algorithm())?;
@@ -85,6 +87,16 @@ fn push_hmacs(key: &IntegrityKey<'_>, bytes: &[u8], text: &mut String) -> Result
     for made in [
         MessageIntegritySha256::compute(bytes, key),
         MessageIntegritySha256::compute_in_pieces(head, middle, tail, key),
+    ] {
+        text.push_str(" ")?;
+        match made {
+            Ok(hmac) => push_hex(text, &hmac)?,
+            Err(error) => write!(text, "{error:?}")?,
+        }
+    }
+    for made in [
+        MessageIntegritySha512::compute(bytes, key),
+        MessageIntegritySha512::compute_in_pieces(head, middle, tail, key),
     ] {
         text.push_str(" ")?;
         match made {
@@ -130,7 +142,8 @@ pub(crate) fn sign_again(
 }
 
 /// Appends whether a value is verified for a text under the key of a line: by MESSAGE-INTEGRITY, where it
-/// has twenty bytes, and by MESSAGE-INTEGRITY-SHA256; and whether the key signs the text so, or begins to.
+/// has twenty bytes, by MESSAGE-INTEGRITY-SHA256 and by MESSAGE-INTEGRITY-SHA512; and whether the key signs
+/// the text so, or begins to.
 pub(crate) fn verify(
     line: &Line<'_>,
     value: &[u8],
@@ -143,9 +156,10 @@ pub(crate) fn verify(
         _ => text.push_str("none")?,
     }
     let by_sha256 = MessageIntegritySha256::verify(bytes, &key, value);
+    let by_sha512 = MessageIntegritySha512::verify(bytes, &key, value);
     let [head, middle, tail] = thirds(bytes);
     let signs = key.signs(head, middle, tail, value);
-    Ok(write!(text, " {by_sha256:?} {signs}")?)
+    Ok(write!(text, " {by_sha256:?} {by_sha512:?} {signs}")?)
 }
 
 /// Appends whether the key of a line is that of the short-term password `pass`, and of `user` in `realm` by

@@ -153,19 +153,22 @@ fn read_algorithm(word: &str) -> Result<IntegrityAlgorithm, LineError> {
     match word {
         "sha1" => Ok(IntegrityAlgorithm::Sha1),
         "sha256" => Ok(IntegrityAlgorithm::Sha256),
+        "sha512" => Ok(IntegrityAlgorithm::Sha512),
         _ => Err(LineError::Bad),
     }
 }
 
-/// The algorithms that a side supports: one, or two with a comma between.
+/// The algorithms that a side supports: one, or several with commas between.
 fn read_supported(word: &str) -> Result<SupportedIntegrity, LineError> {
-    match word.split_once(',') {
-        Some((first, second)) => {
-            let first = SupportedIntegrity::only(read_algorithm(first)?);
-            Ok(first.with(read_algorithm(second)?))
-        }
-        None => Ok(SupportedIntegrity::only(read_algorithm(word)?)),
+    let mut words = word.split(',');
+    let Some(first) = words.next() else {
+        return Err(LineError::Bad);
+    };
+    let mut supported = SupportedIntegrity::only(read_algorithm(first)?);
+    for other in words {
+        supported = supported.with(read_algorithm(other)?);
     }
+    Ok(supported)
 }
 
 /// Whether names are hidden behind hashes.

@@ -94,10 +94,12 @@ fn errors(text: &mut String) -> Result<(), LineError> {
         write!(text, "{error:?} {error}; ")?;
     }
     let (sha1, sha256) = (IntegrityAlgorithm::Sha1, IntegrityAlgorithm::Sha256);
+    let sha512 = IntegrityAlgorithm::Sha512;
     for error in [
         LongTermClientAuthError::Unauthorized,
         LongTermClientAuthError::IntegrityFailed(sha1),
         LongTermClientAuthError::IntegrityFailed(sha256),
+        LongTermClientAuthError::IntegrityFailed(sha512),
         LongTermClientAuthError::UnsupportedFeature,
         LongTermClientAuthError::NoMemory,
     ] {
@@ -108,6 +110,7 @@ fn errors(text: &mut String) -> Result<(), LineError> {
         LongTermServerAuthError::Unauthorized,
         LongTermServerAuthError::IntegrityFailed(sha1),
         LongTermServerAuthError::IntegrityFailed(sha256),
+        LongTermServerAuthError::IntegrityFailed(sha512),
         LongTermServerAuthError::BadRequest,
         LongTermServerAuthError::StaleNonce,
         LongTermServerAuthError::NoMemory,
