@@ -19,7 +19,6 @@ pub use Rattle.stun_proto_agent.specs.Schedule
 pub use Rattle.stun_proto_agent.specs.Sending
 pub use Rattle.stun_proto_agent.specs.State
 pub use Rattle.stun_proto_server.specs.Nonce
-pub use Rattle.stun_proto_server.specs.Orders
 pub use Rattle.stun_proto_server.specs.SupportedAlgorithms
 pub use Rattle.stun_proto_client.specs.Claims
 pub use Rattle.stun_proto_client.specs.Offers
