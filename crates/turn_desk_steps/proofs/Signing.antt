@@ -1,5 +1,5 @@
 -- What a desk signs, and under which key.
-use Rattle.std.proofs.Common.{◌≡◌, ℕ, ◌+◌, List, [], ◌∷◌, ◌++◌, refl, sym, ap, ◌∙◌, subst}
+use Rattle.std.proofs.Common.{◌≡◌, ℕ, ◌+◌, List, [], ◌∷◌, ◌++◌, refl, sym, ap, ◌∙◌, subst, arith}
 use Rattle.std.specs.List.{AllByRecursion}
 use Rattle.std.specs.declared.net.socket_addr.SocketAddr.{SocketAddr}
 use Rattle.stun_types.specs.Attributes.{Attr, attr_size, numbered}
@@ -42,13 +42,13 @@ no_plain Sha512 h = Prim.cc h
 
 same_algorithm : (a b : IntegrityAlgorithm) → attribute_kind a ≡ attribute_kind b → a ≡ b
 same_algorithm Sha1 Sha1 h = refl
-same_algorithm Sha1 Sha256 h = absurd (Prim.cc h)
-same_algorithm Sha1 Sha512 h = absurd (Prim.cc h)
-same_algorithm Sha256 Sha1 h = absurd (Prim.cc h)
+same_algorithm Sha1 Sha256 h = absurd (omega (arith, h))
+same_algorithm Sha1 Sha512 h = absurd (omega (arith, h))
+same_algorithm Sha256 Sha1 h = absurd (omega (arith, h))
 same_algorithm Sha256 Sha256 h = refl
-same_algorithm Sha256 Sha512 h = absurd (Prim.cc h)
-same_algorithm Sha512 Sha1 h = absurd (Prim.cc h)
-same_algorithm Sha512 Sha256 h = absurd (Prim.cc h)
+same_algorithm Sha256 Sha512 h = absurd (omega (arith, h))
+same_algorithm Sha512 Sha1 h = absurd (omega (arith, h))
+same_algorithm Sha512 Sha256 h = absurd (omega (arith, h))
 same_algorithm Sha512 Sha512 h = refl
 
 -- a message with one integrity attribute behind plain ones: what it covers is what validates

@@ -1,1 +1,4 @@
 pub mod AlgorithmLemmas
+pub mod BytesLemmas
+pub mod LineLemmas
+pub mod NumberLemmas
