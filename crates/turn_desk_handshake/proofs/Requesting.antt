@@ -92,9 +92,11 @@ own_choice [] choice none among = absurd (Prim.cc among)
 own_choice (Sha1 ∷ []) Sha1 none among = refl
 own_choice (Sha1 ∷ []) Sha256 none among = absurd (Prim.cc among)
 own_choice (Sha1 ∷ []) Sha512 none among = absurd (Prim.cc among)
-own_choice (Sha1 ∷ second ∷ rest) choice none among = absurd (Prim.cc none)
-own_choice (Sha256 ∷ rest) choice none among = absurd (Prim.cc none)
-own_choice (Sha512 ∷ rest) choice none among = absurd (Prim.cc none)
+own_choice (Sha256 ∷ []) choice none among = absurd (Prim.cc none)
+own_choice (Sha512 ∷ []) choice none among = absurd (Prim.cc none)
+own_choice (Sha1 ∷ b ∷ rest) choice none among = absurd (Prim.cc none)
+own_choice (Sha256 ∷ b ∷ rest) choice none among = absurd (Prim.cc none)
+own_choice (Sha512 ∷ b ∷ rest) choice none among = absurd (Prim.cc none)
 
 -- what is claimed of algorithms fits
 fits : (algorithms : List IntegrityAlgorithm) (choice : IntegrityAlgorithm) (offered : Option (List ℕ)) (claim : Claimed) (needs : Bool) → needs_password_algorithms algorithms ≡ needs → offered ≡ (if needs then Some (list_of algorithms) else None)

@@ -1,11 +1,11 @@
 -- What a desk signs, and under which key.
-use Rattle.std.proofs.Common.{◌≡◌, ℕ, ◌+◌, List, [], ◌∷◌, ◌++◌, Some, refl, sym, ap, ◌∙◌, subst}
+use Rattle.std.proofs.Common.{◌≡◌, ℕ, ◌+◌, List, [], ◌∷◌, ◌++◌, refl, sym, ap, ◌∙◌, subst, arith}
 use Rattle.std.specs.List.{AllByRecursion}
 use Rattle.std.specs.declared.net.socket_addr.SocketAddr.{SocketAddr}
 use Rattle.stun_types.specs.Attributes.{Attr, attr_size, numbered}
 use Rattle.stun_types.specs.Covered.{covered_text}
 use Rattle.stun_types.specs.Grammar.{shown}
-use Rattle.stun_types.specs.Integrity.{Validates, algorithm_of, attribute_kind}
+use Rattle.stun_types.specs.Integrity.{Validates, attribute_kind}
 use Rattle.stun_types.specs.IntegrityAlgorithms.{IntegrityAlgorithm, Sha1, Sha256, Sha512}
 use Rattle.stun_types.specs.Shape.{rank}
 use Rattle.turn_desk_core.specs.Replies.{relayed_attributes}
@@ -40,16 +40,16 @@ no_plain Sha1 h = Prim.cc h
 no_plain Sha256 h = Prim.cc h
 no_plain Sha512 h = Prim.cc h
 
-known_again : (algorithm : IntegrityAlgorithm) → algorithm_of (attribute_kind algorithm) ≡ Some algorithm
-known_again Sha1 = refl
-known_again Sha256 = refl
-known_again Sha512 = refl
-
-inside : {a b : IntegrityAlgorithm} → Some a ≡ Some b → a ≡ b
-inside p = Prim.cc p
-
 same_algorithm : (a b : IntegrityAlgorithm) → attribute_kind a ≡ attribute_kind b → a ≡ b
-same_algorithm a b h = inside (sym (known_again a) ∙ (ap algorithm_of h ∙ known_again b))
+same_algorithm Sha1 Sha1 h = refl
+same_algorithm Sha1 Sha256 h = absurd (omega (arith, h))
+same_algorithm Sha1 Sha512 h = absurd (omega (arith, h))
+same_algorithm Sha256 Sha1 h = absurd (omega (arith, h))
+same_algorithm Sha256 Sha256 h = refl
+same_algorithm Sha256 Sha512 h = absurd (omega (arith, h))
+same_algorithm Sha512 Sha1 h = absurd (omega (arith, h))
+same_algorithm Sha512 Sha256 h = absurd (omega (arith, h))
+same_algorithm Sha512 Sha512 h = refl
 
 -- a message with one integrity attribute behind plain ones: what it covers is what validates
 pub record IsTheText (one other : IntegrityAlgorithm) (text covered : List ℕ) : Type 0 where

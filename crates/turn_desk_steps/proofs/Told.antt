@@ -62,9 +62,11 @@ taken_by false [] algorithm is = absurd (Prim.cc is)
 taken_by false (Sha1 ∷ []) Sha1 is = refl
 taken_by false (Sha1 ∷ []) Sha256 is = refl
 taken_by false (Sha1 ∷ []) Sha512 is = refl
+taken_by false (Sha256 ∷ []) algorithm is = absurd (Prim.cc is)
+taken_by false (Sha512 ∷ []) algorithm is = absurd (Prim.cc is)
 taken_by false (Sha1 ∷ second ∷ others) algorithm is = absurd (Prim.cc is)
-taken_by false (Sha256 ∷ others) algorithm is = absurd (Prim.cc is)
-taken_by false (Sha512 ∷ others) algorithm is = absurd (Prim.cc is)
+taken_by false (Sha256 ∷ second ∷ others) algorithm is = absurd (Prim.cc is)
+taken_by false (Sha512 ∷ second ∷ others) algorithm is = absurd (Prim.cc is)
 
 pub takes_own : (party : Party) (algorithm : IntegrityAlgorithm) → (features_told party.nonce).password_algorithms ≡ needs_password_algorithms party.algorithms
     → takes (list_offered party) algorithm ≡ supports party.algorithms algorithm
