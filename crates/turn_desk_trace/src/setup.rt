@@ -210,8 +210,10 @@ fn read_client<'a>(words: &[&'a str]) -> Option<Setup<'a>>
         return None;
     };
     let (by, over) = read_transports(by, over)?;
-    let settings = read_client_at(local, remote, rest)?;
-    Some(Setup::Client { by, over, settings })
+    match read_client_at(local, remote, rest) {
+        Some(settings) => Some(Setup::Client { by, over, settings }),
+        None => None,
+    }
 }
 
 /// The transports that two words name: that between a client and the server, and that between the server and
