@@ -74,7 +74,7 @@ impl Progress {
             return Ok(None);
         }
         match read_line(self.alloc, line, self.named.as_slice()) {
-            Ok(Line::Setup(setup)) => match self.set_up(setup) {
+            Ok(Line::Setup(setup)) => match self.set_up(&setup) {
                 Ok(()) => Ok(None),
                 Err(error) => Err(error),
             },
@@ -88,12 +88,12 @@ impl Progress {
 
     /// Does what a setup line says. `Bad` where it may not stand here: behind an event line; a second
     /// `desk`, `rto` or `client`; a `user` before the `desk`; an `rto` behind the `client`.
-    fn set_up(&mut self, setup: Setup<'_>) -> Result<(), LineError>
-        requires { IsBounded setup }
-        ensures ok { OnOk result ((can_set_up (progress_of self.old) setup.entry ≡ true)
-            × IsSetUp (progress_of self.old) setup.entry (progress_of self.new)) }
+    fn set_up(&mut self, setup: &Setup<'_>) -> Result<(), LineError>
+        requires { IsBounded setup.now }
+        ensures ok { OnOk result ((can_set_up (progress_of self.old) setup.now ≡ true)
+            × IsSetUp (progress_of self.old) setup.now (progress_of self.new)) }
         ensures bad { result ≡ Err LineError.Bad
-            → can_set_up (progress_of self.old) setup.entry ≡ false }
+            → can_set_up (progress_of self.old) setup.now ≡ false }
     {
         if self.world.is_some() {
             return Err(LineError::Bad);
@@ -103,7 +103,7 @@ impl Progress {
                 realm,
                 algorithms,
                 anonymity,
-            } => self.add_desk(realm, algorithms, anonymity),
+            } => self.add_desk(realm, *algorithms, *anonymity),
             Setup::User { name, password } => self.add_user(name, password),
             Setup::Rto {
                 initial,
@@ -111,12 +111,12 @@ impl Progress {
                 retransmits,
                 last,
             } => self.set_rto(Rto {
-                initial,
-                max,
-                retransmits,
-                last,
+                initial: *initial,
+                max: *max,
+                retransmits: *retransmits,
+                last: *last,
             }),
-            Setup::Client { by, over, settings } => self.add_client(by, over, &settings),
+            Setup::Client { by, over, settings } => self.add_client(*by, *over, settings),
         }
     }
 
