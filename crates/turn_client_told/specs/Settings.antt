@@ -49,7 +49,7 @@ or_others [] others = others
 or_others (some ∷ rest) _ = some ∷ rest
 
 -- what is supported by the bits of algorithms, the weaker first: at first HMAC-SHA1
-abbrev pub algorithms_of : ℕ → List IntegrityAlgorithm → List IntegrityAlgorithm
+unfoldable pub algorithms_of : ℕ → List IntegrityAlgorithm → List IntegrityAlgorithm
 algorithms_of bits first = or_others (filter (λ algorithm. has_bit bits (bit_of algorithm)) all_algorithms) first
 
 -- whether the name is hidden: at first where the server can

@@ -152,6 +152,7 @@ impl TurnSettings {
     }
 
     /// Sets the algorithms: the weakest whose bit is set, and those behind it.
+    #[tactic(auto, unfolding(crate::specs::Settings::algorithms_of))]
     fn set_integrity(&self, config: &mut TurnConfig)
         ensures { config.new ≡ record config.old {
           algorithms = algorithms_of self.now.integrity config.old.algorithms;
