@@ -455,7 +455,6 @@ def strongest():
     t.at(50)
     t.draws(allocate(told=STRONGEST, by=BY_SHA512))
     t.at(60)
-    t.feeds(grant(RELAYED, by=BY_SHA256), "TURN_IGNORED", "signed by another algorithm")
     t.feeds(grant(RELAYED, by=BY_SHA512))
     t.tells("TURN_ALLOCATION_CREATED", RELAYED)
     t.tells_no_more()
