@@ -26,7 +26,8 @@ EVIL = "198.51.100.66:6666"
 WAITS = ("600 1000 3 3000", "0 0 1 0", "100 50 4 10", "1 1000000 12 1", "20000000 20000000 2 5000")
 # what a side supports
 ALGORITHMS = (
-    "sha1", "sha256", "sha512", "sha1,sha256", "sha256,sha1", "sha256,sha512", "sha1,sha256,sha512", "sha512,sha1,sha256",
+    "sha1", "sha256", "sha512", "sha1,sha256", "sha256,sha1", "sha256,sha512", "sha1,sha256,sha512",
+    "sha512,sha1,sha256",
 )
 # what a client is led to, by the transport of what it allocates
 AIMS = {"udp": ("permission", "channel", "channel", "nothing"), "tcp": ("connection", "connection", "permission")}

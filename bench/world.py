@@ -139,7 +139,7 @@ def what_a_desk_passes_by():
 
 
 def offered(algorithms, desk, chosen):
-    """The desk offers its algorithms: the client names the chosen one, and signs by it; where there is none, it ends."""
+    """The desk offers its algorithms: the client names the chosen one and signs by it; where there is none, it ends."""
     t = Trace(setup(algorithms=algorithms, desk=f"{desk} auto"))
     drawn = t.draw(0, first())
     listed = (PASSWORD_ALGORITHMS, entries(*desk.split(",")))
@@ -578,8 +578,8 @@ def good_traces():
     yield from (
         handshake(), forged_grant(), repeated_grant(), reflected_request(),
         address_behind_the_signature(), added_signature(), foreign_datagrams(), forged_challenge(),
-        repeated_challenge(), ten_challenges(), what_a_desk_passes_by(), *offers(), no_hashed_names(), lost_replies(), lost_reply(),
-        nobody_answers(), deleted(), renewed(), repeated_renewal(), error_above(),
+        repeated_challenge(), ten_challenges(), what_a_desk_passes_by(), *offers(), no_hashed_names(),
+        lost_replies(), lost_reply(), nobody_answers(), deleted(), renewed(), repeated_renewal(), error_above(),
         last_moment(), nothing_yet(), *first_answered(), request_for_a_response(), default_timeout(),
         *signed_answered(), signed_request(), expired(), stale_allocate(), half_stale(),
         family_unknown(), family_not_supported(), both_families(), refresh_times_out(),

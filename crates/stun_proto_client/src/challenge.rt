@@ -1,6 +1,6 @@
 //! What a challenge tells.
 
-ghost use Rattle.std.specs.Prelude.{◌≡◌, ◌↔◌, IsTrue};
+ghost use Rattle.std.specs.Prelude.{◌≡◌, ◌↔◌};
 ghost use Rattle.std.specs.Option.{option_copied};
 ghost use Rattle.stun_proto_claim.specs.Claims.{claimed};
 ghost use Rattle.stun_proto_client.specs.Challenges.{asks_again, challenge_shown, is_anonymous_enough, list_by, told_of};

@@ -9,7 +9,6 @@ ghost use Rattle.stun_proto_claim.specs.MessageReading.{IsReadAs};
 ghost use Rattle.stun_proto_sign.specs.Addition.{addition_refusal, calls_of};
 ghost use Rattle.stun_proto_sign.specs.AdditionStages.{IsMade};
 ghost use Rattle.stun_proto_claim.specs.Credentials.{Key};
-ghost use Rattle.stun_proto_claim.specs.IntegrityAlgorithms.{IntegrityAlgorithm as Algorithm};
 ghost use Rattle.stun_proto_claim.specs.MessageClasses.{MessageClass as Class};
 ghost use Rattle.stun_proto_client.specs.declared.error.LongTermClientAuthError.{LongTermClientAuthError};
 ghost use Rattle.stun_proto_client.specs.declared.validation.LongTermClientValidation.{LongTermClientValidation};

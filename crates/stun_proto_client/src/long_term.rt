@@ -6,7 +6,7 @@ ghost use Rattle.std.specs.Option.{option_copied, option_map};
 ghost use Rattle.stun_proto_claim.specs.IntegrityAlgorithms.{Sha1};
 ghost use Rattle.stun_proto_claim.specs.SupportedAlgorithms.{is_same_algorithm, with_algorithm};
 ghost use Rattle.stun_proto_claim.specs.declared.feature.Feature.TheVariants.{Auto};
-ghost use Rattle.stun_proto_client.specs.Client.{Challenge, Standing, standing_key, standing_of};
+ghost use Rattle.stun_proto_client.specs.Client.{Standing, standing_key, standing_of};
 
 use crate::kept::{KeptChallenge, key_of_both};
 use std::alloc::Global;

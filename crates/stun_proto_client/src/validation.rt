@@ -4,7 +4,6 @@ ghost use Rattle.std.specs.Prelude.{◌≡◌, MatchResult, MatchOption, Some, N
 ghost use Rattle.stun_proto_claim.specs.Claims.{claimed};
 ghost use Rattle.std.specs.Bool.{MatchBool};
 ghost use Rattle.stun_proto_client.specs.Challenges.{challenge_shown};
-ghost use Rattle.stun_proto_client.specs.Client.{standing_key, standing_of};
 ghost use Rattle.stun_proto_client.specs.ClientValidation.{IsAnswerable, IsTaken, IsTurnedDown, IsUnanswerable};
 ghost use Rattle.stun_proto_client.specs.Digests.{IsRight, IsWrong};
 

@@ -47,12 +47,11 @@ pub use Rattle.stun_types_password.specs.Entries
 pub use Rattle.stun_types_password.specs.PasswordAlgorithmNumbers
 pub use Rattle.stun_types_password.specs.Userhashes
 pub use Rattle.stun_types_message.specs.Credentials
+pub use Rattle.stun_types_message.specs.HmacFronts
 pub use Rattle.stun_types_message.specs.Hmacs
 pub use Rattle.stun_types_message.specs.Integrity
 pub use Rattle.stun_types_message.specs.KeyBytes
 pub use Rattle.stun_types_message.specs.Keys
-pub use Rattle.stun_types_message.specs.Sha256Values
-pub use Rattle.stun_types_message.specs.Sha512Values
 pub use Rattle.stun_types_message.specs.Signing
 pub use Rattle.stun_types_message.specs.FingerprintValues
 pub use Rattle.stun_types_message.specs.Calls

@@ -1,5 +1,6 @@
 -- What an add makes of a draft.
-use Rattle.std.proofs.Common.{◌≡◌, ℕ, ◌+◌, ◌-◌, ◌≤◌, List, length, refl, sym, ap, subst, ◌∙◌, arith}
+use Rattle.std.proofs.Common.{◌≡◌, ℕ, ◌+◌, ◌-◌, ◌≤◌, List, ◌++◌, length, refl, sym, ap, subst, ◌∙◌, arith}
+use Rattle.std.specs.Prelude.{IfSome}
 use Rattle.stun_types_wire.specs.declared.algorithm.IntegrityAlgorithm.{IntegrityAlgorithm}
 use Rattle.stun_types_wire.specs.declared.algorithm.IntegrityAlgorithm.TheVariants.{Sha1, Sha256, Sha512}
 use Rattle.stun_types_wire.specs.Attributes.{Attr, attr_size, padded}
@@ -11,8 +12,8 @@ use Rattle.stun_types_write.specs.Adding.{attr_of, IsBegun}
 use Rattle.stun_types_wire.specs.Registry.{greatest_size}
 use Rattle.stun_types_integrity.specs.Integrity.{attribute_kind, integrity_hmac}
 use Rattle.stun_types_integrity.specs.Signing.{hmac_length, signature, text_to_sign}
-use Rattle.stun_types_build.proofs.Adds.{added as bytes_added, added_begun, added_text, long_enough, pushed_long as bytes_long}
-use Rattle.stun_types_write.specs.Drafts.{Draft, pushed_attribute, with_bytes}
+use Rattle.stun_types_build.proofs.Adds.{added as bytes_added, added_begun, added_text, length-with_length, long_enough, pushed_long as bytes_long, with_length-append}
+use Rattle.stun_types_write.specs.Drafts.{Draft, HasRoom, pushed_attribute, with_bytes}
 use Rattle.stun_types_write.specs.Outcomes.{IsAdded, added}
 
 -- what is pushed, and then told by the length, is added
@@ -73,3 +74,27 @@ signed old middle new key algorithm kind value end begun push own ends fits dige
     let n : end - 20 ≡ length old.bytes - 20 + (4 + hmac_length algorithm) = omega arith in
     let same : attr_of kind value ≡ signature algorithm key old.bytes = ap (λ k. attr_of k value) own ∙ ap (λ (v : List ℕ). attr_of (attribute_kind algorithm) v) (digest ∙ ap (λ m. integrity_hmac algorithm key (with_length old.bytes m)) n) in
     added_as old middle new (attr_of kind value) (signature algorithm key old.bytes) end same begun push (ends ∙ ap (λ k. length old.bytes + k) (sym (whole_size algorithm (length value) size))) fits told
+
+-- ---- what is told by the length first, and then pushed
+
+pub told_fits : (old told : Draft) (n : ℕ) → IsBegun old.bytes → told ≡ with_bytes old (with_length old.bytes n) → length told.bytes ≡ length old.bytes
+told_fits old told n begun is = ap (λ (d : Draft). length d.bytes) is ∙ length-with_length old.bytes n (long_enough old.bytes begun)
+
+-- it is what is pushed and then told
+pub told_first : (old told new : Draft) (a : Attr) (n : ℕ) → IsBegun old.bytes → told ≡ with_bytes old (with_length old.bytes n) → new ≡ pushed_attribute a told
+    → new ≡ with_bytes (pushed_attribute a old) (with_length (old.bytes ++ attribute_text a) n)
+told_first old told new a n begun is push =
+    push ∙ ap (λ (d : Draft). pushed_attribute a d) is
+    ∙ ap (λ (l : List ℕ). with_bytes (pushed_attribute a old) l) (sym (with_length-append old.bytes (attribute_text a) n (long_enough old.bytes begun)))
+
+-- to tell the length that was told undoes it
+pub told_back : (old told back : Draft) (n m : ℕ) → ((k : ℕ) → with_length (with_length old.bytes k) m ≡ old.bytes) → told ≡ with_bytes old (with_length old.bytes n) → back ≡ with_bytes told (with_length told.bytes m) → back ≡ old
+told_back old told back n m undone is again = again ∙ ap (λ (d : Draft). with_bytes d (with_length d.bytes m)) is ∙ ap (λ (l : List ℕ). with_bytes old l) (undone n)
+
+-- what had room has it still
+pub told_room : (old told : Draft) (algorithm : IntegrityAlgorithm) (kind : ℕ) (value : List ℕ) (n : ℕ) → IsBegun old.bytes → told ≡ with_bytes old (with_length old.bytes n) → length value ≡ hmac_length algorithm
+    → HasRoom old (4 + hmac_length algorithm) → HasRoom told (attr_size (attr_of kind value))
+told_room old told algorithm kind value n begun is size room =
+    let same : length old.bytes + (4 + hmac_length algorithm) ≡ length (with_length old.bytes n) + attr_size (attr_of kind value) = omega (arith, length-with_length old.bytes n (long_enough old.bytes begun), whole_size algorithm (length value) size) in
+    let fits : HasRoom (with_bytes old (with_length old.bytes n)) (attr_size (attr_of kind value)) = subst (λ k. IfSome old.limit (λ most. k ≤ most)) same room in
+    subst (λ (d : Draft). HasRoom d (attr_size (attr_of kind value))) (sym is) fits

@@ -1,5 +1,5 @@
 -- What an add makes of the bytes of a message.
-use Rattle.std.proofs.Common.{◌≡◌, ℕ, ◌+◌, ◌-◌, ◌/◌, ◌%◌, ◌^◌, ◌<◌, ◌≤◌, true, not, ltb, List, [], ◌∷◌, ◌++◌, length, replicate, None, refl, sym, ap, ◌∙◌, append_assoc, arith, inl, inr}
+use Rattle.std.proofs.Common.{◌≡◌, ℕ, ◌+◌, ◌-◌, ◌*◌, ◌/◌, ◌%◌, ◌^◌, ◌<◌, ◌≤◌, true, not, ltb, List, [], ◌∷◌, ◌++◌, length, get_or, replicate, None, refl, sym, ap, ◌∙◌, append_assoc, Fits, w8, arith, inl, inr}
 use Rattle.std.proofs.lemmas.Bool.{cases_Bool, ltb-false, le-ltb, lt-ltb}
 use Rattle.std.proofs.lemmas.List.{length-append, length-replicate, append-nil}
 use Rattle.stun_types_wire.specs.Attributes.{Attr, padded, padding_len, attr_size}
@@ -48,7 +48,7 @@ begins_again (a ∷ b ∷ c ∷ d ∷ e ∷ []) tail n long begins = absurd (ome
 begins_again (a ∷ b ∷ c ∷ d ∷ e ∷ f ∷ []) tail n long begins = absurd (omega arith)
 begins_again (a ∷ b ∷ c ∷ d ∷ e ∷ f ∷ g ∷ []) tail n long begins = absurd (omega arith)
 
-with_length-append : (bytes text : List ℕ) (n : ℕ) → 20 ≤ length bytes → with_length (bytes ++ text) n ≡ with_length bytes n ++ text
+pub with_length-append : (bytes text : List ℕ) (n : ℕ) → 20 ≤ length bytes → with_length (bytes ++ text) n ≡ with_length bytes n ++ text
 unfolding with_length
 with_length-append (a ∷ b ∷ c ∷ d ∷ bytes) text n h = refl
 with_length-append [] text n h = absurd (omega arith)
@@ -56,13 +56,25 @@ with_length-append (a ∷ []) text n h = absurd (omega arith)
 with_length-append (a ∷ b ∷ []) text n h = absurd (omega arith)
 with_length-append (a ∷ b ∷ c ∷ []) text n h = absurd (omega arith)
 
-length-with_length : (bytes : List ℕ) (n : ℕ) → 20 ≤ length bytes → length (with_length bytes n) ≡ length bytes
+pub length-with_length : (bytes : List ℕ) (n : ℕ) → 20 ≤ length bytes → length (with_length bytes n) ≡ length bytes
 unfolding with_length
 length-with_length (a ∷ b ∷ c ∷ d ∷ bytes) n h = refl
 length-with_length [] n h = absurd (omega arith)
 length-with_length (a ∷ []) n h = absurd (omega arith)
 length-with_length (a ∷ b ∷ []) n h = absurd (omega arith)
 length-with_length (a ∷ b ∷ c ∷ []) n h = absurd (omega arith)
+
+-- a length that is told again, over another
+pub told_again : (bytes : List ℕ) (m n : ℕ) → 20 ≤ length bytes → ((i : ℕ) → Fits w8 (get_or bytes i 0)) → m ≡ get_or bytes 2 0 * 256 + get_or bytes 3 0 → with_length (with_length bytes n) m ≡ bytes
+unfolding with_length
+told_again (a ∷ b ∷ c ∷ d ∷ rest) m n long small is =
+    let first : m / 256 % 256 ≡ c = omega (arith, small 2, small 3) in
+    let second : m % 256 ≡ d = omega (arith, small 2, small 3) in
+    rw (first, second) refl
+told_again [] m n long small is = absurd (omega arith)
+told_again (a ∷ []) m n long small is = absurd (omega arith)
+told_again (a ∷ b ∷ []) m n long small is = absurd (omega arith)
+told_again (a ∷ b ∷ c ∷ []) m n long small is = absurd (omega arith)
 
 pub length-attribute_text : (a : Attr) → length (attribute_text a) ≡ attr_size a
 unfolding attribute_text padded_text

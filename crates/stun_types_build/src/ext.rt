@@ -155,6 +155,9 @@ impl<W: MessageWrite> MessageWriteExt for W {
         header_of(self.data()).transaction_id()
     }
 
+    // Part of each caller, which knows the attribute's type: through the table of the `dyn` it is asked
+    // three times.
+    #[inline(always)]
     #[tactic(auto, using(crate::proofs::Adds::long), unfolding(crate::proofs::Adds::refusals))]
     fn add_attribute(&mut self, attribute: &dyn AttributeWrite) -> Result<(), StunWriteError> {
         let ended = self.ended();

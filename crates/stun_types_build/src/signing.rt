@@ -1,20 +1,17 @@
 //! The integrity attribute, added at the end of a message (RFC 8489, sections 14.5 and 14.6).
 
-ghost use Rattle.std.specs.Prelude.{◌≡◌, ◌≤◌, length, OnOk, OnErr, IsOk, IsSome};
+ghost use Rattle.std.specs.Prelude.{◌≡◌, ◌≤◌, ℕ, length, OnOk, OnErr, IsOk, IsSome};
 ghost use Rattle.stun_types_wire.specs.Attributes.{attr_size};
 ghost use Rattle.stun_types_wire.specs.Covered.{with_length};
 ghost use Rattle.stun_types_write.specs.Adding.{attr_of, IsBegun};
 ghost use Rattle.stun_types_wire.specs.Registry.{greatest_size, header_size};
-ghost use Rattle.stun_types_integrity.specs.Hmacs.{hmac_bytes};
-ghost use Rattle.stun_types_integrity.specs.Integrity.{integrity_hmac};
-ghost use Rattle.stun_types_integrity.specs.Signing.{hmac_length as length_of_hmac, signature, signing_refusal};
+ghost use Rattle.stun_types_integrity.specs.Signing.{signature, signing_refusal};
 ghost use Rattle.stun_types_write.specs.Drafts.{HasRoom, pushed_attribute};
 ghost use Rattle.stun_types_write.specs.Outcomes.{TakesNoMemory, IsAdded};
 ghost use Rattle.stun_types_write.specs.Refusals.{RefusesFor};
 
 use crate::room::{end_of_add, may_sign};
 use stun_types_integrity::algorithm::{attribute_type, hmac_length};
-use stun_types_integrity::hmac::IntegrityHmac;
 use stun_types_integrity::key::IntegrityKey;
 use stun_types_wire::algorithm::IntegrityAlgorithm;
 use stun_types_wire::attribute::RawAttribute;
@@ -22,7 +19,6 @@ use stun_types_wire::error::StunWriteError;
 use stun_types_wire::header::MessageHeader;
 use stun_types_write::attribute::{Attribute, AttributeWrite};
 use stun_types_write::memory::NoMemory;
-use stun_types_write::text::front_told;
 use stun_types_write::writer::MessageWrite;
 
 /// Adds the integrity attribute of an algorithm under a key. What it refuses stands at
@@ -46,24 +42,25 @@ pub(crate) fn sign<W: MessageWrite>(
         return Err(StunWriteError::IntegrityFailed);
     }
     let end = end_of_add(&*writer, 4 + hmac_length(algorithm))?;
-    let len = (end - MessageHeader::LENGTH) as u16;
-    let hmac = hmac_told(writer.data(), len, key);
+    let told = length_told(writer.data());
+    writer.set_length((end - MessageHeader::LENGTH) as u16);
+    let hmac = key.hmac(writer.data(), &[], &[]);
     let attribute = RawAttribute::new(attribute_type(algorithm), hmac.as_slice());
-    push_as(writer, &attribute, &attribute)?;
-    writer.set_length(len);
-    Ok(())
+    match push_as(writer, &attribute, &attribute) {
+        Ok(()) => Ok(()),
+        Err(_) => {
+            writer.set_length(told);
+            Err(StunWriteError::NoMemory)
+        }
+    }
 }
 
-/// The HMAC of a message under a key, as if its header told this length.
-#[tactic(auto, using(crate::proofs::Pieces::told_front))]
-fn hmac_told(bytes: &[u8], len: u16, key: &IntegrityKey<'_>) -> IntegrityHmac
+/// The length that the header of a message tells: to write it again undoes that another was written.
+fn length_told(bytes: &[u8]) -> u16
     requires { header_size ≤ length bytes.now }
-    ensures bytes { hmac_bytes result
-        ≡ integrity_hmac key.now.algorithm key.now.bytes (with_length bytes.now len) }
-    ensures size { length (hmac_bytes result) ≡ length_of_hmac key.now.algorithm }
+    ensures { (n : ℕ) → with_length (with_length bytes.now n) result ≡ bytes.now }
 {
-    let (_, behind) = bytes.split_at(4);
-    key.hmac(&front_told(bytes, len), behind, &[])
+    u16::from_be_bytes([bytes[2], bytes[3]])
 }
 
 /// `push_attribute_unchecked` of an attribute whose type is known. The two are one value, as a `dyn`

@@ -1,4 +1,3 @@
 pub mod Fronts
+pub mod HmacFronts
 pub mod Keys
-pub mod Sha256Values
-pub mod Sha512Values

@@ -1,9 +1,8 @@
 pub mod Begun
 pub mod Credentials
+pub mod HmacFronts
 pub mod Hmacs
 pub mod Integrity
 pub mod KeyBytes
 pub mod Keys
-pub mod Sha256Values
-pub mod Sha512Values
 pub mod Signing

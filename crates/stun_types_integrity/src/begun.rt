@@ -1,48 +1,57 @@
 //! What the HMACs under a key begin with.
 
 ghost use Rattle.std.specs.Prelude.{◌≡◌};
-ghost use Rattle.sha1.specs.Sha1.{Holds};
-ghost use Rattle.sha2.specs.Hashers.{Holds256};
-ghost use Rattle.stun_types_write.specs.HmacState.{IsBlank};
-ghost use Rattle.stun_types_integrity.specs.Begun.{HasKey};
+ghost use Rattle.stun_types_integrity.specs.Begun.{HasKey, HasNoKey, hmac_algorithm};
 
 use stun_types_write::algorithm::IntegrityAlgorithm;
 use stun_types_write::hmac::{HmacSha1, HmacSha256, HmacSha512};
 
-/// An HMAC by each algorithm, of which that of one has taken a key, and no byte of a text; the others
-/// have taken nothing, and are not used. That of `Sha512` has the size of the other two, so it is there
-/// only where it has the key.
+/// An HMAC by one of the algorithms, which has taken a key, or none yet, and no byte of a text.
 #[derive(Drop)]
-pub(crate) struct Begun {
-    pub(crate) by_sha1: HmacSha1,
-    pub(crate) by_sha256: HmacSha256,
-    pub(crate) by_sha512: Option<HmacSha512>,
+pub(crate) enum Begun {
+    Sha1(HmacSha1),
+    Sha256(HmacSha256),
+    Sha512(HmacSha512),
 }
 
 impl Begun {
-    /// None has a key yet.
+    /// An HMAC-SHA1 without a key.
     #[inline(always)]
     pub(crate) fn blank() -> Begun
-        ensures sha1 { IsBlank Holds result.by_sha1 }
-        ensures sha256 { IsBlank Holds256 result.by_sha256 }
+        ensures blank { HasNoKey result }
+        ensures by { hmac_algorithm result ≡ IntegrityAlgorithm.Sha1 }
     {
-        Begun {
-            by_sha1: HmacSha1::blank(),
-            by_sha256: HmacSha256::blank(),
-            by_sha512: None,
+        Begun::Sha1(HmacSha1::blank())
+    }
+
+    /// Has an HMAC-SHA1 without a key become one by an algorithm, and take a key. Nothing that has taken
+    /// bytes is moved.
+    pub(crate) fn take_key(&mut self, algorithm: IntegrityAlgorithm, key: &[u8])
+        requires blank { HasNoKey self.old }
+        requires by { hmac_algorithm self.old ≡ IntegrityAlgorithm.Sha1 }
+        ensures key { HasKey self.new key.now }
+        ensures by { hmac_algorithm self.new ≡ algorithm }
+    {
+        match algorithm {
+            IntegrityAlgorithm::Sha1 => {}
+            IntegrityAlgorithm::Sha256 => *self = Begun::Sha256(HmacSha256::blank()),
+            IntegrityAlgorithm::Sha512 => *self = Begun::Sha512(HmacSha512::blank()),
+        }
+        match self {
+            Begun::Sha1(hmac) => hmac.take_key(key),
+            Begun::Sha256(hmac) => hmac.take_key(key),
+            Begun::Sha512(hmac) => hmac.take_key(key),
         }
     }
 
-    /// Has the HMAC of an algorithm take a key, where none has one. It takes it where it stands.
-    pub(crate) fn take_key(&mut self, algorithm: IntegrityAlgorithm, key: &[u8])
-        requires sha1 { IsBlank Holds self.old.by_sha1 }
-        requires sha256 { IsBlank Holds256 self.old.by_sha256 }
-        ensures { HasKey algorithm self.new key.now }
+    /// The algorithm.
+    pub(crate) fn algorithm(&self) -> IntegrityAlgorithm
+        ensures { result ≡ hmac_algorithm self.now }
     {
-        match algorithm {
-            IntegrityAlgorithm::Sha1 => self.by_sha1.take_key(key),
-            IntegrityAlgorithm::Sha256 => self.by_sha256.take_key(key),
-            IntegrityAlgorithm::Sha512 => self.by_sha512 = Some(HmacSha512::new(key)),
+        match self {
+            Begun::Sha1(_) => IntegrityAlgorithm::Sha1,
+            Begun::Sha256(_) => IntegrityAlgorithm::Sha256,
+            Begun::Sha512(_) => IntegrityAlgorithm::Sha512,
         }
     }
 
@@ -50,13 +59,10 @@ impl Begun {
     pub(crate) fn again(&self) -> Begun
         ensures { result ≡ self.now }
     {
-        Begun {
-            by_sha1: self.by_sha1.again(),
-            by_sha256: self.by_sha256.again(),
-            by_sha512: match &self.by_sha512 {
-                Some(hmac) => Some(hmac.again()),
-                None => None,
-            },
+        match self {
+            Begun::Sha1(hmac) => Begun::Sha1(hmac.again()),
+            Begun::Sha256(hmac) => Begun::Sha256(hmac.again()),
+            Begun::Sha512(hmac) => Begun::Sha512(hmac.again()),
         }
     }
 }

@@ -214,19 +214,18 @@ impl fmt::Debug for ShortTermCredentials {
 #[derive(Drop)]
 pub struct ShortTermKeyCredentials {
     credentials: ShortTermCredentials,
-    algorithm: IntegrityAlgorithm,
     begun: Begun,
 }
 
 impl Model for ShortTermKeyCredentials {
-    ghost use Rattle.stun_types_integrity.specs.Begun.{HasKey};
+    ghost use Rattle.stun_types_integrity.specs.Begun.{HasKey, hmac_algorithm};
     ghost use Rattle.stun_types_integrity.specs.Credentials.{ShortTermUse};
 
     ghost Value = { ShortTermUse };
 
-    ghost view = { λ c. record { secret = c.credentials; algorithm = c.algorithm } };
+    ghost view = { λ c. record { secret = c.credentials; algorithm = hmac_algorithm c.begun } };
 
-    ghost invariant = { λ c. HasKey c.algorithm c.begun c.credentials.password };
+    ghost invariant = { λ c. HasKey c.begun c.credentials.password };
 }
 
 impl ShortTermKeyCredentials {
@@ -235,11 +234,7 @@ impl ShortTermKeyCredentials {
         ensures { result ≡ record { secret = credentials; algorithm = algorithm } }
     {
         let begun = credentials.make_key(algorithm).into_begun();
-        ShortTermKeyCredentials {
-            credentials,
-            algorithm,
-            begun,
-        }
+        ShortTermKeyCredentials { credentials, begun }
     }
 
     /// The credentials.
@@ -253,14 +248,14 @@ impl ShortTermKeyCredentials {
     pub fn algorithm(&self) -> IntegrityAlgorithm
         ensures { result ≡ self.now.algorithm }
     {
-        self.algorithm
+        self.begun.algorithm()
     }
 
     /// The key: the bytes of the password (RFC 8489, section 9.1.1), which it borrows.
     pub fn key(&self) -> IntegrityKey<'_>
         ensures { result ≡ short_term_key self.now.secret self.now.algorithm }
     {
-        IntegrityKey::of_begun(self.credentials.password(), self.algorithm, &self.begun)
+        IntegrityKey::of_begun(self.credentials.password(), &self.begun)
     }
 }
 
@@ -270,7 +265,7 @@ impl fmt::Debug for ShortTermKeyCredentials {
         write!(
             f,
             "ShortTermKeyCredentials {{ algorithm: {:?}, password: .. }}",
-            self.algorithm
+            self.begun.algorithm()
         )
     }
 }

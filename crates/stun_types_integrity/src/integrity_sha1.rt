@@ -6,6 +6,7 @@ ghost use Rattle.stun_types_write.specs.declared.algorithm.IntegrityAlgorithm.Th
 ghost use Rattle.stun_types_integrity.specs.Integrity.{integrity_hmac};
 ghost use Rattle.stun_types_write.specs.Registry.{integrity_kind, sha1_length};
 
+use crate::hmac::IntegrityHmac;
 use crate::key::IntegrityKey;
 use std::alloc::Global;
 use std::convert::TryFrom;
@@ -77,9 +78,9 @@ impl MessageIntegrity {
             × (hmac ≡ integrity_hmac Sha1 key.now.bytes (head.now ++ middle.now ++ tail.now)))
             (λ error. (error ≡ StunWriteError.IntegrityFailed) × (key.now.algorithm ≢ Sha1)) }
     {
-        match key.hmac_sha1(head, middle, tail) {
-            Some(hmac) => Ok(hmac),
-            None => Err(StunWriteError::IntegrityFailed),
+        match key.hmac(head, middle, tail) {
+            IntegrityHmac::Sha1(hmac) => Ok(hmac),
+            _ => Err(StunWriteError::IntegrityFailed),
         }
     }
 

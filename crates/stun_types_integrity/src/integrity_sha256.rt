@@ -4,10 +4,12 @@ ghost use Rattle.std.specs.Prelude.{◌≡◌, ◌≢◌, ◌↔◌, ◌++◌, l
 ghost use Rattle.stun_types_write.specs.ValueReading.{IsNamed};
 ghost use Rattle.stun_types_write.specs.declared.algorithm.IntegrityAlgorithm.TheVariants.{Sha256};
 ghost use Rattle.stun_types_integrity.specs.Integrity.{IsFront, integrity_hmac, is_lawful_length as is_lawful};
-ghost use Rattle.stun_types_integrity.specs.Sha256Values.{sha256_len_refusal, sha256_read_refusal};
+ghost use Rattle.stun_types_integrity.specs.HmacFronts.{sha256_len_refusal, sha256_read_refusal};
 ghost use Rattle.stun_types_write.specs.Registry.{sha256_kind, sha256_length};
 
 use crate::algorithm::is_lawful_length;
+use crate::front::{check_front, front_of};
+use crate::hmac::IntegrityHmac;
 use crate::key::IntegrityKey;
 use std::alloc::Global;
 use std::convert::TryFrom;
@@ -18,9 +20,9 @@ use stun_types_write::attribute::{
 };
 use stun_types_write::error::{StunParseError, StunWriteError, ValidateError};
 use stun_types_write::memory::NoMemory;
-use stun_types_write::reading::value_of;
-use stun_types_write::registry;
-use stun_types_write::registry::MESSAGE_INTEGRITY_SHA256;
+use stun_types_write::registry::{
+    HMAC_SHA256_LENGTH as WHOLE, MESSAGE_INTEGRITY_SHA256, MIN_HMAC_SHA256_LENGTH as LEAST,
+};
 use stun_types_write::text::write_attribute;
 use stun_types_write::wire_attribute::{AttributeType, RawAttribute};
 
@@ -54,7 +56,7 @@ impl MessageIntegritySha256 {
         ensures { MatchResult result (λ made. (sha256_len_refusal (length hmac.now) ≡ None)
             × (made ≡ hmac.now)) (λ error. sha256_len_refusal (length hmac.now) ≡ Some error) }
     {
-        check_len(hmac.len())?;
+        check_front(hmac.len(), LEAST, WHOLE)?;
         Ok(of_lawful(hmac))
     }
 
@@ -89,9 +91,9 @@ impl MessageIntegritySha256 {
             × (hmac ≡ integrity_hmac Sha256 key.now.bytes (head.now ++ middle.now ++ tail.now)))
             (λ error. (error ≡ StunWriteError.IntegrityFailed) × (key.now.algorithm ≢ Sha256)) }
     {
-        match key.hmac_sha256(head, middle, tail) {
-            Some(hmac) => Ok(hmac),
-            None => Err(StunWriteError::IntegrityFailed),
+        match key.hmac(head, middle, tail) {
+            IntegrityHmac::Sha256(hmac) => Ok(hmac),
+            _ => Err(StunWriteError::IntegrityFailed),
         }
     }
 
@@ -170,7 +172,7 @@ impl AttributeWrite for MessageIntegritySha256 {
 impl<'a, 'raw> TryFrom<&'raw RawAttribute<'a>> for MessageIntegritySha256 {
     ghost use Rattle.std.specs.Prelude.{◌≡◌, MatchResult, Some, None};
     ghost use Rattle.stun_types_write.specs.ValueReading.{IsNamed};
-    ghost use Rattle.stun_types_integrity.specs.Sha256Values.{sha256_read_refusal};
+    ghost use Rattle.stun_types_integrity.specs.HmacFronts.{sha256_read_refusal};
 
     type Error = StunParseError;
 
@@ -179,7 +181,7 @@ impl<'a, 'raw> TryFrom<&'raw RawAttribute<'a>> for MessageIntegritySha256 {
         × (read ≡ raw.now.value)) (IsNamed (sha256_read_refusal raw.now)) };
 
     fn try_from(raw: &'raw RawAttribute<'a>) -> Result<MessageIntegritySha256, StunParseError> {
-        let value = lawful_value_of(raw)?;
+        let value = front_of(raw, MessageIntegritySha256::TYPE, LEAST, WHOLE)?;
         Ok(of_lawful(value))
     }
 }
@@ -187,7 +189,7 @@ impl<'a, 'raw> TryFrom<&'raw RawAttribute<'a>> for MessageIntegritySha256 {
 /// Refused as `try_from` is; no memory is taken.
 impl<'a> AttributeFromRaw<'a> for MessageIntegritySha256 {
     ghost use Rattle.std.specs.Prelude.{false};
-    ghost use Rattle.stun_types_integrity.specs.Sha256Values.{sha256_read_refusal};
+    ghost use Rattle.stun_types_integrity.specs.HmacFronts.{sha256_read_refusal};
 
     ghost read_refusal = { sha256_read_refusal };
 
@@ -209,38 +211,10 @@ impl<'a> AttributeFromRaw<'a> for MessageIntegritySha256 {
         MessageIntegritySha256::from_raw_ref(alloc, &raw)
     }
 
-    #[tactic(auto, using(crate::proofs::Sha256Values::lawful_is_accepted))]
+    #[tactic(auto, using(crate::proofs::HmacFronts::lawful_is_accepted))]
     fn is_read_back(&self, _read: &MessageIntegritySha256) {
         let _ = self.hmac();
     }
-}
-
-/// Whether an attribute has so many bytes. Refused as `new` is.
-#[tactic(auto, unfolding(crate::specs::Sha256Values::sha256_len_refusal))]
-fn check_len(len: usize) -> Result<(), StunWriteError>
-    ensures { MatchResult result (λ _. (sha256_len_refusal len ≡ None)
-        × IsTrue (is_lawful Sha256 len)) (λ error. sha256_len_refusal len ≡ Some error) }
-{
-    let (least, most) = (
-        registry::MIN_HMAC_SHA256_LENGTH,
-        registry::HMAC_SHA256_LENGTH,
-    );
-    if len < least {
-        return Err(StunWriteError::TooSmall {
-            expected: least,
-            actual: len,
-        });
-    }
-    if len > most {
-        return Err(StunWriteError::TooLarge {
-            expected: most,
-            actual: len,
-        });
-    }
-    if len % 4 != 0 {
-        return Err(StunWriteError::IntegrityFailed);
-    }
-    Ok(())
 }
 
 /// The attribute of bytes of a lawful length.
@@ -252,23 +226,4 @@ fn of_lawful(bytes: &[u8]) -> MessageIntegritySha256
     let len = bytes.len();
     hmac[..len].copy_from_slice(bytes);
     MessageIntegritySha256 { hmac, len }
-}
-
-/// The value of a MESSAGE-INTEGRITY-SHA256. Refused as the attribute is.
-#[tactic(auto, unfolding(crate::proofs::Sha256Values::refusals))]
-fn lawful_value_of<'raw>(raw: &'raw RawAttribute<'_>) -> Result<&'raw [u8], StunParseError>
-    ensures { MatchResult result (λ value. (sha256_read_refusal raw.now ≡ None)
-        × (raw.now.kind ≡ sha256_kind) × (value.now ≡ raw.now.value)
-        × IsTrue (is_lawful Sha256 (length value.now))) (IsNamed (sha256_read_refusal raw.now)) }
-{
-    let value = value_of(
-        raw,
-        MessageIntegritySha256::TYPE,
-        registry::MIN_HMAC_SHA256_LENGTH,
-        registry::HMAC_SHA256_LENGTH,
-    )?;
-    if value.len() % 4 != 0 {
-        return Err(StunParseError::InvalidAttributeData);
-    }
-    Ok(value)
 }

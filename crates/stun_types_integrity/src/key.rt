@@ -1,12 +1,12 @@
 //! Keys of message integrity.
 
-ghost use Rattle.std.specs.Prelude.{◌≡◌, ◌≢◌, ◌↔◌, ◌++◌, ⊤, length, IsTrue, MatchOption, codes};
+ghost use Rattle.std.specs.Prelude.{◌≡◌, ◌↔◌, ◌++◌, ⊤, length, IsTrue, codes};
 ghost use Rattle.md5.specs.Md5.{md5};
 ghost use Rattle.sha2.specs.Sha256.{sha256};
 ghost use Rattle.sha2.specs.Sha512.{sha512};
-ghost use Rattle.stun_types_integrity.specs.Begun.{HasKey};
+ghost use Rattle.stun_types_integrity.specs.Begun.{HasKey, hmac_algorithm};
 ghost use Rattle.stun_types_integrity.specs.Credentials.{long_term_key, short_term_key};
-ghost use Rattle.stun_types_integrity.specs.Hmacs.{hmac_bytes};
+ghost use Rattle.stun_types_integrity.specs.Hmacs.{algorithm_of_hmac, hmac_bytes};
 ghost use Rattle.stun_types_integrity.specs.KeyBytes.{bytes_of};
 ghost use Rattle.stun_types_integrity.specs.Integrity.{IsFront, integrity_hmac};
 ghost use Rattle.stun_types_integrity.specs.Signing.{hmac_length};
@@ -45,6 +45,7 @@ impl<'a> KeyBytes<'a> {
 }
 
 /// What a key holds: its bytes, the algorithm for which it was made, and what HMACs begin with.
+// A struct of three is moved as a whole, so that no key is copied where it is made; one of two is not.
 #[derive(Drop)]
 struct Held<'a> {
     bytes: KeyBytes<'a>,
@@ -63,7 +64,8 @@ pub struct IntegrityKey<'a> {
 }
 
 impl<'a> Model for IntegrityKey<'a> {
-    ghost use Rattle.stun_types_integrity.specs.Begun.{HasKey};
+    ghost use Rattle.std.specs.Prelude.{◌≡◌};
+    ghost use Rattle.stun_types_integrity.specs.Begun.{HasKey, hmac_algorithm};
     ghost use Rattle.stun_types_integrity.specs.Credentials.{Key};
     ghost use Rattle.stun_types_integrity.specs.KeyBytes.{bytes_of};
 
@@ -72,8 +74,8 @@ impl<'a> Model for IntegrityKey<'a> {
     ghost view = { λ key.
         record { bytes = bytes_of key.held.bytes; algorithm = key.held.algorithm } };
 
-    ghost invariant = { λ key. HasKey key.held.algorithm key.held.begun
-        (bytes_of key.held.bytes) };
+    ghost invariant = { λ key. (hmac_algorithm key.held.begun ≡ key.held.algorithm)
+        × HasKey key.held.begun (bytes_of key.held.bytes) };
 }
 
 impl<'a> IntegrityKey<'a> {
@@ -123,19 +125,16 @@ impl<'a> IntegrityKey<'a> {
         IntegrityKey { held }
     }
 
-    /// The key of a password for an algorithm, of which this is what HMACs begin with.
-    pub(crate) fn of_begun(
-        password: &'a str,
-        algorithm: IntegrityAlgorithm,
-        begun: &Begun,
-    ) -> IntegrityKey<'a>
-        requires { HasKey algorithm begun.now password.now }
-        ensures { result ≡ short_term_key (record { password = password.now }) algorithm }
+    /// The key of a password, of which this is what HMACs begin with.
+    pub(crate) fn of_begun(password: &'a str, begun: &Begun) -> IntegrityKey<'a>
+        requires { HasKey begun.now password.now }
+        ensures { result ≡ short_term_key (record { password = password.now })
+            (hmac_algorithm begun.now) }
     {
         IntegrityKey {
             held: Held {
                 bytes: KeyBytes::Password(password),
-                algorithm,
+                algorithm: begun.algorithm(),
                 begun: begun.again(),
             },
         }
@@ -143,7 +142,8 @@ impl<'a> IntegrityKey<'a> {
 
     /// What HMACs under it begin with.
     pub(crate) fn into_begun(self) -> Begun
-        ensures { HasKey self.entry.algorithm result self.entry.bytes }
+        ensures key { HasKey result self.entry.bytes }
+        ensures by { hmac_algorithm result ≡ self.entry.algorithm }
     {
         self.held.begun
     }
@@ -169,65 +169,12 @@ impl<'a> IntegrityKey<'a> {
         ensures bytes { hmac_bytes result ≡ integrity_hmac self.now.algorithm self.now.bytes
             (head.now ++ middle.now ++ tail.now) }
         ensures size { length (hmac_bytes result) ≡ hmac_length self.now.algorithm }
+        ensures by { algorithm_of_hmac result ≡ self.now.algorithm }
     {
-        let begun = &self.held.begun;
-        match self.held.algorithm {
-            IntegrityAlgorithm::Sha1 => {
-                IntegrityHmac::Sha1(begun.by_sha1.with_pieces(head, middle, tail))
-            }
-            IntegrityAlgorithm::Sha256 => {
-                IntegrityHmac::Sha256(begun.by_sha256.with_pieces(head, middle, tail))
-            }
-            IntegrityAlgorithm::Sha512 => match &begun.by_sha512 {
-                Some(hmac) => IntegrityHmac::Sha512(hmac.with_pieces(head, middle, tail)),
-                None => unreachable!(),
-            },
-        }
-    }
-
-    /// The HMAC-SHA1 of a text that comes in three pieces, as for `hmac`. None where the key was made
-    /// for another algorithm.
-    pub(crate) fn hmac_sha1(&self, head: &[u8], middle: &[u8], tail: &[u8]) -> Option<[u8; 20]>
-        ensures { MatchOption result (self.now.algorithm ≢ IntegrityAlgorithm.Sha1)
-            (λ hmac. (self.now.algorithm ≡ IntegrityAlgorithm.Sha1)
-            × (hmac ≡ integrity_hmac IntegrityAlgorithm.Sha1 self.now.bytes
-            (head.now ++ middle.now ++ tail.now))) }
-    {
-        match self.held.algorithm {
-            IntegrityAlgorithm::Sha1 => {
-                Some(self.held.begun.by_sha1.with_pieces(head, middle, tail))
-            }
-            _ => None,
-        }
-    }
-
-    /// The HMAC-SHA256 of a text that comes in three pieces, as for `hmac`. None where the key was made
-    /// for another algorithm.
-    pub(crate) fn hmac_sha256(&self, head: &[u8], middle: &[u8], tail: &[u8]) -> Option<[u8; 32]>
-        ensures { MatchOption result (self.now.algorithm ≢ IntegrityAlgorithm.Sha256)
-            (λ hmac. (self.now.algorithm ≡ IntegrityAlgorithm.Sha256)
-            × (hmac ≡ integrity_hmac IntegrityAlgorithm.Sha256 self.now.bytes
-            (head.now ++ middle.now ++ tail.now))) }
-    {
-        match self.held.algorithm {
-            IntegrityAlgorithm::Sha256 => {
-                Some(self.held.begun.by_sha256.with_pieces(head, middle, tail))
-            }
-            _ => None,
-        }
-    }
-
-    /// The HMAC-SHA512 of a text that comes in three pieces, as for `hmac`. None where the key was made
-    /// for another algorithm.
-    pub(crate) fn hmac_sha512(&self, head: &[u8], middle: &[u8], tail: &[u8]) -> Option<[u8; 64]>
-        ensures { MatchOption result (self.now.algorithm ≢ IntegrityAlgorithm.Sha512)
-            (λ hmac. (self.now.algorithm ≡ IntegrityAlgorithm.Sha512)
-            × (hmac ≡ integrity_hmac IntegrityAlgorithm.Sha512 self.now.bytes
-            (head.now ++ middle.now ++ tail.now))) }
-    {
-        match (self.held.algorithm, &self.held.begun.by_sha512) {
-            (IntegrityAlgorithm::Sha512, Some(hmac)) => Some(hmac.with_pieces(head, middle, tail)),
-            _ => None,
+        match &self.held.begun {
+            Begun::Sha1(hmac) => IntegrityHmac::Sha1(hmac.with_pieces(head, middle, tail)),
+            Begun::Sha256(hmac) => IntegrityHmac::Sha256(hmac.with_pieces(head, middle, tail)),
+            Begun::Sha512(hmac) => IntegrityHmac::Sha512(hmac.with_pieces(head, middle, tail)),
         }
     }
 

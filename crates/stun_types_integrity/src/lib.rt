@@ -5,6 +5,7 @@
 pub mod algorithm;
 mod begun;
 pub mod credentials;
+mod front;
 pub mod hmac;
 pub mod integrity_sha1;
 pub mod integrity_sha256;

@@ -3,7 +3,9 @@ use Rattle.std.proofs.Common.{◌≡◌, ℕ, zero, suc, ◌+◌, ◌-◌, ◌<�
 use Rattle.std.specs.Prelude.{find, map, IsSomeAnd, IfOk, IfErr, OnOk, Result, Ok, Err}
 use Rattle.std.proofs.lemmas.Bool.{cases_Bool, ltb-true, ltb-false, eqb-true, ne_eqb, eq-eqb}
 use Rattle.std.specs.Option.{option_or}
-use Rattle.std.proofs.lemmas.List.{length-drop, length-take}
+use Rattle.std.proofs.lemmas.Bool.Decides.{Decides-eqb}
+use Rattle.std.proofs.lemmas.Slice.Eq.{starts_is}
+use Rattle.std.proofs.lemmas.List.{append-nil, length-drop, length-take}
 use Rattle.byteorder.specs.Endian.{big_bytes}
 use Rattle.stun_types_wire.specs.declared.error.StunParseError.{StunParseError}
 use Rattle.stun_types_wire.specs.declared.algorithm.IntegrityAlgorithm.{IntegrityAlgorithm}
@@ -12,7 +14,7 @@ use Rattle.stun_types_wire.specs.Shape.{rank, may_follow, kinds_of, shown_after}
 use Rattle.stun_types_wire.specs.Registry.{integrity_kind, sha256_kind, sha512_kind}
 use Rattle.stun_types_wire.specs.Grammar.{Header, IsMessage, shown, refusal, header_refusal, length_refusal, body_refusal}
 use Rattle.stun_types_grammar_laws.proofs.Whole.{whole_long, size_whole}
-use Rattle.std.specs.List.{AllByRecursion}
+use Rattle.std.specs.List.{AllByRecursion, starts_with}
 use Rattle.stun_types_grammar_laws.proofs.Left.{left_at, map_numbered, none_past, none_stops, left_step}
 use Rattle.stun_types_grammar_laws.proofs.Scan.{shown_short}
 use Rattle.stun_types_grammar_laws.proofs.Longest.{Follows, front_follows}
@@ -156,6 +158,16 @@ covered_pieces bytes covered front behind offset n value stands covered-is front
     let told : n ≡ offset - 20 + size_at (drop offset bytes) = omega (arith, stands.behind_header, stands.size, n-is) in
     let long : 20 ≤ length covered = (let size = ap length covered-is in omega (arith, size, length-take offset bytes, stands.behind_header, stands.whole)) in
     told_front covered front behind n long front-is behind-is ∙ ap (λ (l : List ℕ). with_length l n) covered-is ∙ ap (λ m. with_length (take offset bytes) m) told
+
+-- where the length is told already, the covered text stands there as it is
+pub covered_whole : (bytes covered front : List ℕ) (offset n : ℕ) (value : List ℕ) → StandsAt bytes offset value → covered ≡ take offset bytes → front ≡ get_or covered 0 0 ∷ get_or covered 1 0 ∷ big_bytes 2 n → true ≡ starts_with eqb covered front
+    → n + 20 ≡ offset + 4 + padded (length value) → covered ++ [] ++ [] ≡ covered_text bytes offset
+covered_whole bytes covered front offset n value stands covered-is front-is told n-is =
+    let parts : covered ≡ front ++ drop (length front) covered = (starts_is Decides-eqb covered front true told).0 refl in
+    let four : length front ≡ 4 = ap length front-is in
+    let whole : front ++ drop 4 covered ≡ covered = ap (λ k. front ++ drop k covered) (sym four) ∙ sym parts in
+    append-nil (covered ++ []) ∙ append-nil covered ∙ sym whole ∙ sym (append-nil (front ++ drop 4 covered))
+    ∙ covered_pieces bytes covered front (drop 4 covered) offset n value stands covered-is front-is refl n-is
 
 -- ---- what validates
 

@@ -15,12 +15,11 @@ pub use Rattle.stun_types_attribute.specs.Xor
 pub use Rattle.stun_types_build.specs.Calls
 pub use Rattle.stun_types_build.specs.Credentials
 pub use Rattle.stun_types_build.specs.FingerprintValues
+pub use Rattle.stun_types_build.specs.HmacFronts
 pub use Rattle.stun_types_build.specs.Hmacs
 pub use Rattle.stun_types_build.specs.Integrity
 pub use Rattle.stun_types_build.specs.KeyBytes
 pub use Rattle.stun_types_build.specs.Keys
-pub use Rattle.stun_types_build.specs.Sha256Values
-pub use Rattle.stun_types_build.specs.Sha512Values
 pub use Rattle.stun_types_build.specs.Signing
 pub use Rattle.stun_types_grammar_laws.specs.Fingerprinted
 pub use Rattle.stun_types_grammar_laws.specs.Headers

@@ -111,6 +111,10 @@ impl<'a> Message<'a> {
         let (covered, _) = self.as_ref().split_at(offset);
         let end = offset + 4 + pad_attribute_len(value.len());
         let front = front_told(covered, self.length_up_to(end));
+        // Where nothing follows the attribute, its text stands there in one piece.
+        if covered.starts_with(&front) {
+            return key.signs(covered, &[], &[], value);
+        }
         let (_, behind) = covered.split_at(4);
         key.signs(&front, behind, &[], value)
     }

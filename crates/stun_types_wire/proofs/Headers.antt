@@ -1,6 +1,7 @@
 -- The text of a header is a header.
 use Rattle.std.proofs.Common.{◌≡◌, ℕ, ◌/◌, ◌%◌, ◌^◌, ◌<◌, ◌++◌, List, length, None, refl, arith}
 use Rattle.std.proofs.lemmas.Bool.{lt-ltb, le-ltb}
+use Rattle.byteorder.specs.Endian.{big_bytes}
 use Rattle.stun_types_wire.specs.Grammar.{header_refusal, number_at}
 use Rattle.stun_types_wire.specs.Text.{header_text}
 use Rattle.stun_types_base.specs.GeneratorWords.{words_of}
@@ -28,3 +29,19 @@ drawn = Unit {0}
 unfoldable pub headers : Type 0
 unfolding header_refusal number_at
 headers = Unit {0}
+
+-- The twelve bytes of a number are those of its highest 32 bits, and of the 64 below them.
+pub number_in_words : (n : ℕ) → big_bytes 4 (n / 2 ^ 64) ++ big_bytes 8 (n % 2 ^ 64) ≡ big_bytes 12 n
+number_in_words n =
+    let a : n / 2 ^ 64 / 2 ^ 24 % 256 ≡ n / 2 ^ 88 % 256 = omega arith in
+    let b : n / 2 ^ 64 / 2 ^ 16 % 256 ≡ n / 2 ^ 80 % 256 = omega arith in
+    let c : n / 2 ^ 64 / 2 ^ 8 % 256 ≡ n / 2 ^ 72 % 256 = omega arith in
+    let d : n % 2 ^ 64 / 2 ^ 56 % 256 ≡ n / 2 ^ 56 % 256 = omega arith in
+    let e : n % 2 ^ 64 / 2 ^ 48 % 256 ≡ n / 2 ^ 48 % 256 = omega arith in
+    let f : n % 2 ^ 64 / 2 ^ 40 % 256 ≡ n / 2 ^ 40 % 256 = omega arith in
+    let g : n % 2 ^ 64 / 2 ^ 32 % 256 ≡ n / 2 ^ 32 % 256 = omega arith in
+    let h : n % 2 ^ 64 / 2 ^ 24 % 256 ≡ n / 2 ^ 24 % 256 = omega arith in
+    let i : n % 2 ^ 64 / 2 ^ 16 % 256 ≡ n / 2 ^ 16 % 256 = omega arith in
+    let j : n % 2 ^ 64 / 2 ^ 8 % 256 ≡ n / 2 ^ 8 % 256 = omega arith in
+    let k : n % 2 ^ 64 % 256 ≡ n % 256 = omega arith in
+    rw (a, b, c, d, e, f, g, h, i, j, k) refl

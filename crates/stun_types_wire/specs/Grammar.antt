@@ -1,5 +1,5 @@
 -- Which bytes are a message, and why others are refused.
-use Rattle.std.specs.Prelude.{◌≡◌, ℕ, ◌+◌, Bool, ◌&&◌, ◌==◌, not, nat_lt, nat_eq, List, [], ◌∷◌, length, take, drop, slice_index, Option, Some, None, if◌then◌else◌}
+use Rattle.std.specs.Prelude.{◌≡◌, ℕ, ◌+◌, Bool, ◌&&◌, ◌==◌, not, nat_lt, nat_eq, List, length, take, drop, slice_index, Option, Some, None, if◌then◌else◌}
 use Rattle.std.specs.Option.{option_or}
 use Rattle.std.specs.List.{starts_with, list_any}
 use Rattle.byteorder.specs.Endian.{big_number}

@@ -82,14 +82,14 @@ impl MessageHeader {
         ensures text { result ≡ header_text self.kind self.len self.number }
         ensures lawful { self.kind < 2 ^ 14 }
     {
-        let [k0, k1] = self.mtype.value().to_be_bytes();
-        let [l0, l1] = self.length.to_be_bytes();
-        let [c0, c1, c2, c3] = MAGIC_COOKIE.to_be_bytes();
         let number = u128::from(self.transaction_id);
-        let [_, _, _, _, n0, n1, n2, n3, n4, n5, n6, n7, n8, n9, n10, n11] = number.to_be_bytes();
-        [
-            k0, k1, l0, l1, c0, c1, c2, c3, n0, n1, n2, n3, n4, n5, n6, n7, n8, n9, n10, n11,
-        ]
+        let mut bytes = [0; 20];
+        BigEndian::write_u16(&mut bytes[..2], self.mtype.value());
+        BigEndian::write_u16(&mut bytes[2..4], self.length);
+        BigEndian::write_u32(&mut bytes[4..8], MAGIC_COOKIE);
+        BigEndian::write_u32(&mut bytes[8..12], (number >> 64) as u32);
+        BigEndian::write_u64(&mut bytes[12..], (number % (1 << 64)) as u64);
+        bytes
     }
 
     /// The type of the message.

@@ -1,5 +1,5 @@
-use Rattle.std.proofs.Common.{rules, ◌≡◌, ℕ, List, [], ◌∷◌, ◌++◌, map, refl, sym, ap, ◌∙◌}
-use Rattle.std.specs.List.{IsDistinct, slice_split}
+use Rattle.std.proofs.Common.{rules, ◌≡◌, ℕ, List, ◌++◌, map, refl, sym, ap, ◌∙◌}
+use Rattle.std.specs.List.{IsDistinct}
 use Rattle.turn_desk_trace.specs.Algorithms.{algorithm_word, listed}
 use Rattle.turn_desk_trace.proofs.AlgorithmLemmas.{by_last, none_named, still_distinct, words_and}
 use Rattle.turn_desk_trace.proofs.algorithms.read_algorithms.Goals as goal
