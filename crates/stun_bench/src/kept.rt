@@ -241,6 +241,7 @@ pub extern "C" fn stun_bench_sign_request_lent_sha1(
 }
 
 /// The request of this number, begun in these bytes, where a header has room.
+#[inline(always)]
 fn begin_request_into(number: u64, out: &mut [u8]) -> Option<MessageWriteMutSlice<'_>>
     ensures text { IfSome result (λ begun.
         (lent_draft begun).bytes ≡ message_text asked_type number []) }

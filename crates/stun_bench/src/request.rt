@@ -131,6 +131,8 @@ pub(crate) fn request_type() -> MessageType
 
 /// Adds what the request shows to one that was begun: REQUESTED-TRANSPORT of UDP, LIFETIME, USERNAME,
 /// REALM and NONCE. Refused with `TooLarge` where a text has more than 763 bytes, and as an add is.
+// Part of its callers, as adds are in one who writes them there.
+#[inline(always)]
 pub(crate) fn add_request<W: MessageWrite>(
     writer: &mut W,
     lifetime: u32,

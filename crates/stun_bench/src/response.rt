@@ -52,6 +52,8 @@ pub(crate) fn add_response<W: MessageWrite>(
 
 /// Adds the attribute of a type that ends no message, and a text. Refused with `TooLarge` where the text
 /// has more than 763 bytes, and as an add is.
+// Part of its callers, as the other adds are.
+#[inline(always)]
 pub(crate) fn add_text<W: MessageWrite>(
     writer: &mut W,
     atype: AttributeType,
