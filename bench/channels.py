@@ -514,7 +514,8 @@ def gone_from_the_middle():
     t.bind(free, ONE_TOO)
     # by now the permission is to be renewed that came with the last channel, but what was asked for goes first
     t.draw(free, channel_bind(9, B, ONE_TOO))
-    return "Of three channels the middle one isn't renewed, but refused: its number is kept until its protection ends", t
+    return ("Of three channels the middle one isn't renewed, but refused: "
+            "its number is kept until its protection ends"), t
 
 
 def numbers_used_up():

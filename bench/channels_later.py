@@ -408,7 +408,8 @@ def stale_renewals_of_both():
     t.channels()
     t.permits(ONE_IP, at=OTHER)
     t.poll(now, DUE + 480 * SECOND)
-    return "The same under a permission that is renewed: the one that is signed anew is refused, the permission stands", t
+    return ("The same under a permission that is renewed: "
+            "the one that is signed anew is refused, the permission stands"), t
 
 
 def ten_bound():

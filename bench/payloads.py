@@ -492,7 +492,8 @@ def channel_at_its_end():
     t.event("none")
     passes(t, CHANNEL_LAPSE + 1, frame(A, HI))
     not_sent(t, CHANNEL_LAPSE, ONE, "NoPermission")
-    return "A channel's time is over: bytes go by an indication, and its frames still give data until the client is polled", t
+    return ("A channel's time is over: bytes go by an indication, "
+            "and its frames still give data until the client is polled"), t
 
 
 def second_channel():
