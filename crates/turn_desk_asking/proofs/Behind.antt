@@ -12,17 +12,17 @@ use Rattle.turn_client_proto_asking.specs.Coming.{IsPartOf}
 use Rattle.turn_client_proto_asking.specs.Driving.{client_end}
 use Rattle.turn_client_proto_asking.specs.Speaking.{Speaks, TellsRealm}
 use Rattle.turn_client_proto_asking.proofs.Hearing.{heard_speaks}
-use Rattle.turn_desk_world.specs.Desks.{IsDeskAnswered, words_of}
-use Rattle.turn_desk_world.specs.Kept.{Protocol}
-use Rattle.turn_desk_world.specs.Model.{World}
-use Rattle.turn_desk_world.specs.Runs.{IsRun, IsStep, is_in_range}
-use Rattle.turn_desk_world.specs.State.{State}
-use Rattle.turn_desk_world.specs.Control.{Datagrams}
-use Rattle.turn_desk_world.specs.declared.answer.Answer.{Answer}
-use Rattle.turn_desk_world.specs.declared.answer.Answer.TheVariants as answer
-use Rattle.turn_desk_world.specs.declared.decision.Decision.{Decision}
-use Rattle.turn_desk_world.specs.declared.event.Event.{Event}
-use Rattle.turn_desk_world.specs.declared.event.Event.TheVariants.{Call, Draw, ToClient, ToDesk}
+use Rattle.turn_desk_honest.specs.Desks.{IsDeskAnswered, words_of}
+use Rattle.turn_desk_honest.specs.Kept.{Protocol}
+use Rattle.turn_desk_honest.specs.Model.{World}
+use Rattle.turn_desk_honest.specs.Runs.{IsRun, IsStep, is_in_range}
+use Rattle.turn_desk_honest.specs.State.{State}
+use Rattle.turn_desk_honest.specs.Control.{Datagrams}
+use Rattle.turn_desk_honest.specs.declared.answer.Answer.{Answer}
+use Rattle.turn_desk_honest.specs.declared.answer.Answer.TheVariants as answer
+use Rattle.turn_desk_honest.specs.declared.decision.Decision.{Decision}
+use Rattle.turn_desk_honest.specs.declared.event.Event.{Event}
+use Rattle.turn_desk_honest.specs.declared.event.Event.TheVariants.{Call, Draw, ToClient, ToDesk}
 use Rattle.turn_desk_honest.specs.Promises.{HasClient, control_at, over}
 use Rattle.turn_desk_honest.specs.Scripts.{BringsOn, Plan}
 use Rattle.turn_desk_honest.proofs.Clients.{done, same_desk}

@@ -16,7 +16,7 @@ use Rattle.turn_client_proto_asking.specs.Driving.{IsEventTaken}
 use Rattle.turn_client_proto_asking.specs.Polling.{IsPolled}
 use Rattle.turn_client_proto_asking.specs.Sent.{Beginning}
 use Rattle.turn_client_proto_asking.specs.Binding.{IsBindAnswered}
-use Rattle.turn_client_proto.specs.SocketsTold.{replaced, takes_place}
+use Rattle.turn_desk_honest.specs.SocketsTold.{replaced, takes_place}
 use Rattle.turn_client_proto_asking.specs.Api.declared.error.TcpAllocateError.{TcpAllocateError}
 use Rattle.turn_client_proto_asking.specs.Api.Payloads.{PeerPayload}
 use Rattle.turn_client_proto_asking.specs.Receipts.{IsWaitingGiven}
@@ -26,17 +26,17 @@ use Rattle.turn_client_proto_asking.proofs.Between as asked
 use Rattle.turn_client_proto_asking.proofs.Others as others
 use Rattle.turn_client_proto_asking.proofs.Speaking as speaking
 use Rattle.turn_client_proto_asking.specs.Permitting.{IsPermissionAnswered}
-use Rattle.turn_desk_world.specs.Calls.{AreChannelsTold, AreConnectionsTold, ArePermissionsTold, IsBindTold, IsCallTold, IsCalled, IsClosedTold, IsConnectTold, IsDeleteTold, IsDrawnAs, IsEndTold, IsEventTold, IsHaveTold, IsPermissionTold, IsPolledAs, IsRelayedTold, IsSendTold, IsSocketTaken, IsWaitingTold, own_tuple}
-use Rattle.turn_desk_world.specs.Control.{Control}
-use Rattle.turn_desk_world.specs.Kept.{Kept, Protocol}
-use Rattle.turn_desk_world.specs.Model.{World}
-use Rattle.turn_desk_world.specs.Runs.{IsOfClient, IsStep}
-use Rattle.turn_desk_world.specs.declared.answer.Answer.{Answer}
-use Rattle.turn_desk_world.specs.declared.answer.Answer.TheVariants as answer
-use Rattle.turn_desk_world.specs.declared.answer.Refusal.TheVariants.{BindChannel as BindRefused, CreatePermission as PermissionRefused, Delete as DeleteRefused, Send as SendRefused, TcpAllocate as SocketRefused, TcpConnect as ConnectRefused}
-use Rattle.turn_desk_world.specs.declared.event.ClientCall.{ClientCall}
-use Rattle.turn_desk_world.specs.declared.event.ClientCall.TheVariants as call
-use Rattle.turn_desk_world.specs.declared.event.Event.TheVariants.{Call, Draw}
+use Rattle.turn_desk_honest.specs.Calls.{AreChannelsTold, AreConnectionsTold, ArePermissionsTold, IsBindTold, IsCallTold, IsCalled, IsClosedTold, IsConnectTold, IsDeleteTold, IsDrawnAs, IsEndTold, IsEventTold, IsHaveTold, IsPermissionTold, IsPolledAs, IsRelayedTold, IsSendTold, IsSocketTaken, IsWaitingTold, own_tuple}
+use Rattle.turn_desk_honest.specs.Control.{Control}
+use Rattle.turn_desk_honest.specs.Kept.{Kept, Protocol}
+use Rattle.turn_desk_honest.specs.Model.{World}
+use Rattle.turn_desk_honest.specs.Runs.{IsOfClient, IsStep}
+use Rattle.turn_desk_honest.specs.declared.answer.Answer.{Answer}
+use Rattle.turn_desk_honest.specs.declared.answer.Answer.TheVariants as answer
+use Rattle.turn_desk_honest.specs.declared.answer.Refusal.TheVariants.{BindChannel as BindRefused, CreatePermission as PermissionRefused, Delete as DeleteRefused, Send as SendRefused, TcpAllocate as SocketRefused, TcpConnect as ConnectRefused}
+use Rattle.turn_desk_honest.specs.declared.event.ClientCall.{ClientCall}
+use Rattle.turn_desk_honest.specs.declared.event.ClientCall.TheVariants as call
+use Rattle.turn_desk_honest.specs.declared.event.Event.TheVariants.{Call, Draw}
 use Rattle.turn_desk_honest.specs.Promises.{over}
 use Rattle.turn_desk_honest.specs.Scripts.{IsLook}
 use Rattle.turn_desk_honest.proofs.Clients.{IsLooked, Took, Still, done, looks, stays}

@@ -38,18 +38,18 @@ use Rattle.turn_client_proto_asking.specs.Connection.Streams.{emptied_in}
 use Rattle.turn_client_proto_asking.specs.Indications.{is_indication}
 use Rattle.turn_client_proto_asking.specs.Permission.Same.{is_same_address}
 use Rattle.turn_client_proto_asking.proofs.SameSockets.{same_address}
-use Rattle.turn_client_proto.specs.SocketsTold.{replaced, takes_place}
+use Rattle.turn_desk_honest.specs.SocketsTold.{replaced, takes_place}
 use Rattle.turn_types.specs.Streams.{alive}
-use Rattle.turn_desk_world.specs.Calls.{IsFed, IsTold}
-use Rattle.turn_desk_world.specs.Control.{Control, Datagrams, Open}
-use Rattle.turn_desk_world.specs.Kept.{Kept, Protocol}
-use Rattle.turn_desk_world.specs.Model.{World}
-use Rattle.turn_desk_world.specs.Runs.{IsStep, is_in_range}
-use Rattle.turn_desk_world.specs.declared.answer.Answer.{Answer}
-use Rattle.turn_desk_world.specs.declared.answer.Answer.TheVariants as answer
-use Rattle.turn_desk_world.specs.declared.event.Event.TheVariants.{ToClient}
-use Rattle.turn_desk_world.specs.declared.event.ClientCall.{ClientCall}
-use Rattle.turn_desk_world.specs.declared.event.ClientCall.TheVariants as call
+use Rattle.turn_desk_honest.specs.Calls.{IsFed, IsTold}
+use Rattle.turn_desk_honest.specs.Control.{Control, Datagrams, Open}
+use Rattle.turn_desk_honest.specs.Kept.{Kept, Protocol}
+use Rattle.turn_desk_honest.specs.Model.{World}
+use Rattle.turn_desk_honest.specs.Runs.{IsStep, is_in_range}
+use Rattle.turn_desk_honest.specs.declared.answer.Answer.{Answer}
+use Rattle.turn_desk_honest.specs.declared.answer.Answer.TheVariants as answer
+use Rattle.turn_desk_honest.specs.declared.event.Event.TheVariants.{ToClient}
+use Rattle.turn_desk_honest.specs.declared.event.ClientCall.{ClientCall}
+use Rattle.turn_desk_honest.specs.declared.event.ClientCall.TheVariants as call
 use Rattle.turn_desk_honest.specs.Promises.{control_at, over}
 use Rattle.turn_desk_honest.specs.Scripts.{BringsOn, Plan}
 use Rattle.turn_desk_asking.specs.Asking.{IsOtherSocket}

@@ -39,14 +39,14 @@ use Rattle.turn_client_proto_asking.specs.Asking.{Wanted}
 use Rattle.turn_client_proto_asking.specs.Holding.{IsGrantOf, IsOwnRequest}
 use Rattle.turn_desk_grant.proofs.Methods.{by_method}
 use Rattle.turn_desk_steps.proofs.Answering.{hashes_differ_still}
-use Rattle.turn_desk_world.specs.declared.answer.Answer.{Answer}
-use Rattle.turn_desk_world.specs.declared.answer.Answer.TheVariants as answer
-use Rattle.turn_desk_world.specs.declared.decision.Decision.{Decision}
-use Rattle.turn_desk_world.specs.Desks.{IsDeskAnswered, IsReply, words_of}
-use Rattle.turn_desk_world.specs.Requests.{IsServed}
-use Rattle.turn_desk_world.specs.State.{State}
-use Rattle.turn_desk_world.specs.Steps.{IsAnswer, IsChallenge, IsVerdict}
-use Rattle.turn_desk_world.specs.Verdicts.{reply_type, verdict_on}
+use Rattle.turn_desk_honest.specs.declared.answer.Answer.{Answer}
+use Rattle.turn_desk_honest.specs.declared.answer.Answer.TheVariants as answer
+use Rattle.turn_desk_honest.specs.declared.decision.Decision.{Decision}
+use Rattle.turn_desk_honest.specs.Desks.{IsDeskAnswered, IsReply, words_of}
+use Rattle.turn_desk_honest.specs.Requests.{IsServed}
+use Rattle.turn_desk_honest.specs.State.{State}
+use Rattle.turn_desk_honest.specs.Steps.{IsAnswer, IsChallenge, IsVerdict}
+use Rattle.turn_desk_honest.specs.Verdicts.{reply_type, verdict_on}
 use Rattle.turn_desk_core.specs.declared.verdict.Verdict.{Verdict}
 use Rattle.turn_desk_core.specs.declared.verdict.Verdict.TheVariants.{Fails, Allocates, Refreshes, Permits, Binds, Connects, Joins}
 use Rattle.turn_desk_steps.specs.Replies.{success_type}

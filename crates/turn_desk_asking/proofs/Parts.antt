@@ -1,12 +1,12 @@
 -- Runs and scripts with one event more, and what a desk is behind a run.
 use Rattle.std.proofs.Common.{ℕ, List, [], ◌∷◌, ◌++◌, refl, sym, subst}
 use Rattle.turn_client_proto_asking.specs.Sent.{Beginning}
-use Rattle.turn_desk_world.specs.Model.{World}
-use Rattle.turn_desk_world.specs.Runs.{IsRun, IsStep}
-use Rattle.turn_desk_world.specs.State.{State}
-use Rattle.turn_desk_world.specs.declared.answer.Answer.{Answer}
-use Rattle.turn_desk_world.specs.declared.event.Event.{Event}
-use Rattle.turn_desk_world.specs.declared.event.Event.TheVariants.{Call, Draw, ToClient, ToDesk}
+use Rattle.turn_desk_honest.specs.Model.{World}
+use Rattle.turn_desk_honest.specs.Runs.{IsRun, IsStep}
+use Rattle.turn_desk_honest.specs.State.{State}
+use Rattle.turn_desk_honest.specs.declared.answer.Answer.{Answer}
+use Rattle.turn_desk_honest.specs.declared.event.Event.{Event}
+use Rattle.turn_desk_honest.specs.declared.event.Event.TheVariants.{Call, Draw, ToClient, ToDesk}
 use Rattle.turn_desk_honest.specs.Scripts.{Follows, IsScript, Place, Plan}
 use Rattle.turn_desk_honest.proofs.Clients.{same_desk}
 use Rattle.turn_desk_asking.proofs.Desks.{IsDeskOf, desk_stays}

@@ -11,16 +11,16 @@ use Rattle.turn_client_proto_asking.specs.Coming.{IsPartOf}
 use Rattle.turn_client_proto_asking.specs.Receiving.{IsHeard}
 use Rattle.turn_client_proto_asking.specs.Asking.{HasAsked, Wanted}
 use Rattle.turn_client_proto_asking.specs.Holding.{IsGrantOf, IsOwnRequest}
-use Rattle.turn_desk_world.specs.Desks.{IsDeskAnswered, words_of}
-use Rattle.turn_desk_world.specs.Kept.{Protocol}
-use Rattle.turn_desk_world.specs.Model.{World}
-use Rattle.turn_desk_world.specs.Runs.{IsRun, IsStep, is_in_range}
-use Rattle.turn_desk_world.specs.declared.answer.Answer.{Answer}
-use Rattle.turn_desk_world.specs.declared.answer.Answer.TheVariants as answer
-use Rattle.turn_desk_world.specs.declared.decision.Decision.{Decision}
-use Rattle.turn_desk_world.specs.declared.event.ClientCall.TheVariants as call
-use Rattle.turn_desk_world.specs.declared.event.Event.{Event}
-use Rattle.turn_desk_world.specs.declared.event.Event.TheVariants.{Call, Draw, ToClient, ToDesk}
+use Rattle.turn_desk_honest.specs.Desks.{IsDeskAnswered, words_of}
+use Rattle.turn_desk_honest.specs.Kept.{Protocol}
+use Rattle.turn_desk_honest.specs.Model.{World}
+use Rattle.turn_desk_honest.specs.Runs.{IsRun, IsStep, is_in_range}
+use Rattle.turn_desk_honest.specs.declared.answer.Answer.{Answer}
+use Rattle.turn_desk_honest.specs.declared.answer.Answer.TheVariants as answer
+use Rattle.turn_desk_honest.specs.declared.decision.Decision.{Decision}
+use Rattle.turn_desk_honest.specs.declared.event.ClientCall.TheVariants as call
+use Rattle.turn_desk_honest.specs.declared.event.Event.{Event}
+use Rattle.turn_desk_honest.specs.declared.event.Event.TheVariants.{Call, Draw, ToClient, ToDesk}
 use Rattle.turn_desk_honest.specs.Promises.{HasClient, control_at}
 use Rattle.turn_desk_honest.specs.Scripts.{BringsOn, Plan}
 use Rattle.turn_desk_honest.proofs.Clients.{done}

@@ -14,15 +14,15 @@ use Rattle.turn_client_proto_asking.specs.Members.{IsIn}
 use Rattle.turn_client_proto_asking.specs.Drawing.{sent_of}
 use Rattle.turn_client_proto_asking.specs.Driving.{client_end}
 use Rattle.turn_client_proto_asking.specs.Asking.{IsMade}
-use Rattle.turn_desk_world.specs.Kept.{Kept}
-use Rattle.turn_desk_world.specs.Model.{World}
-use Rattle.turn_desk_world.specs.declared.answer.Answer.{Answer}
-use Rattle.turn_desk_world.specs.declared.answer.Answer.TheVariants as answer
-use Rattle.turn_desk_world.specs.declared.decision.Decision.{Decision}
-use Rattle.turn_desk_world.specs.declared.event.ClientCall.{ClientCall}
-use Rattle.turn_desk_world.specs.declared.event.ClientCall.TheVariants as call
-use Rattle.turn_desk_world.specs.declared.event.Event.{Event}
-use Rattle.turn_desk_world.specs.declared.event.Event.TheVariants.{Call, Draw, ToClient, ToDesk}
+use Rattle.turn_desk_honest.specs.Kept.{Kept}
+use Rattle.turn_desk_honest.specs.Model.{World}
+use Rattle.turn_desk_honest.specs.declared.answer.Answer.{Answer}
+use Rattle.turn_desk_honest.specs.declared.answer.Answer.TheVariants as answer
+use Rattle.turn_desk_honest.specs.declared.decision.Decision.{Decision}
+use Rattle.turn_desk_honest.specs.declared.event.ClientCall.{ClientCall}
+use Rattle.turn_desk_honest.specs.declared.event.ClientCall.TheVariants as call
+use Rattle.turn_desk_honest.specs.declared.event.Event.{Event}
+use Rattle.turn_desk_honest.specs.declared.event.Event.TheVariants.{Call, Draw, ToClient, ToDesk}
 use Rattle.turn_desk_honest.specs.Scripts.{BringsOn, IsLook, Plan}
 
 -- a client is polled, its events are taken, it is asked what it holds, or asked for a permission or a channel

@@ -5,15 +5,15 @@ use Rattle.std.specs.declared.alloc.Global.{Global}
 use Rattle.std.specs.declared.net.ip_addr.IpAddr.{IpAddr}
 use Rattle.std.specs.declared.net.socket_addr.SocketAddr.{SocketAddr}
 use Rattle.stun_types.specs.declared.transport.TransportType.TheVariants.{Udp}
-use Rattle.turn_client_proto.specs.Getters.{channels_of, has_permission}
+use Rattle.turn_desk_honest.specs.Getters.{channels_of, has_permission}
 use Rattle.turn_client_proto_asking.specs.Members.{IsIn}
 use Rattle.turn_client_proto_asking.specs.Api.Payloads.{PeerPayload}
 use Rattle.turn_client_proto_asking.specs.Holding.{IsDataOf, IsFrameOf, IsPayloadOf}
-use Rattle.turn_desk_world.specs.Model.{World}
-use Rattle.turn_desk_world.specs.Runs.{IsStep}
-use Rattle.turn_desk_world.specs.declared.answer.Answer.{Answer}
-use Rattle.turn_desk_world.specs.declared.answer.Answer.TheVariants as answer
-use Rattle.turn_desk_world.specs.declared.event.Event.TheVariants.{ToClient}
+use Rattle.turn_desk_honest.specs.Model.{World}
+use Rattle.turn_desk_honest.specs.Runs.{IsStep}
+use Rattle.turn_desk_honest.specs.declared.answer.Answer.{Answer}
+use Rattle.turn_desk_honest.specs.declared.answer.Answer.TheVariants as answer
+use Rattle.turn_desk_honest.specs.declared.event.Event.TheVariants.{ToClient}
 use Rattle.turn_desk_honest.specs.Promises.{HasClient}
 use Rattle.turn_desk_honest.specs.Scripts.{Plan}
 

@@ -1,3 +1,25 @@
 pub mod Promises
 pub mod Scripts
 pub mod Standing
+-- What stands above this crate has these through it.
+pub use Rattle.turn_desk_world.specs.AskedFor
+pub use Rattle.turn_desk_world.specs.Beginning
+pub use Rattle.turn_desk_world.specs.Calls
+pub use Rattle.turn_desk_world.specs.Clients
+pub use Rattle.turn_desk_world.specs.Config
+pub use Rattle.turn_desk_world.specs.Control
+pub use Rattle.turn_desk_world.specs.Decisions
+pub use Rattle.turn_desk_world.specs.DeskSteps
+pub use Rattle.turn_desk_world.specs.Desks
+pub use Rattle.turn_desk_world.specs.Getters
+pub use Rattle.turn_desk_world.specs.Granted
+pub use Rattle.turn_desk_world.specs.Grants
+pub use Rattle.turn_desk_world.specs.Kept
+pub use Rattle.turn_desk_world.specs.Messages
+pub use Rattle.turn_desk_world.specs.Model
+pub use Rattle.turn_desk_world.specs.Requests
+pub use Rattle.turn_desk_world.specs.Runs
+pub use Rattle.turn_desk_world.specs.SocketsTold
+pub use Rattle.turn_desk_world.specs.State
+pub use Rattle.turn_desk_world.specs.Steps
+pub use Rattle.turn_desk_world.specs.Verdicts

@@ -11,6 +11,7 @@
 
 pub mod fresh;
 
+// What stands above this crate has these through it.
 ghost use Rattle.std.specs.Prelude.{◌≡◌, ◌≢◌, ◌++◌, ◌<◌, ◌≤◌, List, [], ◌∷◌, Vec, ℕ};
 ghost use Rattle.std.specs.declared.alloc.Global.{Global};
 ghost use Rattle.std.specs.declared.net.socket_addr.SocketAddr.{SocketAddr};
@@ -52,6 +53,7 @@ use turn_desk_handshake::handshakes::{
     successes_are_right,
 };
 use turn_desk_world::laws::relayed_addresses_are_told;
+pub use turn_desk_world::{answer, client, core_desk, core_laws, decision, event, grant, world};
 
 /// A new client, over UDP or TCP, whose user a desk has, at an address of which the desk keeps nothing, is
 /// drawn. What it sends reaches the desk unaltered from where it was sent, and the desk's reply reaches the

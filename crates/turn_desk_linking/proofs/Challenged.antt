@@ -23,11 +23,11 @@ use Rattle.stun_proto.specs.Judgement.{user_key}
 use Rattle.stun_proto.specs.Nonce.{features_offered, features_told}
 use Rattle.stun_proto.specs.Server.{Client, Server}
 use Rattle.stun_proto.specs.ServerAuthErrors.{BadRequest, LongTermServerAuthError}
-use Rattle.turn_desk_world.specs.Decisions.{Decision}
-use Rattle.turn_desk_world.specs.Requests.{IsServed}
-use Rattle.turn_desk_world.specs.State.{State}
-use Rattle.turn_desk_world.specs.Steps.{IsAnswer, IsChallenge, IsVerdict, refusal_attributes, unvalidated_party}
-use Rattle.turn_desk_world.specs.Verdicts.{reply_attributes, reply_type, verdict_on}
+use Rattle.turn_desk_honest.specs.Decisions.{Decision}
+use Rattle.turn_desk_honest.specs.Requests.{IsServed}
+use Rattle.turn_desk_honest.specs.State.{State}
+use Rattle.turn_desk_honest.specs.Steps.{IsAnswer, IsChallenge, IsVerdict, refusal_attributes, unvalidated_party}
+use Rattle.turn_desk_honest.specs.Verdicts.{reply_attributes, reply_type, verdict_on}
 use Rattle.turn_desk_grant.specs.declared.verdict.Verdict.{Verdict}
 use Rattle.turn_desk_grant.specs.declared.verdict.Verdict.TheVariants.{Fails, Allocates, Refreshes, Permits, Binds, Connects, Joins}
 use Rattle.turn_desk_steps.specs.Challenged.{challenge_of}

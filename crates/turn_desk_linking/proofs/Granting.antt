@@ -16,14 +16,14 @@ use Rattle.turn_client_proto_linking.specs.Coming.{IsPartOf}
 use Rattle.turn_client_proto_linking.specs.Holders.{Holder, IsSignedBy}
 use Rattle.turn_client_proto_linking.specs.Replies.{IsSuccessOf}
 use Rattle.turn_client_proto_linking.specs.Request.declared.request.TurnRequest.{TurnRequest}
-use Rattle.turn_desk_world.specs.Desks.{words_of}
-use Rattle.turn_desk_world.specs.Kept.{Protocol}
-use Rattle.turn_desk_world.specs.Model.{World}
-use Rattle.turn_desk_world.specs.Runs.{IsStep}
-use Rattle.turn_desk_world.specs.Steps.{IsAnswer}
-use Rattle.turn_desk_world.specs.declared.answer.Answer.TheVariants as answer
-use Rattle.turn_desk_world.specs.declared.decision.Decision.{Decision}
-use Rattle.turn_desk_world.specs.declared.event.Event.TheVariants.{ToDesk}
+use Rattle.turn_desk_honest.specs.Desks.{words_of}
+use Rattle.turn_desk_honest.specs.Kept.{Protocol}
+use Rattle.turn_desk_honest.specs.Model.{World}
+use Rattle.turn_desk_honest.specs.Runs.{IsStep}
+use Rattle.turn_desk_honest.specs.Steps.{IsAnswer}
+use Rattle.turn_desk_honest.specs.declared.answer.Answer.TheVariants as answer
+use Rattle.turn_desk_honest.specs.declared.decision.Decision.{Decision}
+use Rattle.turn_desk_honest.specs.declared.event.Event.TheVariants.{ToDesk}
 use Rattle.turn_desk_honest.specs.Promises.{IsFresh}
 use Rattle.turn_desk_honest.specs.Scripts.{Plan}
 use Rattle.turn_desk_honest.proofs.Coming.{none_yet}

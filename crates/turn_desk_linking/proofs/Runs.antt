@@ -1,9 +1,9 @@
 -- A run, and a script, with one event more.
 use Rattle.std.proofs.Common.{◌++◌, List, [], ◌∷◌, refl, subst}
-use Rattle.turn_desk_world.specs.Model.{World}
-use Rattle.turn_desk_world.specs.Runs.{IsRun, IsStep}
-use Rattle.turn_desk_world.specs.declared.answer.Answer.{Answer}
-use Rattle.turn_desk_world.specs.declared.event.Event.{Event}
+use Rattle.turn_desk_honest.specs.Model.{World}
+use Rattle.turn_desk_honest.specs.Runs.{IsRun, IsStep}
+use Rattle.turn_desk_honest.specs.declared.answer.Answer.{Answer}
+use Rattle.turn_desk_honest.specs.declared.event.Event.{Event}
 use Rattle.turn_desk_honest.specs.Scripts.{Follows, IsScript, Place, Plan}
 
 pub begin_run : (old : World) → IsRun old [] old

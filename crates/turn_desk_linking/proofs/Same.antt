@@ -8,16 +8,16 @@ use Rattle.stun_proto.specs.Knowledge.{Outcome}
 use Rattle.stun_proto.specs.Server.{Server, has_standing_nonce, refreshed, with_new_nonce, with_outcome}
 use Rattle.turn_client_proto_linking.specs.PermissionSame.{is_same_address}
 use Rattle.turn_client_proto_steps.proofs.SameSockets.{same_address, same_itself}
-use Rattle.turn_desk_world.specs.Desks.{IsReplied, IsReply, words_of}
-use Rattle.turn_desk_world.specs.Model.{World}
-use Rattle.turn_desk_world.specs.Runs.{IsRun, IsStep}
-use Rattle.turn_desk_world.specs.State.{State}
-use Rattle.turn_desk_world.specs.Steps.{IsAnswer}
-use Rattle.turn_desk_world.specs.declared.answer.Answer.{Answer}
-use Rattle.turn_desk_world.specs.declared.answer.Answer.TheVariants as answer
-use Rattle.turn_desk_world.specs.declared.decision.Decision.{Decision}
-use Rattle.turn_desk_world.specs.declared.event.Event.{Event}
-use Rattle.turn_desk_world.specs.declared.event.Event.TheVariants.{Call, Draw, ToClient, ToDesk}
+use Rattle.turn_desk_honest.specs.Desks.{IsReplied, IsReply, words_of}
+use Rattle.turn_desk_honest.specs.Model.{World}
+use Rattle.turn_desk_honest.specs.Runs.{IsRun, IsStep}
+use Rattle.turn_desk_honest.specs.State.{State}
+use Rattle.turn_desk_honest.specs.Steps.{IsAnswer}
+use Rattle.turn_desk_honest.specs.declared.answer.Answer.{Answer}
+use Rattle.turn_desk_honest.specs.declared.answer.Answer.TheVariants as answer
+use Rattle.turn_desk_honest.specs.declared.decision.Decision.{Decision}
+use Rattle.turn_desk_honest.specs.declared.event.Event.{Event}
+use Rattle.turn_desk_honest.specs.declared.event.Event.TheVariants.{Call, Draw, ToClient, ToDesk}
 use Rattle.turn_desk_linking.specs.Joining.{IsSameDesk, TellsOwn}
 use Rattle.turn_desk_linking.specs.Links.{Link}
 use Rattle.turn_desk_linking.proofs.Nonces.{answered_tells}

@@ -26,12 +26,12 @@ use Rattle.stun_proto_server.proofs.Named.{same_users}
 use Rattle.turn_types.specs.TurnRegistry.{connection_id_kind}
 use Rattle.turn_types.specs.TurnShows.{number_shown}
 use Rattle.turn_client_proto_linking.specs.Request.OwnClaims.{own_claim}
-use Rattle.turn_desk_world.specs.AskedFor.{asked}
-use Rattle.turn_desk_world.specs.Decisions as by
-use Rattle.turn_desk_world.specs.Decisions.{Decision}
-use Rattle.turn_desk_world.specs.State.{State}
-use Rattle.turn_desk_world.specs.Steps.{IsAnswer, IsVerdict}
-use Rattle.turn_desk_world.specs.Verdicts.{reply_attributes, reply_type, verdict, verdict_on}
+use Rattle.turn_desk_honest.specs.AskedFor.{asked}
+use Rattle.turn_desk_honest.specs.Decisions as by
+use Rattle.turn_desk_honest.specs.Decisions.{Decision}
+use Rattle.turn_desk_honest.specs.State.{State}
+use Rattle.turn_desk_honest.specs.Steps.{IsAnswer, IsVerdict}
+use Rattle.turn_desk_honest.specs.Verdicts.{reply_attributes, reply_type, verdict, verdict_on}
 use Rattle.turn_desk_grant.specs.declared.asked.Asked.{Asked}
 use Rattle.turn_desk_grant.specs.declared.asked.Asked.TheVariants.{Allocation, Refreshment, Permissions, Channel, Connection, Binding}
 use Rattle.turn_desk_grant.specs.declared.verdict.Verdict.{Verdict}

@@ -23,19 +23,19 @@ use Rattle.turn_client_proto_linking.specs.Receiving.{IsHeard}
 use Rattle.turn_client_proto_linking.specs.Request.Indications.{is_indication}
 use Rattle.turn_client_proto_linking.specs.Sent.{Beginning}
 use Rattle.turn_client_proto_linking.specs.Stages.{IsOf}
-use Rattle.turn_desk_world.specs.Calls.{IsCallTold, IsCalled, IsConnectTold, IsEventTold, IsFed, IsPermissionTold, IsPolledAs, IsSocketTaken, IsTold}
-use Rattle.turn_desk_world.specs.Control.{Control, Open}
-use Rattle.turn_desk_world.specs.Desks.{HasFourBytes, IsReplied, words_of}
-use Rattle.turn_desk_world.specs.Kept.{Kept, Protocol}
-use Rattle.turn_desk_world.specs.Model.{World}
-use Rattle.turn_desk_world.specs.Runs.{IsStep}
-use Rattle.turn_desk_world.specs.State.{State}
-use Rattle.turn_desk_world.specs.declared.answer.Answer.{Answer}
-use Rattle.turn_desk_world.specs.declared.answer.Answer.TheVariants as answer
-use Rattle.turn_desk_world.specs.declared.decision.Decision.{Decision}
-use Rattle.turn_desk_world.specs.declared.event.ClientCall.{ClientCall}
-use Rattle.turn_desk_world.specs.declared.event.ClientCall.TheVariants as call
-use Rattle.turn_desk_world.specs.declared.event.Event.TheVariants.{Call, ToClient, ToDesk}
+use Rattle.turn_desk_honest.specs.Calls.{IsCallTold, IsCalled, IsConnectTold, IsEventTold, IsFed, IsPermissionTold, IsPolledAs, IsSocketTaken, IsTold}
+use Rattle.turn_desk_honest.specs.Control.{Control, Open}
+use Rattle.turn_desk_honest.specs.Desks.{HasFourBytes, IsReplied, words_of}
+use Rattle.turn_desk_honest.specs.Kept.{Kept, Protocol}
+use Rattle.turn_desk_honest.specs.Model.{World}
+use Rattle.turn_desk_honest.specs.Runs.{IsStep}
+use Rattle.turn_desk_honest.specs.State.{State}
+use Rattle.turn_desk_honest.specs.declared.answer.Answer.{Answer}
+use Rattle.turn_desk_honest.specs.declared.answer.Answer.TheVariants as answer
+use Rattle.turn_desk_honest.specs.declared.decision.Decision.{Decision}
+use Rattle.turn_desk_honest.specs.declared.event.ClientCall.{ClientCall}
+use Rattle.turn_desk_honest.specs.declared.event.ClientCall.TheVariants as call
+use Rattle.turn_desk_honest.specs.declared.event.Event.TheVariants.{Call, ToClient, ToDesk}
 use Rattle.turn_desk_honest.specs.Promises.{control_at, over}
 use Rattle.turn_desk_honest.specs.Scripts.{Plan}
 use Rattle.turn_desk_honest.proofs.Clients.{done, done_so, same_desk, stays}

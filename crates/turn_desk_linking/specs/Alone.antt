@@ -4,7 +4,7 @@ use Rattle.std.specs.declared.net.socket_addr.SocketAddr.{SocketAddr}
 use Rattle.turn_client_proto_linking.specs.Api.declared.event.TurnEvent.{TurnEvent}
 use Rattle.turn_client_proto_linking.specs.Choosing.{Choice, IsChoice}
 use Rattle.turn_client_proto_linking.specs.Stages.{Holds}
-use Rattle.turn_desk_world.specs.Model.{World}
+use Rattle.turn_desk_honest.specs.Model.{World}
 use Rattle.turn_desk_honest.specs.Promises.{HasClient}
 use Rattle.turn_desk_honest.specs.Standing.{IsOfSettings}
 use Rattle.turn_desk_honest.specs.Scripts.{Plan, Place, Start, Asked, Challenged, Came, Signed, Granted, Done, Barred}

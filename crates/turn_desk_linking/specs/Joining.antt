@@ -32,8 +32,8 @@ use Rattle.turn_client_proto_linking.specs.Replies.{IsSuccessOf}
 use Rattle.turn_client_proto_linking.specs.Request.ToldRequests.{IsLawfulRequest}
 use Rattle.turn_client_proto_linking.specs.Request.declared.request.TurnRequest.TheVariants.{CreatePermission}
 use Rattle.turn_client_proto_linking.specs.Response.Told.{connection_told}
-use Rattle.turn_desk_world.specs.Kept.{Protocol}
-use Rattle.turn_desk_world.specs.Model.{World}
+use Rattle.turn_desk_honest.specs.Kept.{Protocol}
+use Rattle.turn_desk_honest.specs.Model.{World}
 use Rattle.turn_desk_honest.specs.Promises.{HasClient}
 use Rattle.turn_desk_honest.specs.Scripts.{Plan}
 use Rattle.turn_desk_honest.specs.Standing.{IsOfSettings}

@@ -19,7 +19,7 @@ use Rattle.turn_client_proto_linking.specs.Request.declared.request.TurnRequest.
 use Rattle.turn_client_proto_linking.specs.Shown.{connections_shown}
 use Rattle.turn_client_proto_linking.specs.Sound.{IsWhole}
 use Rattle.turn_client_proto_linking.specs.StunWire.{told_by}
-use Rattle.turn_desk_world.specs.Model.{World}
+use Rattle.turn_desk_honest.specs.Model.{World}
 use Rattle.turn_desk_honest.specs.Promises.{HasClient, key_in_realm}
 use Rattle.turn_desk_honest.specs.Scripts.{Plan}
 use Rattle.turn_desk_linking.specs.Links.{AskDrawn, Asked, Answered, Binding, Bound, Called, Clear, Drawn, Eventful}

@@ -13,15 +13,15 @@ use Rattle.turn_client_proto_linking.specs.Drawing.{Sent}
 use Rattle.turn_client_proto_linking.specs.Driving.{client_end}
 use Rattle.turn_client_proto_linking.specs.Holders.{Holder}
 use Rattle.turn_client_proto_linking.specs.Replies.{CanAnswer, IsChallengeOf}
-use Rattle.turn_desk_world.specs.Kept.{Protocol}
-use Rattle.turn_desk_world.specs.Model.{World}
-use Rattle.turn_desk_world.specs.declared.answer.Answer.{Answer}
-use Rattle.turn_desk_world.specs.declared.answer.Answer.TheVariants as answer
-use Rattle.turn_desk_world.specs.declared.decision.Decision.{Decision}
-use Rattle.turn_desk_world.specs.declared.event.ClientCall.{ClientCall}
-use Rattle.turn_desk_world.specs.declared.event.ClientCall.TheVariants as call
-use Rattle.turn_desk_world.specs.declared.event.Event.{Event}
-use Rattle.turn_desk_world.specs.declared.event.Event.TheVariants.{Call, ToClient, ToDesk}
+use Rattle.turn_desk_honest.specs.Kept.{Protocol}
+use Rattle.turn_desk_honest.specs.Model.{World}
+use Rattle.turn_desk_honest.specs.declared.answer.Answer.{Answer}
+use Rattle.turn_desk_honest.specs.declared.answer.Answer.TheVariants as answer
+use Rattle.turn_desk_honest.specs.declared.decision.Decision.{Decision}
+use Rattle.turn_desk_honest.specs.declared.event.ClientCall.{ClientCall}
+use Rattle.turn_desk_honest.specs.declared.event.ClientCall.TheVariants as call
+use Rattle.turn_desk_honest.specs.declared.event.Event.{Event}
+use Rattle.turn_desk_honest.specs.declared.event.Event.TheVariants.{Call, ToClient, ToDesk}
 use Rattle.turn_desk_honest.specs.Scripts.{IsLook, Plan}
 use Rattle.turn_desk_honest.specs.Standing.{IsOfSettings}
 use Rattle.turn_desk_linking.specs.Joining.{IsBinding, IsHeldBy, OfNumber, StandsAt}

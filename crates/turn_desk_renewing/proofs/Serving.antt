@@ -7,16 +7,16 @@ use Rattle.rand_core.specs.Stream.{Stream}
 use Rattle.stun_proto.specs.Knowledge.{Outcome}
 use Rattle.stun_types.specs.Userhashes.{userhash_of}
 use Rattle.stun_proto.specs.Server.{Server, has_standing_nonce, refreshed, with_new_nonce, with_outcome}
-use Rattle.turn_desk_world.specs.declared.answer.Answer.{Answer}
-use Rattle.turn_desk_world.specs.declared.answer.Answer.TheVariants as answer
-use Rattle.turn_desk_world.specs.declared.decision.Decision.{Decision}
-use Rattle.turn_desk_world.specs.declared.event.Event.{Event}
-use Rattle.turn_desk_world.specs.declared.event.Event.TheVariants.{Call, Draw, ToClient, ToDesk}
-use Rattle.turn_desk_world.specs.Desks.{IsReply, words_of}
-use Rattle.turn_desk_world.specs.Model.{World}
-use Rattle.turn_desk_world.specs.Runs.{IsOfClient, IsStep}
-use Rattle.turn_desk_world.specs.State.{State}
-use Rattle.turn_desk_world.specs.Steps.{IsAnswer}
+use Rattle.turn_desk_honest.specs.declared.answer.Answer.{Answer}
+use Rattle.turn_desk_honest.specs.declared.answer.Answer.TheVariants as answer
+use Rattle.turn_desk_honest.specs.declared.decision.Decision.{Decision}
+use Rattle.turn_desk_honest.specs.declared.event.Event.{Event}
+use Rattle.turn_desk_honest.specs.declared.event.Event.TheVariants.{Call, Draw, ToClient, ToDesk}
+use Rattle.turn_desk_honest.specs.Desks.{IsReply, words_of}
+use Rattle.turn_desk_honest.specs.Model.{World}
+use Rattle.turn_desk_honest.specs.Runs.{IsOfClient, IsStep}
+use Rattle.turn_desk_honest.specs.State.{State}
+use Rattle.turn_desk_honest.specs.Steps.{IsAnswer}
 use Rattle.turn_desk_honest.specs.Scripts.{Plan}
 use Rattle.turn_desk_honest.proofs.Clients.{same_desk}
 use Rattle.turn_desk_renewing.specs.Watched.{IsServing}

@@ -8,14 +8,14 @@ use Rattle.turn_client_proto_renewing.specs.Polling.{cadence}
 use Rattle.turn_client_proto_renewing.specs.Request.Waiting.{Queued, is_answer}
 use Rattle.turn_client_proto_renewing.specs.Stages.{signed_queued}
 use Rattle.turn_client_proto_renewing.specs.Keeping.{IsTerm, Term, due_of, next_of}
-use Rattle.turn_desk_world.specs.Calls.{IsCallTold, IsCalled, IsPolledAs}
-use Rattle.turn_desk_world.specs.Control.{Control}
-use Rattle.turn_desk_world.specs.Kept.{Kept, Protocol}
-use Rattle.turn_desk_world.specs.declared.answer.Answer.{Answer}
-use Rattle.turn_desk_world.specs.declared.event.ClientCall.TheVariants as call
-use Rattle.turn_desk_world.specs.declared.event.Event.TheVariants.{Call}
-use Rattle.turn_desk_world.specs.Model.{World}
-use Rattle.turn_desk_world.specs.Runs.{IsStep}
+use Rattle.turn_desk_honest.specs.Calls.{IsCallTold, IsCalled, IsPolledAs}
+use Rattle.turn_desk_honest.specs.Control.{Control}
+use Rattle.turn_desk_honest.specs.Kept.{Kept, Protocol}
+use Rattle.turn_desk_honest.specs.declared.answer.Answer.{Answer}
+use Rattle.turn_desk_honest.specs.declared.event.ClientCall.TheVariants as call
+use Rattle.turn_desk_honest.specs.declared.event.Event.TheVariants.{Call}
+use Rattle.turn_desk_honest.specs.Model.{World}
+use Rattle.turn_desk_honest.specs.Runs.{IsStep}
 use Rattle.turn_desk_honest.specs.Promises.{over}
 use Rattle.turn_desk_honest.specs.Scripts.{Plan}
 use Rattle.turn_desk_honest.proofs.Clients.{done, done_so, same_desk, stays}

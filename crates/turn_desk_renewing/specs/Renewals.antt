@@ -12,7 +12,7 @@ use Rattle.turn_client_proto_renewing.specs.TurnShows.{number_shown}
 use Rattle.turn_client_proto_renewing.specs.Allocation.Listed.{relayed_shown}
 use Rattle.turn_client_proto_renewing.specs.Drawing.{Sent}
 use Rattle.turn_client_proto_renewing.specs.Request.Requests.{allocation_lifetime}
-use Rattle.turn_desk_world.specs.Model.{World}
+use Rattle.turn_desk_honest.specs.Model.{World}
 use Rattle.turn_desk_honest.specs.Promises.{HasClient, IsOwnSent, IsStrongestOf, key_in_realm}
 use Rattle.turn_desk_honest.specs.Scripts.{Plan}
 use Rattle.turn_desk_renewing.specs.Turns.{Turn, Watch, Watching, Refreshing, Renewing, Off, due}

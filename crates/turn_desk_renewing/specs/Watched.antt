@@ -13,8 +13,8 @@ use Rattle.turn_client_proto_renewing.specs.Coming.{IsPartOf}
 use Rattle.turn_client_proto_renewing.specs.Stages.{Holds, created, signed_queued}
 use Rattle.turn_client_proto_renewing.specs.Keeping.{IsKeeping, IsRefreshing, IsTerm, Term, due_of, next_of}
 use Rattle.turn_client_proto_renewing.specs.Refreshed.{IsRenewal, refresh_sent}
-use Rattle.turn_desk_world.specs.Model.{World}
-use Rattle.turn_desk_world.specs.State.{State}
+use Rattle.turn_desk_honest.specs.Model.{World}
+use Rattle.turn_desk_honest.specs.State.{State}
 use Rattle.turn_desk_honest.specs.Promises.{HasClient}
 use Rattle.turn_desk_honest.specs.Scripts.{Plan}
 use Rattle.turn_desk_honest.specs.Standing.{IsOfSettings}

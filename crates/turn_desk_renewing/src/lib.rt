@@ -19,16 +19,16 @@ ghost use Rattle.stun_types.specs.declared.transport.TransportType.TheVariants.{
 ghost use Rattle.turn_client_proto_renewing.specs.Api.declared.event.TurnEvent.{TurnEvent};
 ghost use Rattle.turn_client_proto_renewing.specs.Drawing.{Sent};
 ghost use Rattle.turn_client_proto_renewing.specs.Driving.{client_end};
-ghost use Rattle.turn_desk_world.specs.declared.answer.Answer.{Answer};
-ghost use Rattle.turn_desk_world.specs.declared.answer.Answer.TheVariants.{Reply};
-ghost use Rattle.turn_desk_world.specs.declared.decision.Decision.TheVariants as by;
-ghost use Rattle.turn_desk_world.specs.declared.event.ClientCall.{ClientCall};
-ghost use Rattle.turn_desk_world.specs.declared.event.ClientCall.TheVariants.{Poll, PollRecv};
-ghost use Rattle.turn_desk_world.specs.declared.event.Event.{Event};
-ghost use Rattle.turn_desk_world.specs.declared.event.Event.TheVariants.{Call, Draw};
-ghost use Rattle.turn_desk_world.specs.declared.event.Event.TheVariants.{ToClient, ToDesk};
-ghost use Rattle.turn_desk_world.specs.Model.{World};
-ghost use Rattle.turn_desk_world.specs.Runs.{IsRun, IsStep};
+ghost use Rattle.turn_desk_honest.specs.declared.answer.Answer.{Answer};
+ghost use Rattle.turn_desk_honest.specs.declared.answer.Answer.TheVariants.{Reply};
+ghost use Rattle.turn_desk_honest.specs.declared.decision.Decision.TheVariants as by;
+ghost use Rattle.turn_desk_honest.specs.declared.event.ClientCall.{ClientCall};
+ghost use Rattle.turn_desk_honest.specs.declared.event.ClientCall.TheVariants.{Poll, PollRecv};
+ghost use Rattle.turn_desk_honest.specs.declared.event.Event.{Event};
+ghost use Rattle.turn_desk_honest.specs.declared.event.Event.TheVariants.{Call, Draw};
+ghost use Rattle.turn_desk_honest.specs.declared.event.Event.TheVariants.{ToClient, ToDesk};
+ghost use Rattle.turn_desk_honest.specs.Model.{World};
+ghost use Rattle.turn_desk_honest.specs.Runs.{IsRun, IsStep};
 ghost use Rattle.turn_desk_honest.specs.Promises.{IsFresh, events_in};
 ghost use Rattle.turn_desk_honest.specs.Scripts.{BringsOn, Done, IsCut, IsLook, IsScript};
 ghost use Rattle.turn_desk_honest.specs.Scripts.{Plan, Start, given};
@@ -50,12 +50,12 @@ use turn_client_proto_renewing::{
     refreshes_are_signed, refreshing_clients_renew, refreshing_clients_wait,
     successes_reach_clients,
 };
+use turn_desk_honest::core_laws::desk_steps;
 use turn_desk_honest::{
     ended_worlds_rest, first_replies_are_taken, first_requests_are_challenged,
     first_requests_are_drawn, second_replies_are_taken, second_requests_are_drawn,
     second_requests_are_granted, worlds_give_nothing, worlds_stand_still,
 };
-use turn_desk_world::core_laws::desk_steps;
 
 /// Behind an honest run of a handshake that granted an allocation for ten minutes or more, nothing is called
 /// but draws and polls, at moments that the client awaits or earlier, and what takes its events, asks what it

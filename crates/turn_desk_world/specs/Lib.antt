@@ -16,9 +16,11 @@ pub use Rattle.turn_client_proto.specs.Config
 pub use Rattle.turn_client_proto.specs.Control
 pub use Rattle.turn_client_proto.specs.Kept
 -- What stands above this crate has these through it.
+pub use Rattle.turn_client_proto.specs.Getters
 pub use Rattle.turn_client_proto.specs.Headline
 pub use Rattle.turn_client_proto.specs.Messages
 pub use Rattle.turn_client_proto.specs.Runs as RunsOfAny
+pub use Rattle.turn_client_proto.specs.SocketsTold
 pub use Rattle.turn_client_proto.specs.Steps as StepsOfAny
 pub use Rattle.turn_client_proto.specs.Words
 pub use Rattle.turn_desk_steps.specs.AskedFor

@@ -12,11 +12,11 @@ use Rattle.stun_proto.specs.Users.{HashesDiffer}
 use Rattle.turn_client_proto_stages.specs.Allocation.Streams.{alive}
 use Rattle.turn_desk_honest.specs.Promises.{IsFresh, IsTimely, control_at, over}
 use Rattle.turn_desk_honest.specs.Scripts.{plan_over}
-use Rattle.turn_desk_world.specs.Beginning.{IsNew}
-use Rattle.turn_desk_world.specs.Config.{Config}
-use Rattle.turn_desk_world.specs.Control.{Control, Open}
-use Rattle.turn_desk_world.specs.Kept.{Kept, Protocol, over_udp}
-use Rattle.turn_desk_world.specs.Model.{World}
+use Rattle.turn_desk_honest.specs.Beginning.{IsNew}
+use Rattle.turn_desk_honest.specs.Config.{Config}
+use Rattle.turn_desk_honest.specs.Control.{Control, Open}
+use Rattle.turn_desk_honest.specs.Kept.{Kept, Protocol, over_udp}
+use Rattle.turn_desk_honest.specs.Model.{World}
 use Rattle.turn_met.specs.Meetings.{IsBegun, plan_of}
 use Rattle.turn_met.specs.Settings.{config_of, server_of}
 use Rattle.turn_met.specs.declared.meeting.TheConstants.{SECOND}

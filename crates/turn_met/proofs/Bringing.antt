@@ -5,11 +5,11 @@ use Rattle.std.specs.declared.net.socket_addr.SocketAddr.{SocketAddr}
 use Rattle.stun_types.specs.Data.{data_bytes}
 use Rattle.stun_types.specs.declared.data.Data.{Data}
 use Rattle.stun_types.specs.declared.transmit.Transmit.{Transmit}
-use Rattle.turn_desk_world.specs.declared.answer.Answer.TheVariants as answer
-use Rattle.turn_desk_world.specs.declared.decision.Decision.TheVariants as by
-use Rattle.turn_desk_world.specs.declared.event.ClientCall.{ClientCall}
-use Rattle.turn_desk_world.specs.declared.event.Event.TheVariants.{Call, Draw, ToDesk}
-use Rattle.turn_desk_world.specs.Model.{World}
+use Rattle.turn_desk_honest.specs.declared.answer.Answer.TheVariants as answer
+use Rattle.turn_desk_honest.specs.declared.decision.Decision.TheVariants as by
+use Rattle.turn_desk_honest.specs.declared.event.ClientCall.{ClientCall}
+use Rattle.turn_desk_honest.specs.declared.event.Event.TheVariants.{Call, Draw, ToDesk}
+use Rattle.turn_desk_honest.specs.Model.{World}
 use Rattle.turn_met.specs.Exchanges.{Happened}
 use Rattle.turn_met.specs.Wishes.{IsBrought, IsGiven, IsMet, IsSent}
 use Rattle.turn_met.specs.declared.asking.TheConstants.{CALLED, DRAWN}

@@ -3,11 +3,11 @@ use Rattle.std.proofs.Common.{◌≡◌, ℕ, refl, Vec, Global}
 use Rattle.std.specs.Prelude.{IfOk, Result, Ok, Err}
 use Rattle.stun_types.specs.declared.data.Data.{Data}
 use Rattle.stun_types.specs.declared.transmit.Transmit.{Transmit}
-use Rattle.turn_desk_world.specs.declared.answer.Answer.{Answer}
-use Rattle.turn_desk_world.specs.declared.answer.Answer.TheVariants as answer
-use Rattle.turn_desk_world.specs.declared.decision.Decision.{Decision}
-use Rattle.turn_desk_world.specs.declared.event.Event.TheVariants.{Draw}
-use Rattle.turn_desk_world.specs.Model.{World}
+use Rattle.turn_desk_honest.specs.declared.answer.Answer.{Answer}
+use Rattle.turn_desk_honest.specs.declared.answer.Answer.TheVariants as answer
+use Rattle.turn_desk_honest.specs.declared.decision.Decision.{Decision}
+use Rattle.turn_desk_honest.specs.declared.event.Event.TheVariants.{Draw}
+use Rattle.turn_desk_honest.specs.Model.{World}
 use Rattle.turn_met.specs.Exchanges.{Happened, IsCarried, IsDelivered, IsNoReply}
 use Rattle.turn_met.specs.declared.exchange.Carried.{Carried}
 use Rattle.turn_met.specs.declared.exchange.Carried.TheVariants.{Unsent, Unanswered, Replied}

@@ -4,9 +4,9 @@ use Rattle.std.specs.Prelude.{Bool, true, false, IfOk, IsTrue, Result, Ok, Err}
 use Rattle.std.specs.Net.Socket.{socket_ip}
 use Rattle.std.specs.declared.net.socket_addr.SocketAddr.{SocketAddr}
 use Rattle.stun_types.specs.declared.transport.TransportType.TheVariants.{Tcp}
-use Rattle.turn_desk_world.specs.declared.decision.Decision.TheVariants as by
-use Rattle.turn_desk_world.specs.declared.event.ClientCall.TheVariants.{AllocatedTcpSocket, CreatePermission, TcpConnect}
-use Rattle.turn_desk_world.specs.Model.{World}
+use Rattle.turn_desk_honest.specs.declared.decision.Decision.TheVariants as by
+use Rattle.turn_desk_honest.specs.declared.event.ClientCall.TheVariants.{AllocatedTcpSocket, CreatePermission, TcpConnect}
+use Rattle.turn_desk_honest.specs.Model.{World}
 use Rattle.turn_met.specs.Connections.{IsAsked, IsBound, IsBoundAgain, IsGone, IsOpened}
 use Rattle.turn_met.specs.Replies.{HasReplied, IsCall, IsPoll, IsTaken}
 use Rattle.turn_met.specs.declared.linking.TheConstants.{ASKED, MADE, NUMBER, TURNED}

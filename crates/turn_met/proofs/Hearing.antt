@@ -7,9 +7,9 @@ use Rattle.stun_types.specs.declared.transport.TransportType.TheVariants.{Udp}
 use Rattle.turn_client_proto_asking.specs.Holding.{IsDataOf}
 use Rattle.turn_desk_honest.specs.Promises.{IsFresh}
 use Rattle.turn_desk_honest.specs.Scripts.{Plan}
-use Rattle.turn_desk_world.specs.declared.answer.Answer.{Answer}
-use Rattle.turn_desk_world.specs.declared.event.Event.TheVariants.{ToClient}
-use Rattle.turn_desk_world.specs.Model.{World}
+use Rattle.turn_desk_honest.specs.declared.answer.Answer.{Answer}
+use Rattle.turn_desk_honest.specs.declared.event.Event.TheVariants.{ToClient}
+use Rattle.turn_desk_honest.specs.Model.{World}
 use Rattle.turn_met.specs.Exchanges.{Happened}
 use Rattle.turn_met.specs.Payloads.{HasCome, HasHeard, IsHeard, IsReceived, indication, payload, peer}
 use Rattle.turn_met.specs.Wishes.{HasPermitted}

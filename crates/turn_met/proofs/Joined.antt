@@ -10,22 +10,22 @@ use Rattle.stun_types.specs.MessageClasses.{Success}
 use Rattle.stun_types.specs.Types.{class_of}
 use Rattle.stun_types.specs.declared.transport.TransportType.TheVariants.{Tcp}
 use Rattle.stun_proto.specs.Challenges.{Told as ChallengeTold, challenge_shown}
-use Rattle.turn_client_proto_linking.specs.Drawing.{Sent, sent_of}
-use Rattle.turn_client_proto_linking.specs.Driving.{client_end}
+use Rattle.turn_client_proto_stages.specs.Drawing.{Sent, sent_of}
+use Rattle.turn_client_proto_stages.specs.Driving.{client_end}
 use Rattle.turn_desk_honest.specs.Promises.{IsFresh}
 use Rattle.turn_desk_honest.specs.Scripts.{Done, IsScript, Plan, Start}
 use Rattle.turn_desk_linking.specs.Joining.{KeepsOwn}
 use Rattle.turn_desk_linking.specs.Linked.{IsOverTcp}
 use Rattle.turn_desk_linking.specs.Links.{Answered, AskConnect, AskDrawn, AskPermission, Asked, Binding, Bound, Called, DrawBind, DrawConnect, DrawPermission, Drawn, EndBind, GiveConnect, GivePermission, GrantBind, GrantConnect, GrantPermission, Held, IsTimelyLink, Known, Link, Links, Looks, Opened, Opens, Permitted, Permitting, PollsKnown, Reached, Told, Waiting}
 use Rattle.turn_desk_linking.specs.Rebinding.{At, GiveTurn, Goes, HasRelinked, IsRelinkScript, Relinks, Retry, Turned, TurnsBind}
-use Rattle.turn_desk_world.specs.declared.answer.Answer.{Answer}
-use Rattle.turn_desk_world.specs.declared.answer.Answer.TheVariants as answer
-use Rattle.turn_desk_world.specs.declared.decision.Decision.TheVariants as by
-use Rattle.turn_desk_world.specs.declared.event.ClientCall.TheVariants.{AllocatedTcpSocket, CreatePermission, Poll, PollEvent, TcpConnect}
-use Rattle.turn_desk_world.specs.declared.event.Event.{Event}
-use Rattle.turn_desk_world.specs.declared.event.Event.TheVariants.{Call, Draw, ToClient, ToDesk}
-use Rattle.turn_desk_world.specs.Model.{World}
-use Rattle.turn_desk_world.specs.Runs.{IsRun}
+use Rattle.turn_desk_honest.specs.declared.answer.Answer.{Answer}
+use Rattle.turn_desk_honest.specs.declared.answer.Answer.TheVariants as answer
+use Rattle.turn_desk_honest.specs.declared.decision.Decision.TheVariants as by
+use Rattle.turn_desk_honest.specs.declared.event.ClientCall.TheVariants.{AllocatedTcpSocket, CreatePermission, Poll, PollEvent, TcpConnect}
+use Rattle.turn_desk_honest.specs.declared.event.Event.{Event}
+use Rattle.turn_desk_honest.specs.declared.event.Event.TheVariants.{Call, Draw, ToClient, ToDesk}
+use Rattle.turn_desk_honest.specs.Model.{World}
+use Rattle.turn_desk_honest.specs.Runs.{IsRun}
 use Rattle.turn_met.specs.Connections.{HasBound, IsAsked, IsGone, IsOpened, link_of}
 use Rattle.turn_met.specs.Exchanges.{Happened}
 use Rattle.turn_met.specs.Meetings.{HasMet}

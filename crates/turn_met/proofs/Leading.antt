@@ -12,14 +12,14 @@ use Rattle.turn_client_proto_stages.specs.Stages.{AsksForOne}
 use Rattle.turn_desk_honest.specs.Promises.{IsFresh, events_in}
 use Rattle.turn_desk_honest.specs.Scripts.{AskFirst, AskSecond, Asked, Barred, BringsOn, Came, Challenged, Done, DrawFirst, DrawSecond, Follows, GiveFirst, GiveSecond, Granted, IsScript, Place, Plan, Signed, Silent, Start, drawn_first, drawn_second, replied_first, replied_second}
 use Rattle.turn_desk_honest.specs.Standing.{Stands}
-use Rattle.turn_desk_world.specs.declared.answer.Answer.{Answer}
-use Rattle.turn_desk_world.specs.declared.answer.Answer.TheVariants as answer
-use Rattle.turn_desk_world.specs.declared.decision.Decision.{Decision}
-use Rattle.turn_desk_world.specs.declared.decision.Decision.TheVariants as by
-use Rattle.turn_desk_world.specs.declared.event.Event.{Event}
-use Rattle.turn_desk_world.specs.declared.event.Event.TheVariants.{Draw, ToClient, ToDesk}
-use Rattle.turn_desk_world.specs.Model.{World}
-use Rattle.turn_desk_world.specs.Runs.{IsRun}
+use Rattle.turn_desk_honest.specs.declared.answer.Answer.{Answer}
+use Rattle.turn_desk_honest.specs.declared.answer.Answer.TheVariants as answer
+use Rattle.turn_desk_honest.specs.declared.decision.Decision.{Decision}
+use Rattle.turn_desk_honest.specs.declared.decision.Decision.TheVariants as by
+use Rattle.turn_desk_honest.specs.declared.event.Event.{Event}
+use Rattle.turn_desk_honest.specs.declared.event.Event.TheVariants.{Draw, ToClient, ToDesk}
+use Rattle.turn_desk_honest.specs.Model.{World}
+use Rattle.turn_desk_honest.specs.Runs.{IsRun}
 use Rattle.turn_met.specs.Exchanges.{Happened, IsAsked, IsNoReply, IsSent, IsUnsent, SendsNothing}
 use Rattle.turn_met.specs.declared.exchange.Carried.TheVariants.{Unanswered, Replied}
 

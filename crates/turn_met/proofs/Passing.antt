@@ -3,10 +3,10 @@ use Rattle.std.proofs.Common.{◌≡◌, ℕ, Bool, true, false, subst, Vec, Glo
 use Rattle.std.specs.Prelude.{IfOk, Result, Ok, Err}
 use Rattle.stun_types.specs.declared.data.Data.{Data}
 use Rattle.stun_types.specs.declared.transmit.Transmit.{Transmit}
-use Rattle.turn_desk_world.specs.declared.answer.Answer.TheVariants as answer
-use Rattle.turn_desk_world.specs.declared.decision.Decision.TheVariants as by
-use Rattle.turn_desk_world.specs.declared.event.Event.TheVariants.{Draw}
-use Rattle.turn_desk_world.specs.Model.{World}
+use Rattle.turn_desk_honest.specs.declared.answer.Answer.TheVariants as answer
+use Rattle.turn_desk_honest.specs.declared.decision.Decision.TheVariants as by
+use Rattle.turn_desk_honest.specs.declared.event.Event.TheVariants.{Draw}
+use Rattle.turn_desk_honest.specs.Model.{World}
 use Rattle.turn_met.specs.Courses.{IsCourse, IsGiven, IsGranted, IsRefreshed, IsRest, IsShown, IsStill, IsWait, Where}
 use Rattle.turn_met.specs.Exchanges.{Happened, IsAsked}
 use Rattle.turn_met.specs.Replies.{IsTaken}

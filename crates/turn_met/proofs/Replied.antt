@@ -4,10 +4,10 @@ use Rattle.std.specs.Prelude.{IfOk, Result, Ok, Err}
 use Rattle.stun_types.specs.Data.{data_bytes}
 use Rattle.stun_types.specs.declared.data.Data.{Data}
 use Rattle.stun_types.specs.declared.transmit.Transmit.{Transmit}
-use Rattle.turn_desk_world.specs.declared.answer.Answer.TheVariants as answer
-use Rattle.turn_desk_world.specs.declared.decision.Decision.{Decision}
-use Rattle.turn_desk_world.specs.declared.event.Event.TheVariants.{Draw, ToDesk}
-use Rattle.turn_desk_world.specs.Model.{World}
+use Rattle.turn_desk_honest.specs.declared.answer.Answer.TheVariants as answer
+use Rattle.turn_desk_honest.specs.declared.decision.Decision.{Decision}
+use Rattle.turn_desk_honest.specs.declared.event.Event.TheVariants.{Draw, ToDesk}
+use Rattle.turn_desk_honest.specs.Model.{World}
 use Rattle.turn_met.specs.Exchanges.{Happened}
 use Rattle.turn_met.specs.Replies.{IsBrought, IsGiven, IsReplied}
 use Rattle.turn_met.specs.declared.replying.Reply.{Reply}

@@ -7,11 +7,11 @@ use Rattle.turn_client_proto_stages.specs.Stages.{AsksForOne}
 use Rattle.turn_desk_honest.specs.Promises.{HasCome, IsFresh, events_in}
 use Rattle.turn_desk_honest.specs.Scripts.{Barred, Came, Done, IsScript, Place, Plan, Silent, Start}
 use Rattle.turn_desk_honest.specs.Standing.{Stands}
-use Rattle.turn_desk_world.specs.declared.answer.Answer.{Answer}
-use Rattle.turn_desk_world.specs.declared.decision.Decision.{Decision}
-use Rattle.turn_desk_world.specs.declared.event.Event.{Event}
-use Rattle.turn_desk_world.specs.Model.{World}
-use Rattle.turn_desk_world.specs.Runs.{IsRun}
+use Rattle.turn_desk_honest.specs.declared.answer.Answer.{Answer}
+use Rattle.turn_desk_honest.specs.declared.decision.Decision.{Decision}
+use Rattle.turn_desk_honest.specs.declared.event.Event.{Event}
+use Rattle.turn_desk_honest.specs.Model.{World}
+use Rattle.turn_desk_honest.specs.Runs.{IsRun}
 use Rattle.turn_met.specs.Exchanges.{IsSent, IsUnsent}
 use Rattle.turn_met.specs.Meetings.{HasComeTo, HasGoneOn, HasMet}
 use Rattle.turn_met.specs.declared.exchange.Carried.TheVariants.{Unanswered, Replied}

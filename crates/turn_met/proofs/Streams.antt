@@ -12,11 +12,11 @@ use Rattle.turn_client_proto_stages.specs.Allocation.Streams.{alive}
 use Rattle.turn_desk_honest.specs.Promises.{IsFresh, over}
 use Rattle.turn_desk_linking.specs.Joining.{KeepsOwn}
 use Rattle.turn_desk_linking.specs.Links.{Link}
-use Rattle.turn_desk_world.specs.Beginning.{IsNew}
-use Rattle.turn_desk_world.specs.Config.{Config}
-use Rattle.turn_desk_world.specs.Control.{Control, Open}
-use Rattle.turn_desk_world.specs.Kept.{Kept}
-use Rattle.turn_desk_world.specs.Model.{World}
+use Rattle.turn_desk_honest.specs.Beginning.{IsNew}
+use Rattle.turn_desk_honest.specs.Config.{Config}
+use Rattle.turn_desk_honest.specs.Control.{Control, Open}
+use Rattle.turn_desk_honest.specs.Kept.{Kept}
+use Rattle.turn_desk_honest.specs.Model.{World}
 use Rattle.turn_met.specs.Connections.{HasBound, stream_config_of, stream_plan_of}
 use Rattle.turn_met.specs.Settings.{server_of}
 use Rattle.turn_met.specs.declared.meeting.TheConstants.{SECOND}

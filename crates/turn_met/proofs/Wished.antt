@@ -23,18 +23,18 @@ use Rattle.turn_desk_honest.specs.Standing.{IsHeld}
 use Rattle.turn_desk_honest.proofs.Clients.{IsDrawnOn, done, draws, stays}
 use Rattle.turn_desk_asking.specs.Asking.{Drawn, Got, Granted, Idle, Draws, IsAskingScript, IsCleanRun, IsDrawn as IsDrawnHere, IsGiven, IsGranted, IsRequestOf, Pending, replies_in}
 use Rattle.turn_desk_asking.specs.Promises.{IsChannelHeld, IsPermissionHeld}
-use Rattle.turn_desk_world.specs.Calls.{IsCallTold, IsCalled, IsDrawnAs}
-use Rattle.turn_desk_world.specs.Control.{Control}
-use Rattle.turn_desk_world.specs.Kept.{Kept, Protocol}
-use Rattle.turn_desk_world.specs.Model.{World}
-use Rattle.turn_desk_world.specs.Runs.{IsRun, IsStep}
-use Rattle.turn_desk_world.specs.declared.answer.Answer.{Answer}
-use Rattle.turn_desk_world.specs.declared.answer.Answer.TheVariants as answer
-use Rattle.turn_desk_world.specs.declared.decision.Decision.TheVariants as by
-use Rattle.turn_desk_world.specs.declared.event.ClientCall.{ClientCall}
-use Rattle.turn_desk_world.specs.declared.event.ClientCall.TheVariants.{BindChannel, CreatePermission}
-use Rattle.turn_desk_world.specs.declared.event.Event.{Event}
-use Rattle.turn_desk_world.specs.declared.event.Event.TheVariants.{Call, Draw, ToClient, ToDesk}
+use Rattle.turn_desk_honest.specs.Calls.{IsCallTold, IsCalled, IsDrawnAs}
+use Rattle.turn_desk_honest.specs.Control.{Control}
+use Rattle.turn_desk_honest.specs.Kept.{Kept, Protocol}
+use Rattle.turn_desk_honest.specs.Model.{World}
+use Rattle.turn_desk_honest.specs.Runs.{IsRun, IsStep}
+use Rattle.turn_desk_honest.specs.declared.answer.Answer.{Answer}
+use Rattle.turn_desk_honest.specs.declared.answer.Answer.TheVariants as answer
+use Rattle.turn_desk_honest.specs.declared.decision.Decision.TheVariants as by
+use Rattle.turn_desk_honest.specs.declared.event.ClientCall.{ClientCall}
+use Rattle.turn_desk_honest.specs.declared.event.ClientCall.TheVariants.{BindChannel, CreatePermission}
+use Rattle.turn_desk_honest.specs.declared.event.Event.{Event}
+use Rattle.turn_desk_honest.specs.declared.event.Event.TheVariants.{Call, Draw, ToClient, ToDesk}
 use Rattle.turn_met.specs.Exchanges.{Happened}
 use Rattle.turn_met.specs.Meetings.{HasMet, plan_of}
 use Rattle.turn_met.specs.Wishes as wish

@@ -4,22 +4,22 @@ use Rattle.std.specs.Prelude.{ℕ, List, [], Some, replicate}
 use Rattle.std.specs.Net.Socket.{socket_ip}
 use Rattle.std.specs.declared.net.socket_addr.SocketAddr.{SocketAddr}
 use Rattle.stun_types.specs.declared.transport.TransportType.TheVariants.{Tcp}
-use Rattle.turn_client_proto_linking.specs.Drawing.{Sent}
+use Rattle.turn_client_proto_stages.specs.Drawing.{Sent}
 use Rattle.turn_desk_honest.specs.Promises.{IsFresh}
 use Rattle.turn_desk_honest.specs.Scripts.{Done, IsScript, Plan, Start, plan_over}
 use Rattle.turn_desk_linking.specs.Joining.{KeepsOwn}
 use Rattle.turn_desk_linking.specs.Linked.{IsOverTcp}
 use Rattle.turn_desk_linking.specs.Links.{Bound, Held, IsTimelyLink, Link}
 use Rattle.turn_desk_linking.specs.Rebinding.{At, HasRelinked, IsRelinkScript}
-use Rattle.turn_desk_world.specs.Config.{Config}
-use Rattle.turn_desk_world.specs.declared.answer.Answer.{Answer}
-use Rattle.turn_desk_world.specs.declared.decision.Decision.{Decision}
-use Rattle.turn_desk_world.specs.declared.decision.Decision.TheVariants as by
-use Rattle.turn_desk_world.specs.declared.event.ClientCall.{ClientCall}
-use Rattle.turn_desk_world.specs.declared.event.ClientCall.TheVariants.{AllocatedTcpSocket, CreatePermission, TcpConnect}
-use Rattle.turn_desk_world.specs.declared.event.Event.{Event}
-use Rattle.turn_desk_world.specs.Model.{World}
-use Rattle.turn_desk_world.specs.Runs.{IsRun}
+use Rattle.turn_desk_honest.specs.Config.{Config}
+use Rattle.turn_desk_honest.specs.declared.answer.Answer.{Answer}
+use Rattle.turn_desk_honest.specs.declared.decision.Decision.{Decision}
+use Rattle.turn_desk_honest.specs.declared.decision.Decision.TheVariants as by
+use Rattle.turn_desk_honest.specs.declared.event.ClientCall.{ClientCall}
+use Rattle.turn_desk_honest.specs.declared.event.ClientCall.TheVariants.{AllocatedTcpSocket, CreatePermission, TcpConnect}
+use Rattle.turn_desk_honest.specs.declared.event.Event.{Event}
+use Rattle.turn_desk_honest.specs.Model.{World}
+use Rattle.turn_desk_honest.specs.Runs.{IsRun}
 use Rattle.turn_met.specs.Replies.{HasReplied, IsCall, IsPoll, IsTaken, Then}
 use Rattle.turn_met.specs.Settings.{config_of}
 use Rattle.turn_met.specs.declared.linking.TheConstants.{AGAIN, ASKED, MADE, NUMBER, TURNED}

@@ -12,14 +12,14 @@ use Rattle.turn_client_proto_stages.specs.Drawing.{Sent}
 use Rattle.turn_desk_honest.specs.Scripts.{Done, IsScript, Plan, Start}
 use Rattle.turn_desk_renewing.specs.Renewals.{HasRenewed}
 use Rattle.turn_desk_renewing.specs.Turns.{IsDriven, Turn, Watch, Watching, due, watching}
-use Rattle.turn_desk_world.specs.declared.answer.Answer.{Answer}
-use Rattle.turn_desk_world.specs.declared.answer.Answer.TheVariants as answer
-use Rattle.turn_desk_world.specs.declared.decision.Decision.TheVariants as by
-use Rattle.turn_desk_world.specs.declared.event.ClientCall.TheVariants as call
-use Rattle.turn_desk_world.specs.declared.event.Event.{Event}
-use Rattle.turn_desk_world.specs.declared.event.Event.TheVariants.{Call, Draw, ToClient}
-use Rattle.turn_desk_world.specs.Model.{World}
-use Rattle.turn_desk_world.specs.Runs.{IsRun}
+use Rattle.turn_desk_honest.specs.declared.answer.Answer.{Answer}
+use Rattle.turn_desk_honest.specs.declared.answer.Answer.TheVariants as answer
+use Rattle.turn_desk_honest.specs.declared.decision.Decision.TheVariants as by
+use Rattle.turn_desk_honest.specs.declared.event.ClientCall.TheVariants as call
+use Rattle.turn_desk_honest.specs.declared.event.Event.{Event}
+use Rattle.turn_desk_honest.specs.declared.event.Event.TheVariants.{Call, Draw, ToClient}
+use Rattle.turn_desk_honest.specs.Model.{World}
+use Rattle.turn_desk_honest.specs.Runs.{IsRun}
 use Rattle.turn_met.specs.Exchanges.{Happened, IsAnswered}
 use Rattle.turn_met.specs.Meetings.{HasMet}
 use Rattle.turn_met.specs.Replies.{IsTaken}

@@ -4,14 +4,14 @@ use Rattle.std.specs.declared.net.socket_addr.SocketAddr.{SocketAddr}
 use Rattle.turn_client_proto_stages.specs.Drawing.{Sent}
 use Rattle.turn_desk_honest.specs.Promises.{HasCome, control_at, events_in, over}
 use Rattle.turn_desk_honest.specs.Scripts.{Barred, Done, IsScript, Place, Plan, Silent, Start, plan_over}
-use Rattle.turn_desk_world.specs.Beginning.{IsNew}
-use Rattle.turn_desk_world.specs.Config.{Config}
-use Rattle.turn_desk_world.specs.Kept.{Kept, Protocol}
-use Rattle.turn_desk_world.specs.declared.answer.Answer.{Answer}
-use Rattle.turn_desk_world.specs.declared.decision.Decision.TheVariants as by
-use Rattle.turn_desk_world.specs.declared.event.Event.{Event}
-use Rattle.turn_desk_world.specs.Model.{World}
-use Rattle.turn_desk_world.specs.Runs.{IsRun}
+use Rattle.turn_desk_honest.specs.Beginning.{IsNew}
+use Rattle.turn_desk_honest.specs.Config.{Config}
+use Rattle.turn_desk_honest.specs.Kept.{Kept, Protocol}
+use Rattle.turn_desk_honest.specs.declared.answer.Answer.{Answer}
+use Rattle.turn_desk_honest.specs.declared.decision.Decision.TheVariants as by
+use Rattle.turn_desk_honest.specs.declared.event.Event.{Event}
+use Rattle.turn_desk_honest.specs.Model.{World}
+use Rattle.turn_desk_honest.specs.Runs.{IsRun}
 use Rattle.turn_met.specs.Exchanges.{IsCarried}
 use Rattle.turn_met.specs.Settings.{config_of}
 use Rattle.turn_met.specs.declared.exchange.Carried.{Carried}

@@ -10,14 +10,14 @@ use Rattle.stun_types.specs.MessageClasses.{Success}
 use Rattle.stun_types.specs.Types.{class_of}
 use Rattle.stun_types.specs.declared.data.Data.{Data}
 use Rattle.stun_types.specs.declared.transmit.Transmit.{Transmit}
-use Rattle.turn_client_proto_linking.specs.Api.declared.answer.Socket5Tuple.{Socket5Tuple}
-use Rattle.turn_desk_world.specs.declared.answer.Answer.{Answer}
-use Rattle.turn_desk_world.specs.declared.answer.Answer.TheVariants as answer
-use Rattle.turn_desk_world.specs.declared.decision.Decision.{Decision}
-use Rattle.turn_desk_world.specs.declared.event.ClientCall.{ClientCall}
-use Rattle.turn_desk_world.specs.declared.event.ClientCall.TheVariants.{Poll, PollEvent}
-use Rattle.turn_desk_world.specs.declared.event.Event.TheVariants.{Call, Draw, ToClient, ToDesk}
-use Rattle.turn_desk_world.specs.Model.{World}
+use Rattle.turn_client_proto_stages.specs.Api.declared.answer.Socket5Tuple.{Socket5Tuple}
+use Rattle.turn_desk_honest.specs.declared.answer.Answer.{Answer}
+use Rattle.turn_desk_honest.specs.declared.answer.Answer.TheVariants as answer
+use Rattle.turn_desk_honest.specs.declared.decision.Decision.{Decision}
+use Rattle.turn_desk_honest.specs.declared.event.ClientCall.{ClientCall}
+use Rattle.turn_desk_honest.specs.declared.event.ClientCall.TheVariants.{Poll, PollEvent}
+use Rattle.turn_desk_honest.specs.declared.event.Event.TheVariants.{Call, Draw, ToClient, ToDesk}
+use Rattle.turn_desk_honest.specs.Model.{World}
 use Rattle.turn_met.specs.Exchanges.{Happened}
 use Rattle.turn_met.specs.declared.replying.Reply.{Reply}
 use Rattle.turn_met.specs.declared.replying.Reply.TheVariants as reply

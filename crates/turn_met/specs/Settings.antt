@@ -3,7 +3,7 @@ use Rattle.std.specs.Prelude.{List, [], ◌∷◌}
 use Rattle.std.specs.FinMap as map
 use Rattle.stun_types.specs.IntegrityAlgorithms.{IntegrityAlgorithm, Sha1, Sha256, Sha512}
 use Rattle.stun_proto.specs.Server.{Server}
-use Rattle.turn_desk_world.specs.Config.{Config, default_config}
+use Rattle.turn_desk_honest.specs.Config.{Config, default_config}
 use Rattle.turn_met.specs.declared.setting.Setting.{Setting}
 use Rattle.turn_met.specs.declared.setting.Supported.{Supported}
 use Rattle.turn_met.specs.declared.setting.Supported.TheVariants.{OnlySha1, OnlySha256, OnlySha512, Both, All}

@@ -8,7 +8,7 @@ ghost use Rattle.stun_types.specs.Registry.{longest_text, longest_username};
 ghost use Rattle.stun_types.specs.declared.transport.TransportType.TheVariants.{Udp};
 ghost use Rattle.turn_client_proto_stages.specs.Sound.{IsWhole};
 ghost use Rattle.turn_desk_honest.specs.Promises.{IsFresh};
-ghost use Rattle.turn_desk_world.specs.Model.{World as WorldModel};
+ghost use Rattle.turn_desk_honest.specs.Model.{World as WorldModel};
 ghost use Rattle.turn_met.specs.Meetings.{plan_of};
 ghost use Rattle.turn_met.specs.Payloads.{IsHeard, IsReceived, indication, peer};
 ghost use Rattle.turn_met.specs.Wishes.{IsBound, IsBrought, IsGiven, IsMet, IsPermitted, IsSent};
@@ -23,11 +23,11 @@ use stun_proto::Instant;
 use stun_types::data::Data;
 use stun_types::{NoMemory, Transmit, TransportType};
 use turn_desk_asking::asked_things_are_held;
+use turn_desk_honest::answer::Answer;
+use turn_desk_honest::decision::Decision;
+use turn_desk_honest::event::{ClientCall, Event};
 use turn_desk_honest::honest_runs_allocate;
-use turn_desk_world::answer::Answer;
-use turn_desk_world::decision::Decision;
-use turn_desk_world::event::{ClientCall, Event};
-use turn_desk_world::world::World;
+use turn_desk_honest::world::World;
 
 /// What became of what a client was asked for.
 #[derive(Clone, Copy, Debug)]

@@ -9,10 +9,10 @@ use std::slice;
 use stun_proto::Instant;
 use stun_types::data::Data;
 use stun_types::{NoMemory, Transmit};
-use turn_desk_world::answer::Answer;
-use turn_desk_world::decision::Decision;
-use turn_desk_world::event::Event;
-use turn_desk_world::world::World;
+use turn_desk_honest::answer::Answer;
+use turn_desk_honest::decision::Decision;
+use turn_desk_honest::event::Event;
+use turn_desk_honest::world::World;
 
 /// How far an exchange went.
 #[derive(Clone, Copy)]

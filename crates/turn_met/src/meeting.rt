@@ -8,9 +8,9 @@ ghost use Rattle.turn_client_proto_stages.specs.Sound.{IsWhole};
 ghost use Rattle.turn_client_proto_stages.specs.Stages.{AsksForOne};
 ghost use Rattle.turn_desk_honest.specs.Promises.{IsFresh};
 ghost use Rattle.turn_desk_honest.specs.Scripts.{Plan};
-ghost use Rattle.turn_desk_world.specs.Clients.{kept_of};
-ghost use Rattle.turn_desk_world.specs.declared.decision.Decision.TheVariants.{Allocate};
-ghost use Rattle.turn_desk_world.specs.Model.{World as WorldModel};
+ghost use Rattle.turn_desk_honest.specs.Clients.{kept_of};
+ghost use Rattle.turn_desk_honest.specs.declared.decision.Decision.TheVariants.{Allocate};
+ghost use Rattle.turn_desk_honest.specs.Model.{World as WorldModel};
 ghost use Rattle.turn_met.specs.Meetings.{HasGoneOn, HasMet, IsBegun, plan_of};
 
 use crate::exchange::{Carried, carry};
@@ -20,15 +20,15 @@ use std::net::SocketAddr;
 use std::time::Duration;
 use stun_proto::Instant;
 use stun_types::{ListOf, NoMemory, TransportType};
+use turn_desk_honest::client::api::TurnConfig;
+use turn_desk_honest::client::client::TurnClient;
+use turn_desk_honest::client::tcp::TurnClientTcp;
+use turn_desk_honest::client::udp::TurnClientUdp;
+use turn_desk_honest::core_desk::Desk;
+use turn_desk_honest::decision::Decision;
 use turn_desk_honest::fresh::worlds_begin_fresh;
 use turn_desk_honest::honest_runs_allocate;
-use turn_desk_world::client::api::TurnConfig;
-use turn_desk_world::client::client::TurnClient;
-use turn_desk_world::client::tcp::TurnClientTcp;
-use turn_desk_world::client::udp::TurnClientUdp;
-use turn_desk_world::core_desk::Desk;
-use turn_desk_world::decision::Decision;
-use turn_desk_world::world::World;
+use turn_desk_honest::world::World;
 
 /// What a meeting came to.
 #[derive(Clone, Copy, Debug)]

@@ -7,7 +7,7 @@ ghost use Rattle.turn_client_proto_stages.specs.Sound.{IsWhole};
 ghost use Rattle.turn_client_proto_stages.specs.Stages.{AsksForOne};
 ghost use Rattle.turn_desk_honest.specs.Promises.{IsFresh};
 ghost use Rattle.turn_desk_honest.specs.Scripts.{Plan};
-ghost use Rattle.turn_desk_world.specs.Model.{World as WorldModel};
+ghost use Rattle.turn_desk_honest.specs.Model.{World as WorldModel};
 ghost use Rattle.turn_met.specs.Courses.{HasGoneBy, HasKept, IsGiven, IsGranted, IsRefreshed};
 ghost use Rattle.turn_met.specs.Courses.{IsRest, IsShown, IsStill, IsWait, Where};
 ghost use Rattle.turn_met.specs.Meetings.{plan_of};
@@ -21,11 +21,11 @@ use std::net::SocketAddr;
 use stun_proto::Instant;
 use stun_types::data::Data;
 use stun_types::{NoMemory, Transmit};
+use turn_desk_honest::answer::Answer;
+use turn_desk_honest::decision::Decision;
+use turn_desk_honest::event::{ClientCall, Event};
+use turn_desk_honest::world::World;
 use turn_desk_renewing::renewed_in_time;
-use turn_desk_world::answer::Answer;
-use turn_desk_world::decision::Decision;
-use turn_desk_world::event::{ClientCall, Event};
-use turn_desk_world::world::World;
 
 /// What came of an address.
 #[derive(Clone, Copy, Debug)]

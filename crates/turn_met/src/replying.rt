@@ -5,8 +5,8 @@ ghost use Rattle.stun_types.specs.Attributes.{kind_at};
 ghost use Rattle.stun_types.specs.MessageClasses.{Success};
 ghost use Rattle.stun_types.specs.Types.{class_of};
 ghost use Rattle.stun_proto.specs.Challenges.{asks_again, challenge_shown};
-ghost use Rattle.turn_desk_world.specs.declared.answer.Answer.TheVariants.{Nothing};
-ghost use Rattle.turn_desk_world.specs.declared.event.Event.TheVariants.{Draw};
+ghost use Rattle.turn_desk_honest.specs.declared.answer.Answer.TheVariants.{Nothing};
+ghost use Rattle.turn_desk_honest.specs.declared.event.Event.TheVariants.{Draw};
 ghost use Rattle.turn_met.specs.Exchanges.{Happened};
 ghost use Rattle.turn_met.specs.Replies.{IsBrought, IsCall, IsGiven, IsKind, IsPoll, IsReplied, IsTaken};
 
@@ -18,10 +18,10 @@ use stun_types::data::Data;
 use stun_types::message::{Message, MessageClass};
 use stun_types::registry::{STALE_NONCE, UNAUTHORIZED};
 use stun_types::{NoMemory, Transmit};
-use turn_desk_world::answer::Answer;
-use turn_desk_world::decision::Decision;
-use turn_desk_world::event::{ClientCall, Event};
-use turn_desk_world::world::World;
+use turn_desk_honest::answer::Answer;
+use turn_desk_honest::decision::Decision;
+use turn_desk_honest::event::{ClientCall, Event};
+use turn_desk_honest::world::World;
 
 /// What a desk replied.
 #[derive(Clone, Copy)]

@@ -10,7 +10,7 @@ use std::net::SocketAddr;
 use stun_proto::auth::{Feature, LongTermServerAuth};
 use stun_types::message::{IntegrityAlgorithm, LongTermCredentials};
 use stun_types::{AddressFamily, NoMemory, TransportType};
-use turn_desk_world::client::api::TurnConfig;
+use turn_desk_honest::client::api::TurnConfig;
 use turn_types::TurnCredentials;
 
 /// Which algorithms a client or a desk supports.

@@ -15,19 +15,19 @@ use Rattle.turn_client_proto_asking.specs.Asking.{APermission, AChannel, HasAske
 use Rattle.turn_client_proto_asking.specs.Holding.{HoldsChannel, HoldsPermission, IsBoundTo, IsDataOf, IsFrameOf}
 use Rattle.turn_client_proto_asking.specs.Speaking.{AreHeldBeyond}
 use Rattle.turn_client_proto_asking.proofs.Given.{gives_data}
-use Rattle.turn_desk_world.specs.Calls.{IsBindTold, IsCallTold, IsCalled, IsPermissionTold}
-use Rattle.turn_desk_world.specs.Control.{Control, Datagrams}
-use Rattle.turn_desk_world.specs.Kept.{Kept, Protocol}
-use Rattle.turn_desk_world.specs.Model.{World}
-use Rattle.turn_desk_world.specs.Runs.{IsRun, IsStep, is_in_range}
-use Rattle.turn_desk_world.specs.State.{State}
-use Rattle.turn_desk_world.specs.declared.answer.Answer.{Answer}
-use Rattle.turn_desk_world.specs.declared.answer.Answer.TheVariants as answer
-use Rattle.turn_desk_world.specs.declared.answer.Refusal.TheVariants.{BindChannel as BindRefused, CreatePermission as PermissionRefused}
-use Rattle.turn_desk_world.specs.declared.event.ClientCall.{ClientCall}
-use Rattle.turn_desk_world.specs.declared.event.ClientCall.TheVariants.{BindChannel, CreatePermission}
-use Rattle.turn_desk_world.specs.declared.event.Event.{Event}
-use Rattle.turn_desk_world.specs.declared.event.Event.TheVariants.{Call, ToClient}
+use Rattle.turn_desk_honest.specs.Calls.{IsBindTold, IsCallTold, IsCalled, IsPermissionTold}
+use Rattle.turn_desk_honest.specs.Control.{Control, Datagrams}
+use Rattle.turn_desk_honest.specs.Kept.{Kept, Protocol}
+use Rattle.turn_desk_honest.specs.Model.{World}
+use Rattle.turn_desk_honest.specs.Runs.{IsRun, IsStep, is_in_range}
+use Rattle.turn_desk_honest.specs.State.{State}
+use Rattle.turn_desk_honest.specs.declared.answer.Answer.{Answer}
+use Rattle.turn_desk_honest.specs.declared.answer.Answer.TheVariants as answer
+use Rattle.turn_desk_honest.specs.declared.answer.Refusal.TheVariants.{BindChannel as BindRefused, CreatePermission as PermissionRefused}
+use Rattle.turn_desk_honest.specs.declared.event.ClientCall.{ClientCall}
+use Rattle.turn_desk_honest.specs.declared.event.ClientCall.TheVariants.{BindChannel, CreatePermission}
+use Rattle.turn_desk_honest.specs.declared.event.Event.{Event}
+use Rattle.turn_desk_honest.specs.declared.event.Event.TheVariants.{Call, ToClient}
 use Rattle.turn_desk_honest.specs.Promises.{HasClient, IsFresh, control_at, over}
 use Rattle.turn_desk_honest.specs.Scripts.{Done, IsScript, Plan, Start}
 use Rattle.turn_desk_honest.proofs.Clients.{IsDone, done, done_so, same_desk, stays}

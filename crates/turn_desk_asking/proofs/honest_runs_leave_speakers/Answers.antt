@@ -7,14 +7,14 @@ use Rattle.turn_client_proto_asking.specs.Drawing.{Sent}
 use Rattle.turn_client_proto_asking.specs.Request.Waiting.{Queued}
 use Rattle.turn_client_proto_asking.specs.Stages.{IsSigning, created, signed_queued}
 use Rattle.turn_client_proto_asking.specs.Speaking.{Speaks}
-use Rattle.turn_desk_world.specs.Model.{World}
-use Rattle.turn_desk_world.specs.Runs.{IsRun, IsStep}
-use Rattle.turn_desk_world.specs.declared.answer.Answer.{Answer}
-use Rattle.turn_desk_world.specs.declared.answer.Answer.TheVariants as answer
-use Rattle.turn_desk_world.specs.declared.event.ClientCall.{ClientCall}
-use Rattle.turn_desk_world.specs.declared.event.ClientCall.TheVariants as call
-use Rattle.turn_desk_world.specs.declared.event.Event.{Event}
-use Rattle.turn_desk_world.specs.declared.event.Event.TheVariants.{Call, ToClient}
+use Rattle.turn_desk_honest.specs.Model.{World}
+use Rattle.turn_desk_honest.specs.Runs.{IsRun, IsStep}
+use Rattle.turn_desk_honest.specs.declared.answer.Answer.{Answer}
+use Rattle.turn_desk_honest.specs.declared.answer.Answer.TheVariants as answer
+use Rattle.turn_desk_honest.specs.declared.event.ClientCall.{ClientCall}
+use Rattle.turn_desk_honest.specs.declared.event.ClientCall.TheVariants as call
+use Rattle.turn_desk_honest.specs.declared.event.Event.{Event}
+use Rattle.turn_desk_honest.specs.declared.event.Event.TheVariants.{Call, ToClient}
 use Rattle.turn_desk_honest.specs.Promises.{HasClient, IsFresh, control_at, events_in}
 use Rattle.turn_desk_honest.specs.Scripts.{AskFirst, AskSecond, Asked, Barred, BringsOn, Came, Challenged, Done, DrawFirst, DrawSecond, DrawsOn, Follows, GiveFirst, GiveSecond, Granted, IsLook, IsPolledAt, IsScript, Looks, Place, Plan, Polls, Receives, Signed, Silent, Start, brought_first, brought_second, drawn_first, drawn_second, replied_first, replied_second}
 use Rattle.turn_desk_honest.specs.Standing.{IsHeld, IsReplied, Stands}

@@ -18,15 +18,15 @@ use Rattle.turn_client_proto_linking.specs.Linking.{HasSentBind, allocation_of, 
 use Rattle.turn_client_proto_linking.specs.Overs.{IsFromServerTo}
 use Rattle.turn_client_proto_linking.specs.Polling.{cadence}
 use Rattle.turn_client_proto_linking.specs.Request.declared.request.TurnRequest.TheVariants.{ConnectionBind}
-use Rattle.turn_desk_world.specs.Calls.{IsDrawnAs, IsTold}
-use Rattle.turn_desk_world.specs.Control.{Control}
-use Rattle.turn_desk_world.specs.Kept.{Protocol}
-use Rattle.turn_desk_world.specs.Model.{World}
-use Rattle.turn_desk_world.specs.Runs.{IsStep}
-use Rattle.turn_desk_world.specs.declared.answer.Answer.{Answer}
-use Rattle.turn_desk_world.specs.declared.answer.Answer.TheVariants as answer
-use Rattle.turn_desk_world.specs.declared.decision.Decision.{Decision}
-use Rattle.turn_desk_world.specs.declared.event.Event.TheVariants.{Draw, ToClient, ToDesk}
+use Rattle.turn_desk_honest.specs.Calls.{IsDrawnAs, IsTold}
+use Rattle.turn_desk_honest.specs.Control.{Control}
+use Rattle.turn_desk_honest.specs.Kept.{Protocol}
+use Rattle.turn_desk_honest.specs.Model.{World}
+use Rattle.turn_desk_honest.specs.Runs.{IsStep}
+use Rattle.turn_desk_honest.specs.declared.answer.Answer.{Answer}
+use Rattle.turn_desk_honest.specs.declared.answer.Answer.TheVariants as answer
+use Rattle.turn_desk_honest.specs.declared.decision.Decision.{Decision}
+use Rattle.turn_desk_honest.specs.declared.event.Event.TheVariants.{Draw, ToClient, ToDesk}
 use Rattle.turn_desk_honest.specs.Promises.{IsFresh, control_at, over}
 use Rattle.turn_desk_honest.specs.Scripts.{Plan}
 use Rattle.turn_desk_honest.proofs.Clients.{draws, stays}

@@ -20,20 +20,20 @@ use Rattle.turn_client_proto_linking.specs.Replies.{IsChallengeOf, challenged_by
 use Rattle.turn_client_proto_linking.specs.Request.declared.request.TurnRequest.TheVariants.{ConnectionBind, FirstAllocate}
 use Rattle.turn_client_proto_linking.specs.Request.Judging.{signer_of}
 use Rattle.turn_client_proto_linking.specs.Sent.{first_number, first_request}
-use Rattle.turn_desk_world.specs.Calls.{IsTold}
-use Rattle.turn_desk_world.specs.Control.{Control}
-use Rattle.turn_desk_world.specs.Desks.{words_of}
-use Rattle.turn_desk_world.specs.Steps.{IsAnswer}
-use Rattle.turn_desk_world.specs.Requests.{IsServed}
-use Rattle.turn_desk_world.specs.Kept.{Protocol}
-use Rattle.turn_desk_world.specs.Model.{World}
-use Rattle.turn_desk_world.specs.Runs.{IsStep}
-use Rattle.turn_desk_world.specs.declared.answer.Answer.{Answer}
-use Rattle.turn_desk_world.specs.declared.answer.Answer.TheVariants as answer
-use Rattle.turn_desk_world.specs.declared.decision.Decision.{Decision}
-use Rattle.turn_desk_world.specs.declared.event.Event.TheVariants.{Call, ToClient, ToDesk}
-use Rattle.turn_desk_world.specs.declared.event.ClientCall.{ClientCall}
-use Rattle.turn_desk_world.specs.declared.event.ClientCall.TheVariants as call
+use Rattle.turn_desk_honest.specs.Calls.{IsTold}
+use Rattle.turn_desk_honest.specs.Control.{Control}
+use Rattle.turn_desk_honest.specs.Desks.{words_of}
+use Rattle.turn_desk_honest.specs.Steps.{IsAnswer}
+use Rattle.turn_desk_honest.specs.Requests.{IsServed}
+use Rattle.turn_desk_honest.specs.Kept.{Protocol}
+use Rattle.turn_desk_honest.specs.Model.{World}
+use Rattle.turn_desk_honest.specs.Runs.{IsStep}
+use Rattle.turn_desk_honest.specs.declared.answer.Answer.{Answer}
+use Rattle.turn_desk_honest.specs.declared.answer.Answer.TheVariants as answer
+use Rattle.turn_desk_honest.specs.declared.decision.Decision.{Decision}
+use Rattle.turn_desk_honest.specs.declared.event.Event.TheVariants.{Call, ToClient, ToDesk}
+use Rattle.turn_desk_honest.specs.declared.event.ClientCall.{ClientCall}
+use Rattle.turn_desk_honest.specs.declared.event.ClientCall.TheVariants as call
 use Rattle.turn_desk_honest.specs.Promises.{IsFresh, control_at, over}
 use Rattle.turn_desk_honest.specs.Scripts.{IsLook, Plan}
 use Rattle.turn_desk_honest.proofs.Clients.{IsLooked, IsLookedOn, Still, Took, looks, same_desk, stays}

@@ -14,19 +14,19 @@ use Rattle.turn_client_proto_linking.specs.Coming.{IsPartOf}
 use Rattle.turn_client_proto_linking.specs.Request.Judging.{signer_of}
 use Rattle.turn_client_proto_linking.specs.Request.declared.request.TurnRequest.TheVariants.{FirstAllocate}
 use Rattle.turn_client_proto_linking.specs.Sent.{first_number, first_request}
-use Rattle.turn_desk_world.specs.Calls.{IsDrawnAs}
-use Rattle.turn_desk_world.specs.Control.{Control}
-use Rattle.turn_desk_world.specs.Desks.{IsReply}
-use Rattle.turn_desk_world.specs.Kept.{Kept, Protocol}
-use Rattle.turn_desk_world.specs.Model.{World}
-use Rattle.turn_desk_world.specs.Runs.{IsRun, IsStep}
-use Rattle.turn_desk_world.specs.declared.answer.Answer.{Answer}
-use Rattle.turn_desk_world.specs.declared.answer.Answer.TheVariants as answer
-use Rattle.turn_desk_world.specs.declared.decision.Decision.{Decision}
-use Rattle.turn_desk_world.specs.declared.event.ClientCall.{ClientCall}
-use Rattle.turn_desk_world.specs.declared.event.ClientCall.TheVariants as call
-use Rattle.turn_desk_world.specs.declared.event.Event.{Event}
-use Rattle.turn_desk_world.specs.declared.event.Event.TheVariants.{Call, Draw, ToClient, ToDesk}
+use Rattle.turn_desk_honest.specs.Calls.{IsDrawnAs}
+use Rattle.turn_desk_honest.specs.Control.{Control}
+use Rattle.turn_desk_honest.specs.Desks.{IsReply}
+use Rattle.turn_desk_honest.specs.Kept.{Kept, Protocol}
+use Rattle.turn_desk_honest.specs.Model.{World}
+use Rattle.turn_desk_honest.specs.Runs.{IsRun, IsStep}
+use Rattle.turn_desk_honest.specs.declared.answer.Answer.{Answer}
+use Rattle.turn_desk_honest.specs.declared.answer.Answer.TheVariants as answer
+use Rattle.turn_desk_honest.specs.declared.decision.Decision.{Decision}
+use Rattle.turn_desk_honest.specs.declared.event.ClientCall.{ClientCall}
+use Rattle.turn_desk_honest.specs.declared.event.ClientCall.TheVariants as call
+use Rattle.turn_desk_honest.specs.declared.event.Event.{Event}
+use Rattle.turn_desk_honest.specs.declared.event.Event.TheVariants.{Call, Draw, ToClient, ToDesk}
 use Rattle.turn_desk_honest.specs.Promises.{HasClient, IsFresh, control_at, events_in, over}
 use Rattle.turn_desk_honest.specs.Scripts.{AskFirst, AskSecond, Asked, Barred, BringsOn, Came, Challenged, Done, DrawFirst, DrawSecond, DrawsOn, Follows, GiveFirst, GiveSecond, Granted, IsLook, IsPolledAt, IsScript, Looks, Place, Plan, Polls, Receives, Signed, Silent, Start, brought_first, brought_second, drawn_first, drawn_second, replied_first, replied_second}
 use Rattle.turn_desk_honest.specs.Standing.{HasDrawn, IsReplied, Stands}

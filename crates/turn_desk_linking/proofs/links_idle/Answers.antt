@@ -10,11 +10,11 @@ use Rattle.turn_client_proto_linking.specs.Linking.{connect_request, permission_
 use Rattle.turn_client_proto_linking.specs.PermissionGranted.{granted_for}
 use Rattle.turn_client_proto_linking.specs.Polling.{cadence}
 use Rattle.turn_client_proto_linking.specs.Resting.{IsResting}
-use Rattle.turn_desk_world.specs.Model.{World}
-use Rattle.turn_desk_world.specs.Runs.{IsStep}
-use Rattle.turn_desk_world.specs.declared.answer.Answer.{Answer}
-use Rattle.turn_desk_world.specs.declared.event.ClientCall.TheVariants.{Poll}
-use Rattle.turn_desk_world.specs.declared.event.Event.TheVariants.{Call, Draw}
+use Rattle.turn_desk_honest.specs.Model.{World}
+use Rattle.turn_desk_honest.specs.Runs.{IsStep}
+use Rattle.turn_desk_honest.specs.declared.answer.Answer.{Answer}
+use Rattle.turn_desk_honest.specs.declared.event.ClientCall.TheVariants.{Poll}
+use Rattle.turn_desk_honest.specs.declared.event.Event.TheVariants.{Call, Draw}
 use Rattle.turn_desk_honest.specs.Promises.{control_at}
 use Rattle.turn_desk_honest.specs.Scripts.{Plan}
 use Rattle.turn_desk_honest.proofs.Clients.{Rests, draw_rests, poll_rests}

@@ -15,11 +15,11 @@ use Rattle.turn_client_proto_linking.specs.Request.Requests.{is_signed, request_
 use Rattle.turn_client_proto_linking.specs.Request.ToldRequests.{CanBeRead, IsLawfulRequest, told_request}
 use Rattle.turn_client_proto_linking.specs.Request.declared.request.TurnRequest.{TurnRequest}
 use Rattle.turn_client_proto_linking.specs.Request.declared.request.TurnRequest.TheVariants.{Connect, ConnectionBind, CreatePermission}
-use Rattle.turn_desk_world.specs.Kept.{Protocol}
-use Rattle.turn_desk_world.specs.Model.{World}
-use Rattle.turn_desk_world.specs.Runs.{IsRun, IsStep}
-use Rattle.turn_desk_world.specs.declared.answer.Answer.{Answer}
-use Rattle.turn_desk_world.specs.declared.event.Event.{Event}
+use Rattle.turn_desk_honest.specs.Kept.{Protocol}
+use Rattle.turn_desk_honest.specs.Model.{World}
+use Rattle.turn_desk_honest.specs.Runs.{IsRun, IsStep}
+use Rattle.turn_desk_honest.specs.declared.answer.Answer.{Answer}
+use Rattle.turn_desk_honest.specs.declared.event.Event.{Event}
 use Rattle.turn_desk_honest.specs.Promises.{IsFresh}
 use Rattle.turn_desk_honest.specs.Scripts.{Plan}
 use Rattle.turn_desk_linking.specs.Joining.{IsHeldBy, StandsAt, holder_in}

@@ -13,13 +13,13 @@ use Rattle.turn_client_proto_linking.specs.Request.Waiting.{Queued}
 use Rattle.turn_client_proto_linking.specs.Request.declared.request.TurnRequest.TheVariants.{FirstAllocate}
 use Rattle.turn_client_proto_linking.specs.Sent.{first_number, first_request}
 use Rattle.turn_client_proto_linking.specs.SocketPieces.{raw_waiting}
-use Rattle.turn_desk_world.specs.Kept.{Protocol}
-use Rattle.turn_desk_world.specs.Model.{World}
-use Rattle.turn_desk_world.specs.Runs.{IsStep}
-use Rattle.turn_desk_world.specs.declared.answer.Answer.{Answer}
-use Rattle.turn_desk_world.specs.declared.event.ClientCall.{ClientCall}
-use Rattle.turn_desk_world.specs.declared.event.ClientCall.TheVariants as call
-use Rattle.turn_desk_world.specs.declared.event.Event.TheVariants.{Call}
+use Rattle.turn_desk_honest.specs.Kept.{Protocol}
+use Rattle.turn_desk_honest.specs.Model.{World}
+use Rattle.turn_desk_honest.specs.Runs.{IsStep}
+use Rattle.turn_desk_honest.specs.declared.answer.Answer.{Answer}
+use Rattle.turn_desk_honest.specs.declared.event.ClientCall.{ClientCall}
+use Rattle.turn_desk_honest.specs.declared.event.ClientCall.TheVariants as call
+use Rattle.turn_desk_honest.specs.declared.event.Event.TheVariants.{Call}
 use Rattle.turn_desk_honest.specs.Promises.{IsFresh, control_at, over}
 use Rattle.turn_desk_honest.specs.Scripts.{IsLook, Plan}
 use Rattle.turn_desk_honest.proofs.Clients.{IsLooked, IsLookedOn, Rests, Still, Took, looks, same_desk}

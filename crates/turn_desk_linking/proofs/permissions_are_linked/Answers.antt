@@ -17,16 +17,16 @@ use Rattle.turn_client_proto_linking.specs.Linking.{IsHolding, permission_reques
 use Rattle.turn_client_proto_linking.specs.Request.Indications.{is_indication}
 use Rattle.turn_client_proto_linking.specs.Request.declared.request.TurnRequest.TheVariants.{CreatePermission}
 use Rattle.turn_client_proto_linking.proofs.Same.{family_of_peer}
-use Rattle.turn_desk_world.specs.Calls.{IsDrawnAs, IsPermissionTold}
-use Rattle.turn_desk_world.specs.Kept.{Protocol}
-use Rattle.turn_desk_world.specs.Model.{World}
-use Rattle.turn_desk_world.specs.Runs.{IsStep}
-use Rattle.turn_desk_world.specs.declared.answer.Answer.{Answer}
-use Rattle.turn_desk_world.specs.declared.answer.Answer.TheVariants as answer
-use Rattle.turn_desk_world.specs.declared.answer.Refusal.TheVariants.{CreatePermission as PermissionRefused}
-use Rattle.turn_desk_world.specs.declared.decision.Decision.{Decision}
-use Rattle.turn_desk_world.specs.declared.event.ClientCall.TheVariants as call
-use Rattle.turn_desk_world.specs.declared.event.Event.TheVariants.{Call, Draw, ToClient, ToDesk}
+use Rattle.turn_desk_honest.specs.Calls.{IsDrawnAs, IsPermissionTold}
+use Rattle.turn_desk_honest.specs.Kept.{Protocol}
+use Rattle.turn_desk_honest.specs.Model.{World}
+use Rattle.turn_desk_honest.specs.Runs.{IsStep}
+use Rattle.turn_desk_honest.specs.declared.answer.Answer.{Answer}
+use Rattle.turn_desk_honest.specs.declared.answer.Answer.TheVariants as answer
+use Rattle.turn_desk_honest.specs.declared.answer.Refusal.TheVariants.{CreatePermission as PermissionRefused}
+use Rattle.turn_desk_honest.specs.declared.decision.Decision.{Decision}
+use Rattle.turn_desk_honest.specs.declared.event.ClientCall.TheVariants as call
+use Rattle.turn_desk_honest.specs.declared.event.Event.TheVariants.{Call, Draw, ToClient, ToDesk}
 use Rattle.turn_desk_honest.specs.Promises.{IsFresh, control_at, over}
 use Rattle.turn_desk_honest.specs.Scripts.{BringsOn, Plan}
 use Rattle.turn_desk_honest.proofs.Clients.{draws}

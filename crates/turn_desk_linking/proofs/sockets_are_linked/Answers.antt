@@ -11,17 +11,17 @@ use Rattle.turn_client_proto_linking.specs.Linking.{AwaitsSocket, HasLearned, ow
 use Rattle.turn_client_proto_linking.specs.Polling.{IsPolled}
 use Rattle.turn_client_proto_linking.specs.Sockets.{IsSocketAnswered}
 use Rattle.turn_client_proto_linking.proofs.Same.{apart_address}
-use Rattle.turn_client_proto.specs.SocketsTold.{replaced}
+use Rattle.turn_desk_honest.specs.SocketsTold.{replaced}
 use Rattle.turn_client_proto_linking.specs.PermissionSame.{is_same_address}
-use Rattle.turn_desk_world.specs.Calls.{IsEventTold, IsPolledAs, IsSocketTaken, own_tuple}
-use Rattle.turn_desk_world.specs.Kept.{Kept, Protocol}
-use Rattle.turn_desk_world.specs.Model.{World}
-use Rattle.turn_desk_world.specs.Runs.{IsStep}
-use Rattle.turn_desk_world.specs.declared.answer.Answer.{Answer}
-use Rattle.turn_desk_world.specs.declared.answer.Answer.TheVariants as answer
-use Rattle.turn_desk_world.specs.declared.answer.Refusal.TheVariants.{TcpAllocate as SocketRefused}
-use Rattle.turn_desk_world.specs.declared.event.ClientCall.TheVariants as call
-use Rattle.turn_desk_world.specs.declared.event.Event.TheVariants.{Call}
+use Rattle.turn_desk_honest.specs.Calls.{IsEventTold, IsPolledAs, IsSocketTaken, own_tuple}
+use Rattle.turn_desk_honest.specs.Kept.{Kept, Protocol}
+use Rattle.turn_desk_honest.specs.Model.{World}
+use Rattle.turn_desk_honest.specs.Runs.{IsStep}
+use Rattle.turn_desk_honest.specs.declared.answer.Answer.{Answer}
+use Rattle.turn_desk_honest.specs.declared.answer.Answer.TheVariants as answer
+use Rattle.turn_desk_honest.specs.declared.answer.Refusal.TheVariants.{TcpAllocate as SocketRefused}
+use Rattle.turn_desk_honest.specs.declared.event.ClientCall.TheVariants as call
+use Rattle.turn_desk_honest.specs.declared.event.Event.TheVariants.{Call}
 use Rattle.turn_desk_honest.specs.Promises.{control_at, over}
 use Rattle.turn_desk_honest.specs.Scripts.{Plan}
 use Rattle.turn_desk_honest.proofs.Clients.{stays}

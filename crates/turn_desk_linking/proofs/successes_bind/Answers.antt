@@ -10,7 +10,7 @@ use Rattle.turn_types.specs.TurnRegistry.{connection_bind_method}
 use Rattle.turn_client_proto_linking.specs.Drawing.{Sent}
 use Rattle.turn_client_proto_linking.specs.Holders.{Holder}
 use Rattle.turn_client_proto_linking.specs.Request.declared.request.TurnRequest.TheVariants.{ConnectionBind}
-use Rattle.turn_desk_world.specs.Model.{World}
+use Rattle.turn_desk_honest.specs.Model.{World}
 use Rattle.turn_desk_honest.specs.Scripts.{Plan}
 use Rattle.turn_desk_honest.proofs.Coming.{none_yet}
 use Rattle.turn_desk_linking.specs.Joining.{IsBinding, StandsAt, holder_in}

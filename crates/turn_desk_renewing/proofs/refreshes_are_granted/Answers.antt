@@ -28,19 +28,19 @@ use Rattle.turn_client_proto_renewing.specs.TurnShows.{number_in, number_shown, 
 use Rattle.turn_client_proto_renewing.specs.Choosing.{Choice, standing_by}
 use Rattle.turn_client_proto_renewing.specs.Drawing.{Sent}
 use Rattle.turn_client_proto_renewing.specs.Refreshed.{IsSignedRefresh, refresh_request}
-use Rattle.turn_desk_world.specs.Desks.{IsDeskAnswered, IsReplied, words_of}
-use Rattle.turn_desk_world.specs.DeskSteps.{DeskStep}
-use Rattle.turn_desk_world.specs.Granted.{refreshed_attributes}
-use Rattle.turn_desk_world.specs.Grants.{Allocated, Bound, Connected, IsGrant, Joined, Permitted, Refreshed}
-use Rattle.turn_desk_world.specs.State.{State}
-use Rattle.turn_desk_world.specs.Steps.{IsAnswer, IsChallenge, IsVerdict}
-use Rattle.turn_desk_world.specs.Verdicts.{verdict_on}
-use Rattle.turn_desk_world.specs.declared.answer.Answer.TheVariants as answer
-use Rattle.turn_desk_world.specs.declared.decision.Decision.TheVariants as by
-use Rattle.turn_desk_world.specs.declared.event.Event.TheVariants.{ToDesk}
-use Rattle.turn_desk_world.specs.declared.grant.Grant.{Grant}
-use Rattle.turn_desk_world.specs.Model.{World}
-use Rattle.turn_desk_world.specs.Runs.{IsStep}
+use Rattle.turn_desk_honest.specs.Desks.{IsDeskAnswered, IsReplied, words_of}
+use Rattle.turn_desk_honest.specs.DeskSteps.{DeskStep}
+use Rattle.turn_desk_honest.specs.Granted.{refreshed_attributes}
+use Rattle.turn_desk_honest.specs.Grants.{Allocated, Bound, Connected, IsGrant, Joined, Permitted, Refreshed}
+use Rattle.turn_desk_honest.specs.State.{State}
+use Rattle.turn_desk_honest.specs.Steps.{IsAnswer, IsChallenge, IsVerdict}
+use Rattle.turn_desk_honest.specs.Verdicts.{verdict_on}
+use Rattle.turn_desk_honest.specs.declared.answer.Answer.TheVariants as answer
+use Rattle.turn_desk_honest.specs.declared.decision.Decision.TheVariants as by
+use Rattle.turn_desk_honest.specs.declared.event.Event.TheVariants.{ToDesk}
+use Rattle.turn_desk_honest.specs.declared.grant.Grant.{Grant}
+use Rattle.turn_desk_honest.specs.Model.{World}
+use Rattle.turn_desk_honest.specs.Runs.{IsStep}
 use Rattle.turn_desk_honest.specs.Promises.{IsFresh}
 use Rattle.turn_desk_honest.specs.Scripts.{Plan}
 use Rattle.turn_desk_honest.proofs.Coming.{none_yet}

@@ -10,14 +10,14 @@ use Rattle.turn_client_proto_renewing.specs.Driving.{client_end}
 use Rattle.turn_client_proto_renewing.specs.Polling.{IsPolled}
 use Rattle.turn_client_proto_renewing.specs.Keeping.{IsRefreshing, IsTerm, Term, due_of}
 use Rattle.turn_client_proto_renewing.specs.Refreshed.{refresh_asked}
-use Rattle.turn_desk_world.specs.Calls.{IsDrawnAs, IsPolledAs}
-use Rattle.turn_desk_world.specs.Kept.{Protocol}
-use Rattle.turn_desk_world.specs.declared.answer.Answer.{Answer}
-use Rattle.turn_desk_world.specs.declared.answer.Answer.TheVariants as answer
-use Rattle.turn_desk_world.specs.declared.event.ClientCall.TheVariants as call
-use Rattle.turn_desk_world.specs.declared.event.Event.TheVariants.{Call, Draw}
-use Rattle.turn_desk_world.specs.Model.{World}
-use Rattle.turn_desk_world.specs.Runs.{IsStep}
+use Rattle.turn_desk_honest.specs.Calls.{IsDrawnAs, IsPolledAs}
+use Rattle.turn_desk_honest.specs.Kept.{Protocol}
+use Rattle.turn_desk_honest.specs.declared.answer.Answer.{Answer}
+use Rattle.turn_desk_honest.specs.declared.answer.Answer.TheVariants as answer
+use Rattle.turn_desk_honest.specs.declared.event.ClientCall.TheVariants as call
+use Rattle.turn_desk_honest.specs.declared.event.Event.TheVariants.{Call, Draw}
+use Rattle.turn_desk_honest.specs.Model.{World}
+use Rattle.turn_desk_honest.specs.Runs.{IsStep}
 use Rattle.turn_desk_honest.specs.Promises.{HasClient, control_at}
 use Rattle.turn_desk_honest.specs.Scripts.{Plan}
 use Rattle.turn_desk_honest.proofs.Clients.{draws}

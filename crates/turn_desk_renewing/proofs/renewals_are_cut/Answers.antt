@@ -3,7 +3,7 @@ use Rattle.std.specs.declared.alloc.Global.{Global}
 use Rattle.stun_types.specs.declared.transport.TransportType.{TransportType}
 use Rattle.stun_types.specs.declared.transport.TransportType.TheVariants.{Tcp}
 use Rattle.turn_client_proto_renewing.specs.Drawing.{Sent}
-use Rattle.turn_desk_world.specs.declared.answer.Answer.{Answer}
+use Rattle.turn_desk_honest.specs.declared.answer.Answer.{Answer}
 use Rattle.turn_desk_honest.specs.Scripts.{BringsOn, IsCut, Plan, given}
 use Rattle.turn_desk_renewing.specs.Turns.{Gives, IsDriven, Renewing, brought, renewed}
 use Rattle.turn_desk_renewing.proofs.renewals_are_cut.Goals as goal

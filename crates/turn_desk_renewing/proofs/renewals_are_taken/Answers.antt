@@ -16,13 +16,13 @@ use Rattle.turn_client_proto_renewing.specs.Sent.{Beginning}
 use Rattle.turn_client_proto_renewing.specs.Stages.{IsOf}
 use Rattle.turn_client_proto_renewing.specs.Keeping.{IsTerm, Term}
 use Rattle.turn_client_proto_renewing.specs.Reaching.{IsSuccess}
-use Rattle.turn_desk_world.specs.Calls.{IsFed, IsTold}
-use Rattle.turn_desk_world.specs.Control.{Control, Datagrams, Open}
-use Rattle.turn_desk_world.specs.Kept.{Kept}
-use Rattle.turn_desk_world.specs.declared.answer.Answer.{Answer}
-use Rattle.turn_desk_world.specs.declared.event.Event.TheVariants.{ToClient}
-use Rattle.turn_desk_world.specs.Model.{World}
-use Rattle.turn_desk_world.specs.Runs.{IsStep}
+use Rattle.turn_desk_honest.specs.Calls.{IsFed, IsTold}
+use Rattle.turn_desk_honest.specs.Control.{Control, Datagrams, Open}
+use Rattle.turn_desk_honest.specs.Kept.{Kept}
+use Rattle.turn_desk_honest.specs.declared.answer.Answer.{Answer}
+use Rattle.turn_desk_honest.specs.declared.event.Event.TheVariants.{ToClient}
+use Rattle.turn_desk_honest.specs.Model.{World}
+use Rattle.turn_desk_honest.specs.Runs.{IsStep}
 use Rattle.turn_desk_honest.specs.Promises.{control_at, over}
 use Rattle.turn_desk_honest.specs.Scripts.{BringsOn, Plan}
 use Rattle.turn_desk_honest.proofs.Clients.{done, done_so, same_desk, stays}

@@ -7,13 +7,13 @@ use Rattle.turn_client_proto_renewing.specs.Drawing.{Sent}
 use Rattle.turn_client_proto_renewing.specs.Request.Waiting.{Queued}
 use Rattle.turn_client_proto_renewing.specs.Refreshed.{IsSignedRefresh, refresh_request}
 use Rattle.turn_client_proto_renewing.specs.Keeping.{next_of}
-use Rattle.turn_desk_world.specs.Messages.{Message}
-use Rattle.turn_desk_world.specs.declared.answer.Answer.{Answer}
-use Rattle.turn_desk_world.specs.declared.decision.Decision.TheVariants as by
-use Rattle.turn_desk_world.specs.declared.event.Event.{Event}
-use Rattle.turn_desk_world.specs.declared.event.Event.TheVariants.{ToDesk}
-use Rattle.turn_desk_world.specs.Model.{World}
-use Rattle.turn_desk_world.specs.Runs.{IsRun, IsStep}
+use Rattle.turn_desk_honest.specs.Messages.{Message}
+use Rattle.turn_desk_honest.specs.declared.answer.Answer.{Answer}
+use Rattle.turn_desk_honest.specs.declared.decision.Decision.TheVariants as by
+use Rattle.turn_desk_honest.specs.declared.event.Event.{Event}
+use Rattle.turn_desk_honest.specs.declared.event.Event.TheVariants.{ToDesk}
+use Rattle.turn_desk_honest.specs.Model.{World}
+use Rattle.turn_desk_honest.specs.Runs.{IsRun, IsStep}
 use Rattle.turn_desk_honest.specs.Promises.{IsFresh}
 use Rattle.turn_desk_honest.specs.Scripts.{Done, IsScript, Plan, Start}
 use Rattle.turn_desk_honest.proofs.Meeting.{strongest_of_both}

@@ -15,13 +15,13 @@ use Rattle.turn_client_proto_renewing.specs.Request.Waiting.{Queued, is_answer}
 use Rattle.turn_client_proto_renewing.specs.Stages.{signed_queued}
 use Rattle.turn_client_proto_renewing.specs.Keeping.{IsKeeping, IsRefreshing, IsTerm, Term, due_of, next_of}
 use Rattle.turn_client_proto_renewing.specs.Refreshed.{refresh_sent}
-use Rattle.turn_desk_world.specs.Calls.{IsDrawnAs}
-use Rattle.turn_desk_world.specs.Kept.{Protocol}
-use Rattle.turn_desk_world.specs.declared.answer.Answer.{Answer}
-use Rattle.turn_desk_world.specs.declared.answer.Answer.TheVariants as answer
-use Rattle.turn_desk_world.specs.declared.event.Event.TheVariants.{Draw}
-use Rattle.turn_desk_world.specs.Model.{World}
-use Rattle.turn_desk_world.specs.Runs.{IsStep}
+use Rattle.turn_desk_honest.specs.Calls.{IsDrawnAs}
+use Rattle.turn_desk_honest.specs.Kept.{Protocol}
+use Rattle.turn_desk_honest.specs.declared.answer.Answer.{Answer}
+use Rattle.turn_desk_honest.specs.declared.answer.Answer.TheVariants as answer
+use Rattle.turn_desk_honest.specs.declared.event.Event.TheVariants.{Draw}
+use Rattle.turn_desk_honest.specs.Model.{World}
+use Rattle.turn_desk_honest.specs.Runs.{IsStep}
 use Rattle.turn_desk_honest.specs.Promises.{IsFresh, control_at, over}
 use Rattle.turn_desk_honest.specs.Scripts.{Plan}
 use Rattle.turn_desk_honest.proofs.Clients.{draws}

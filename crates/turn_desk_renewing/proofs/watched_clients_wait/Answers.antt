@@ -6,14 +6,14 @@ use Rattle.turn_client_proto_renewing.specs.Api.declared.answer.TurnPollRet.TheV
 use Rattle.turn_client_proto_renewing.specs.Driving.{client_end}
 use Rattle.turn_client_proto_renewing.specs.Polling.{IsPolled}
 use Rattle.turn_client_proto_renewing.specs.Keeping.{IsKeeping, Term, WaitsToSend, next_of}
-use Rattle.turn_desk_world.specs.Calls.{IsPolledAs}
-use Rattle.turn_desk_world.specs.Kept.{Protocol}
-use Rattle.turn_desk_world.specs.declared.answer.Answer.{Answer}
-use Rattle.turn_desk_world.specs.declared.answer.Answer.TheVariants as answer
-use Rattle.turn_desk_world.specs.declared.event.ClientCall.TheVariants as call
-use Rattle.turn_desk_world.specs.declared.event.Event.TheVariants.{Call}
-use Rattle.turn_desk_world.specs.Model.{World}
-use Rattle.turn_desk_world.specs.Runs.{IsStep}
+use Rattle.turn_desk_honest.specs.Calls.{IsPolledAs}
+use Rattle.turn_desk_honest.specs.Kept.{Protocol}
+use Rattle.turn_desk_honest.specs.declared.answer.Answer.{Answer}
+use Rattle.turn_desk_honest.specs.declared.answer.Answer.TheVariants as answer
+use Rattle.turn_desk_honest.specs.declared.event.ClientCall.TheVariants as call
+use Rattle.turn_desk_honest.specs.declared.event.Event.TheVariants.{Call}
+use Rattle.turn_desk_honest.specs.Model.{World}
+use Rattle.turn_desk_honest.specs.Runs.{IsStep}
 use Rattle.turn_desk_honest.specs.Promises.{control_at, over}
 use Rattle.turn_desk_honest.specs.Scripts.{Plan}
 use Rattle.turn_desk_renewing.specs.Turns.{Turn, Watch, Watching, Off, polled_at}

@@ -8,16 +8,16 @@ use Rattle.turn_client_proto_renewing.specs.Coming.{IsPartOf}
 use Rattle.turn_client_proto_renewing.specs.SocketPieces.{raw_waiting}
 use Rattle.turn_client_proto_renewing.specs.Keeping.{IsKeeping, IsRefreshing, Term}
 use Rattle.turn_client_proto_renewing.specs.Refreshed.{refresh_request}
-use Rattle.turn_desk_world.specs.Calls.{IsCallTold, IsCalled, IsEventTold}
-use Rattle.turn_desk_world.specs.Control.{Control}
-use Rattle.turn_desk_world.specs.Kept.{Kept, Protocol}
-use Rattle.turn_desk_world.specs.declared.answer.Answer.{Answer}
-use Rattle.turn_desk_world.specs.declared.answer.Answer.TheVariants as answer
-use Rattle.turn_desk_world.specs.declared.event.ClientCall.{ClientCall}
-use Rattle.turn_desk_world.specs.declared.event.ClientCall.TheVariants as call
-use Rattle.turn_desk_world.specs.declared.event.Event.TheVariants.{Call}
-use Rattle.turn_desk_world.specs.Model.{World}
-use Rattle.turn_desk_world.specs.Runs.{IsStep}
+use Rattle.turn_desk_honest.specs.Calls.{IsCallTold, IsCalled, IsEventTold}
+use Rattle.turn_desk_honest.specs.Control.{Control}
+use Rattle.turn_desk_honest.specs.Kept.{Kept, Protocol}
+use Rattle.turn_desk_honest.specs.declared.answer.Answer.{Answer}
+use Rattle.turn_desk_honest.specs.declared.answer.Answer.TheVariants as answer
+use Rattle.turn_desk_honest.specs.declared.event.ClientCall.{ClientCall}
+use Rattle.turn_desk_honest.specs.declared.event.ClientCall.TheVariants as call
+use Rattle.turn_desk_honest.specs.declared.event.Event.TheVariants.{Call}
+use Rattle.turn_desk_honest.specs.Model.{World}
+use Rattle.turn_desk_honest.specs.Runs.{IsStep}
 use Rattle.turn_desk_honest.specs.Promises.{HasClient, IsFresh, control_at, over}
 use Rattle.turn_desk_honest.specs.Scripts.{IsLook, Plan}
 use Rattle.turn_desk_honest.proofs.Clients.{IsLooked, IsLookedOn, Rests, Still, Took, done, looks, same_desk}

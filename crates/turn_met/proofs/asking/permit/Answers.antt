@@ -1,4 +1,4 @@
-use Rattle.turn_desk_world.specs.Model.{World}
+use Rattle.turn_desk_honest.specs.Model.{World}
 use Rattle.turn_met.specs.Meetings.{plan_of}
 use Rattle.turn_met.specs.Wishes.{IsPermitted}
 use Rattle.turn_met.specs.declared.asking.Wish.{Wish}

@@ -1,7 +1,7 @@
 use Rattle.std.proofs.Common.{ap, ◌∙◌}
 use Rattle.stun_types.specs.declared.transport.TransportType.TheVariants.{Tcp}
-use Rattle.turn_desk_world.specs.Config.{Config}
-use Rattle.turn_desk_world.specs.Model.{World}
+use Rattle.turn_desk_honest.specs.Config.{Config}
+use Rattle.turn_desk_honest.specs.Model.{World}
 use Rattle.turn_met.proofs.Streams.{begins}
 use Rattle.turn_met.proofs.linking.world_of.Goals as goal
 

@@ -1,5 +1,5 @@
 use Rattle.std.proofs.Common.{ap, ◌∙◌}
-use Rattle.turn_desk_world.specs.Model.{World}
+use Rattle.turn_desk_honest.specs.Model.{World}
 use Rattle.turn_met.proofs.Beginning.{begins}
 use Rattle.turn_met.proofs.meeting.world_of.Goals as goal
 
