@@ -182,7 +182,8 @@ def of_call(number, words, answers, arrives):
     """The arrow of a call of the client and its labels: that of what is sent, where it sends."""
     answer = answers[number - 1]
     if words[0] in ("draw", "send") and answer.startswith("transmit "):
-        sent = ("client", "network" if arrives else "air")
+        # data for a peer goes to the server, whatever later lines name; a message that was due may be lost
+        sent = ("client", "network" if arrives or words[0] == "send" else "air")
         beside = [("beside", cut(call_of(words)), 0, "at")]
         return [sent], beside + stacked("near", 0, bytes_in_lines(bytes_of(answer)))
     return [("left", "client")], stacked("beside", 0, [call_of(words), shown_of(words, answer)])

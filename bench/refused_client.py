@@ -3,9 +3,9 @@
 
     bench/refused_client.py
 
-`.ci/refused-memory` runs it. The client is python/turn_client.py over a shared library of the archive
-of dist/x86_64-linux-gnu, or of the folder that TURN_CLIENT_LIB names, in which `c/refuse.c` counts the
-allocations (CC names another compiler than `cc`). The courses stand in `refused_courses.py`, the server in
+`.ci/refused-memory` runs it. The client is python/turn_client.py over a shared library of `libturn_client.a`
+(that of dist/; TURN_CLIENT_LIB names another folder, CC another compiler), in which `c/refuse.c` counts the
+allocations. The courses stand in `refused_courses.py`, the server in
 `refused_server.py`, how two runs are compared in `refused_walk.py`. No answer is stored: a run that is
 refused memory is held against the one that isn't.
 
@@ -41,7 +41,7 @@ from refused_server import data, framed  # noqa: E402
 from refused_walk import Failed, Fault, Walk, pair  # noqa: E402
 
 TOP = Path(__file__).resolve().parent.parent
-ARCHIVE = Path(os.environ.get("TURN_CLIENT_LIB") or TOP / "dist/x86_64-linux-gnu", "libturn_client.a")
+ARCHIVE = Path(os.environ.get("TURN_CLIENT_LIB") or TOP / "dist/x86_64-linux-gnu") / "libturn_client.a"
 # more allocations than a course has
 AMPLE = 1 << 30
 

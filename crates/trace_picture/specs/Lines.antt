@@ -3,7 +3,7 @@ use Rattle.std.specs.Prelude.{ℕ, ◌≡◌, ◌≢◌, ◌⊎◌, ◌||◌, Bo
 use Rattle.program_lines.specs.Cut.{says_nothing}
 use Rattle.program_lines.specs.LineWords.{AreWords}
 use Rattle.trace_picture.specs.declared.kind.Kind.{Kind}
-use Rattle.trace_picture.specs.declared.kind.Kind.TheVariants.{Setup, ToDesk, ToClient, Sending, Calling}
+use Rattle.trace_picture.specs.declared.kind.Kind.TheVariants.{Setup, ToDesk, ToClient, Drawing, Sending, Calling}
 use Rattle.trace_picture.specs.declared.row.Arrow.{Arrow}
 use Rattle.trace_picture.specs.declared.row.Arrow.TheVariants.{Called, Sent, SentLost, Heard, Reached, Replied, ReplyLost}
 use Rattle.trace_picture.specs.declared.row.Row.{Row}
@@ -14,7 +14,8 @@ abbrev pub IsKind : List ℕ → Kind → Type 0
 IsKind word Setup = (word ≡ codes "desk") ⊎ (word ≡ codes "user") ⊎ (word ≡ codes "rto") ⊎ (word ≡ codes "client")
 IsKind word ToDesk = word ≡ codes "todesk"
 IsKind word ToClient = word ≡ codes "toclient"
-IsKind word Sending = (word ≡ codes "draw") ⊎ (word ≡ codes "send")
+IsKind word Drawing = word ≡ codes "draw"
+IsKind word Sending = word ≡ codes "send"
 IsKind word Calling = (word ≡ codes "recv") ⊎ (word ≡ codes "poll") ⊎ (word ≡ codes "event") ⊎ (word ≡ codes "delete")
     ⊎ (word ≡ codes "permission") ⊎ (word ≡ codes "have") ⊎ (word ≡ codes "permissions") ⊎ (word ≡ codes "bind")
     ⊎ (word ≡ codes "channels") ⊎ (word ≡ codes "connect") ⊎ (word ≡ codes "socket") ⊎ (word ≡ codes "closed")
@@ -25,13 +26,15 @@ abbrev pub carries : List (List ℕ) → Bool
 carries [] = false
 carries (word ∷ rest) = bytes_eq word (codes "transmit") || bytes_eq word (codes "reply")
 
--- the arrows of a line: what is sent, by client or desk, may be lost
+-- the arrows of a line: a message that a `draw` gives may be lost, and so may a reply of the desk; what a `send` gives
+-- goes to the server, and is never drawn as lost
 abbrev pub arrows_of : Kind → (carries lost : Bool) → List Arrow
 arrows_of Setup carries lost = []
 arrows_of ToDesk carries lost =
     Reached ∷ (if carries then (if lost then ReplyLost else Replied) ∷ [] else [])
 arrows_of ToClient carries lost = Heard ∷ []
-arrows_of Sending carries lost = (if carries then if lost then SentLost else Sent else Called) ∷ []
+arrows_of Drawing carries lost = (if carries then if lost then SentLost else Sent else Called) ∷ []
+arrows_of Sending carries lost = (if carries then Sent else Called) ∷ []
 arrows_of Calling carries lost = Called ∷ []
 
 -- the first word of a line

@@ -16,7 +16,9 @@ pub enum Kind {
     ToDesk,
     /// The client is handed bytes.
     ToClient,
-    /// A call of the client by which it may send.
+    /// The client is asked for a message that is due, which may be lost on its way.
+    Drawing,
+    /// The client is given data for a peer. Its answer goes to its server, and no later line has to take it.
     Sending,
     /// Any other call of the client.
     Calling,
@@ -41,7 +43,8 @@ fn kind_of_word(word: &str) -> Option<Kind>
         "desk" | "user" | "rto" | "client" => Some(Kind::Setup),
         "todesk" => Some(Kind::ToDesk),
         "toclient" => Some(Kind::ToClient),
-        "draw" | "send" => Some(Kind::Sending),
+        "draw" => Some(Kind::Drawing),
+        "send" => Some(Kind::Sending),
         "recv"
         | "poll"
         | "event"
@@ -71,7 +74,8 @@ pub(crate) fn carries(words: &[&str]) -> bool
     }
 }
 
-/// The arrows of an event line, at these places: the first, and the reply of a desk.
+/// The arrows of an event line, at these places: the first, and the reply of a desk. What `send` gives is
+/// never drawn as lost.
 pub(crate) fn marks_of(
     alloc: Global,
     kind: Kind,
@@ -86,8 +90,9 @@ pub(crate) fn marks_of(
         Kind::Setup => return Ok(Vec::new(alloc)),
         Kind::ToDesk => Arrow::Reached,
         Kind::ToClient => Arrow::Heard,
-        Kind::Sending if carries => { if lost { Arrow::SentLost } else { Arrow::Sent } }
-        Kind::Sending | Kind::Calling => Arrow::Called,
+        Kind::Drawing if carries && lost => Arrow::SentLost,
+        Kind::Drawing | Kind::Sending if carries => Arrow::Sent,
+        Kind::Drawing | Kind::Sending | Kind::Calling => Arrow::Called,
     };
     let mut marks = Vec::new(alloc);
     marks.push(Mark { arrow, at: first })?;

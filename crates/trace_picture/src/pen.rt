@@ -52,7 +52,7 @@ pub(crate) struct Pen {
 /// Where the arrows of a row are.
 #[derive(Clone, Copy)]
 struct Laid {
-    /// Whether what is sent in it is handed to nobody.
+    /// Whether no later line hands on what it was answered.
     lost: bool,
     /// How far down the first arrow runs, in pixels.
     first: usize,
@@ -203,7 +203,7 @@ impl Pen {
                 labels.put(Place::BesideMore, beside, event.answer)?;
                 Ok((top, self.stack_handed(labels, near, top, event, "")?))
             }
-            Kind::Sending if carries(event.told) => {
+            Kind::Drawing | Kind::Sending if carries(event.told) => {
                 self.put_call(labels, beside, event)?;
                 Ok((top, self.stack_bytes(labels, near, top, answered)?))
             }

@@ -14,7 +14,7 @@ pub enum Arrow {
     Called,
     /// The client sends into the network.
     Sent,
-    /// The same of what nobody is handed.
+    /// The client sends a message that was due, and nobody is handed it.
     SentLost,
     /// The network hands the client something.
     Heard,
@@ -22,7 +22,7 @@ pub enum Arrow {
     Reached,
     /// The desk replies into the network.
     Replied,
-    /// The same of what nobody is handed.
+    /// The desk replies, and nobody is handed the reply.
     ReplyLost,
 }
 
