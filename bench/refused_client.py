@@ -59,7 +59,7 @@ class Library:
         archive = ["-Wl,--whole-archive", ARCHIVE, "-Wl,--no-whole-archive"]
         given = [TOP / "c/refuse.c", *archive]
         subprocess.run([os.environ.get("CC", "cc"), *how, "-o", path, *given], check=True)
-        os.environ["TURN_CLIENT_LIBRARY"] = path
+        os.environ["TURN_CLIENT_LIB"] = room
         sys.path.append(str(TOP / "python"))
         self.turn = importlib.import_module("turn_client")
         counters = ctypes.CDLL(path)
