@@ -718,9 +718,15 @@ def examples():
     yield "attempt", example_of_attempts()
 
 
+def with_shortest_decisions(lines):
+    """The lines of an example. Where the desk has no use for a decision, the traces have `refuse 400`, and use that
+    nowhere else; an example has `grant`, the shortest decision."""
+    return lines.replace(" refuse 400\n", " grant\n")
+
+
 def store_examples():
     for name, (remark, t) in examples():
-        (TOP / f"examples/{name}.trace").write_text(f"# {remark}\n{t.lines}")
+        (TOP / f"examples/{name}.trace").write_text(f"# {remark}\n{with_shortest_decisions(t.lines)}")
         (TOP / f"examples/{name}.out").write_text(t.answers)
 
 
