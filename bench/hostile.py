@@ -1,5 +1,5 @@
 #!/usr/bin/env python3
-"""Makes hostile traces, runs them through the built `turn_replay`, and judges what they are answered.
+"""Makes hostile traces, runs them through `turn_replay`, and judges what they are answered.
 
     bench/hostile.py SEED COUNT [PROGRAM]   makes and judges COUNT traces of a seed
     bench/hostile.py store [PROGRAM]        writes 200 of the seed 0 to bench/hostile.traces
@@ -11,7 +11,8 @@ the second ones are to be the same. What the program held at most is told by the
 more seconds, is a fault.
 
 What is wrong is printed, a line each, and the trace is written to a file of the working folder. The last line is
-`hostile: N right, M wrong`, and the exit status 0 where M is 0.
+`hostile: N right, M wrong`, and the exit status 0 where M is 0. Where no PROGRAM is named, it is the one that is to
+be tested (`built` of tools/programs.py).
 """
 
 import os
@@ -22,7 +23,11 @@ import time
 from pathlib import Path
 
 TOP = Path(__file__).resolve().parent.parent
-PROGRAM = TOP / "crates/turn_replay/out/turn_replay"
+sys.dont_write_bytecode = True
+sys.path.append(str(TOP / "tools"))
+
+import programs  # noqa: E402
+
 STORED = TOP / "bench/hostile.traces"
 STORED_COUNT = 200
 ROUNDS = 12
@@ -66,7 +71,8 @@ def run(program, traces):
     answers = parted(lines)
     if status != 0 or len(answers) != len(traces):
         raise Broken(f"it ended with {status}, behind {len(answers)} of {len(traces)} traces")
-    if kilobytes * 1024 > most:
+    # a program that `rt try` built holds more, since each access is checked
+    if kilobytes * 1024 > most and not programs.is_tried(program):
         raise Broken(f"it held {kilobytes} kilobytes")
     return answers
 
@@ -152,9 +158,9 @@ def many(program, seed, count):
 def main():
     words = sys.argv[1:]
     is_named = len(words) == (3 if words[:1] and words[0].isdigit() else 2)
-    program = Path(words.pop()).resolve() if is_named else PROGRAM
+    program = Path(words.pop()).resolve() if is_named else programs.built("turn_replay")
     if not program.exists():
-        print(f"failed: {program} is not there: rt ci builds it\nhostile: 0 right, 1 wrong")
+        print(f"failed: {program} is not there\nhostile: 0 right, 1 wrong")
         return 1
     if words == ["store"]:
         STORED.write_text("%".join(made(program, 0, 0, STORED_COUNT, others_of(program, 0))))

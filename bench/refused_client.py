@@ -3,9 +3,9 @@
 
     bench/refused_client.py
 
-`.ci/refused-memory` runs it, behind `.ci/archive`. The client is python/turn_client.py over a shared
-library of the archive that `c/build` makes (LIBRARY, KIT and CC name what they do there), in which
-`c/refuse.c` counts the allocations. The courses stand in `refused_courses.py`, the server in
+`.ci/refused-memory` runs it. The client is python/turn_client.py over a shared library of `libturn_client.a`
+(that of dist/; TURN_CLIENT_LIB names another folder, CC another compiler), in which `c/refuse.c` counts the
+allocations. The courses stand in `refused_courses.py`, the server in
 `refused_server.py`, how two runs are compared in `refused_walk.py`. No answer is stored: a run that is
 refused memory is held against the one that isn't.
 
@@ -41,7 +41,7 @@ from refused_server import data, framed  # noqa: E402
 from refused_walk import Failed, Fault, Walk, pair  # noqa: E402
 
 TOP = Path(__file__).resolve().parent.parent
-ARCHIVE = TOP / "crates/turn_client_c/out/libturn_client_c.a"
+ARCHIVE = Path(os.environ.get("TURN_CLIENT_LIB") or TOP / "dist/x86_64-linux-gnu") / "libturn_client.a"
 # more allocations than a course has
 AMPLE = 1 << 30
 
@@ -51,16 +51,15 @@ class Library:
 
     def __init__(self, room):
         path = f"{room}/libturn_client.so"
-        subprocess.run([TOP / "c/build", room], check=True, stdout=subprocess.DEVNULL)
         names = Path(room, "names")
         names.write_text("{ global: turn_client_*; refuse_*; local: *; };\n")
         how = ["-shared", "-fPIC", "-O1", "-Wall", "-Wextra", "-Werror", "-Wl,-z,defs"]
         how += [f"-Wl,--version-script={names}"]
         how += [f"-Wl,--wrap={it}" for it in ("malloc", "realloc", "free")]
-        archive = ["-Wl,--whole-archive", f"{room}/libturn_client.a", "-Wl,--no-whole-archive"]
+        archive = ["-Wl,--whole-archive", ARCHIVE, "-Wl,--no-whole-archive"]
         given = [TOP / "c/refuse.c", *archive]
         subprocess.run([os.environ.get("CC", "cc"), *how, "-o", path, *given], check=True)
-        os.environ["TURN_CLIENT_LIBRARY"] = path
+        os.environ["TURN_CLIENT_LIB"] = room
         sys.path.append(str(TOP / "python"))
         self.turn = importlib.import_module("turn_client")
         counters = ctypes.CDLL(path)
@@ -184,9 +183,8 @@ def judged(library, course):
 
 
 def main():
-    archive = os.environ.get("LIBRARY") or ARCHIVE
-    if not Path(archive).exists():
-        print(f"failed: {archive} is not there: .ci/archive builds it\nclient: 0 passed, 1 failed")
+    if not ARCHIVE.exists():
+        print(f"failed: {ARCHIVE} is not there\nclient: 0 passed, 1 failed")
         return 1
     passed, faults = 0, []
     with tempfile.TemporaryDirectory(prefix="refused-client-") as room:

@@ -63,6 +63,10 @@
 #include <stddef.h>
 #include <stdint.h>
 
+#if !defined(__x86_64__) || !defined(__linux__) || !defined(__GLIBC__)
+#error "libturn_client is made for x86-64 Linux with glibc, and this program is compiled for another platform"
+#endif
+
 #ifdef __cplusplus
 extern "C" {
 #endif

@@ -8,6 +8,7 @@ import sys
 from dataclasses import dataclass
 
 ROOT = os.path.dirname(os.path.dirname(os.path.abspath(__file__)))
+LIBRARY = os.path.join(ROOT, "dist", "x86_64-linux-gnu")  # the folder of the released library
 OWN_INTERVAL = 1  # milliseconds between two payloads, of a program that has no such option
 PEERS = {"run": ["--peer"], "stream": ["--connect"], "echo": ["--echo"], "none": []}  # by which it learns its peer
 C_FILES = ("turn_client.c", "options.c", "sockets.c", "tally.c")
@@ -92,7 +93,7 @@ def of_c(archive, folder):
     compiler = os.environ.get("CC") or shutil.which("clang") or "cc"
     library = os.path.join(archive, "libturn_client.a")
     if not os.path.exists(library):
-        return [Absent(name, f"no {library}: c/build makes it")]
+        return [Absent(name, f"there is no {library}")]
     command = [compiler, "-std=c11", *SANITIZERS, "-Wall", "-Wextra", "-I" + archive, *C_FILES, library, "-o", made]
     if not _build(command, os.path.join(ROOT, "c"), os.path.join(folder, "build-c.log")):
         return [Absent(name, "it isn't built: see build-c.log")]

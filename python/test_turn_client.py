@@ -1,12 +1,12 @@
 #!/usr/bin/env python3
 """test_turn_client.py: walks the exchanges of c/samples.py by turn_client.py, and looks at what is this module's own.
 
-    python/build
     python3 python/test_turn_client.py
 
 What is to be sent and told comes from c/samples.py, which works it out by the RFCs. Sizes, offsets and numbers come
-from include/turn_client.h, by cc (CC names another compiler). What is freed is counted by a library of this test's own,
-made of build/libturn_client.a (ARCHIVE names another one), whose malloc can be made to refuse.
+from include/turn_client.h, by cc (CC names another compiler). The shared library is the one that turn_client.py finds.
+What is freed is counted by a library of this test's own, whose malloc can be made to refuse: it is made of the archive
+of dist/x86_64-linux-gnu, or of the folder that TURN_CLIENT_LIB names.
 """
 
 from __future__ import annotations
@@ -41,7 +41,7 @@ base: Any = importlib.import_module("samples_base")
 HEADER = (ROOT / "include" / "turn_client.h").read_text()
 NUMBERS = {name: int(value) for name, value in re.findall(r"\b(TURN_[A-Z0-9_]+) = (-?\d+)", HEADER)}
 CC = os.environ.get("CC", "cc")
-ARCHIVE = os.environ.get("ARCHIVE", str(ROOT / "build" / "libturn_client.a"))
+ARCHIVE = Path(os.environ.get("TURN_CLIENT_LIB") or ROOT / "dist" / "x86_64-linux-gnu", "libturn_client.a")
 SOME_MS = 10
 
 REFUSALS = {
@@ -460,9 +460,30 @@ class Texts(unittest.TestCase):
             made = turn_client._to_c((text, 0xFFFF))
             self.assertEqual(turn_client._of_c(made), (text, 0xFFFF))
 
-    def test_library_is_not_there(self) -> None:
-        with self.assertRaisesRegex(ImportError, f"nowhere.so(.|\n)*type: {HERE / 'build'}"):
-            loaded_from("/nowhere.so", "turn_client_of_nowhere")
+
+class Library(unittest.TestCase):
+    """Which shared library is loaded."""
+
+    def test_it_is_not_there(self) -> None:
+        with self.assertRaisesRegex(ImportError, "loaded from /nowhere/libturn_client.so"):
+            loaded_from("/nowhere", "turn_client_of_nowhere")
+
+    def test_another_platform(self) -> None:
+        others = {"sys.platform": "darwin", "platform.machine": lambda: "aarch64", "os.confstr_names": {}}
+        for name, value in others.items():
+            with self.subTest(name), mock.patch(name, value):
+                with self.assertRaisesRegex(ImportError, "is made for x86-64 Linux with glibc, and this is "):
+                    loaded_from("", "turn_client_of_another_platform")
+
+    def test_installed(self) -> None:
+        """What `pip install` unpacks is the module and the library that it loads."""
+        with tempfile.TemporaryDirectory() as folder:
+            wheel = Path(folder, importlib.import_module("make_wheel").build_wheel(folder))
+            shutil.unpack_archive(wheel, folder, "zip")
+            how: dict[str, Any] = {"cwd": folder, "check": True, "capture_output": True, "text": True}
+            told = "import turn_client as it; print(it._library(), it._CALL['relayed'].__name__)"
+            ran = subprocess.run([sys.executable, "-c", told], env={"PYTHONPATH": folder}, **how)
+            self.assertEqual(ran.stdout, f"{folder}/turn_client/libturn_client.so turn_client_relayed\n")
 
 
 # ---- what is freed
@@ -489,12 +510,12 @@ void __wrap_free(void *block) {
 """
 
 
-def loaded_from(library: str, name: str) -> Any:
-    """The module once more, over another shared library."""
+def loaded_from(folder: str, name: str) -> Any:
+    """The module once more, over the shared library of another folder; of none the one that it finds itself."""
     spec = importlib.util.spec_from_file_location(name, HERE / "turn_client.py")
     assert spec is not None and spec.loader is not None
     module = importlib.util.module_from_spec(spec)
-    with mock.patch.dict(os.environ, TURN_CLIENT_LIBRARY=library), mock.patch.dict(sys.modules, {name: module}):
+    with mock.patch.dict(os.environ, TURN_CLIENT_LIB=folder), mock.patch.dict(sys.modules, {name: module}):
         spec.loader.exec_module(module)
     return module
 
@@ -511,12 +532,12 @@ class Memory(unittest.TestCase):
     def setUpClass(cls) -> None:
         cls.folder = tempfile.mkdtemp()
         cls.addClassCleanup(shutil.rmtree, cls.folder)
-        source, library = Path(cls.folder, "meter.c"), Path(cls.folder, "libmeter.so")
+        source, library = Path(cls.folder, "meter.c"), Path(cls.folder, "libturn_client.so")
         source.write_text(METER)
         wraps = [f"-Wl,--wrap={it}" for it in ("malloc", "realloc", "free")]
         subprocess.run([CC, "-shared", "-fPIC", "-o", library, source, "-Wl,--whole-archive", ARCHIVE,
                         "-Wl,--no-whole-archive", *wraps], check=True)
-        cls.module = loaded_from(str(library), "turn_client_metered")
+        cls.module = loaded_from(cls.folder, "turn_client_metered")
         meter = ctypes.CDLL(str(library))
         cls.held, cls.left = (ctypes.c_long.in_dll(meter, it) for it in ("held", "left"))
 

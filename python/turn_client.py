@@ -21,7 +21,9 @@ import ctypes
 import enum
 import ipaddress
 import os
+import platform
 import socket
+import sys
 import threading
 import weakref
 from collections.abc import Callable, Sequence
@@ -496,21 +498,35 @@ _CALLS: dict[str, tuple[Any, Sequence[Any]]] = {
 }
 
 
-def _loaded() -> dict[str, Callable[..., Any]]:
-    """The calls of the shared library: of the one that TURN_CLIENT_LIBRARY names, else of the one beside this file."""
-    here = Path(__file__).resolve().parent
-    path = os.environ.get("TURN_CLIENT_LIBRARY") or str(here / "libturn_client.so")
+def _is_released_for_here() -> bool:
+    """Whether this is the platform of the released library: x86-64 Linux with glibc."""
+    has_glibc = "CS_GNU_LIBC_VERSION" in getattr(os, "confstr_names", ())
+    return (sys.platform, platform.machine(), has_glibc, sys.maxsize) == ("linux", "x86_64", True, 2**63 - 1)
+
+
+def _library() -> Path:
+    """The shared library: in the folder that TURN_CLIENT_LIB names, else beside this file, else the released one."""
+    name, here = "libturn_client.so", Path(__file__).resolve().parent
+    if named := os.environ.get("TURN_CLIENT_LIB"):
+        return Path(named, name).absolute()
+    if not _is_released_for_here():
+        raise ImportError(f"{name} is made for x86-64 Linux with glibc, and this is {platform.platform()}")
+    beside = here / name
+    return beside if beside.exists() else here.parent / "dist" / "x86_64-linux-gnu" / name
+
+
+def _loaded(path: Path) -> dict[str, Callable[..., Any]]:
     try:
-        library = ctypes.CDLL(path)
+        library = ctypes.CDLL(str(path))
         calls: dict[str, Any] = {name: getattr(library, f"turn_client_{name}") for name in _CALLS}
     except (OSError, AttributeError) as error:
-        raise ImportError(f"{error}\nto make the shared library, type: {here / 'build'}") from error
+        raise ImportError(f"{error}\nthe library of turn_client can't be loaded from {path}") from error
     for name, (answer, given) in _CALLS.items():
         calls[name].restype, calls[name].argtypes = answer, [ctypes.POINTER(_Client), *given]
     return calls
 
 
-_CALL = _loaded()
+_CALL = _loaded(_library())
 
 
 # ---- values

@@ -1,33 +1,60 @@
-//! Finds `libturn_client.a`: in the folder that `TURN_CLIENT_LIB` names, or else in `../build`, where `c/build build`
-//! puts it. The crate learns the folder as `TURN_CLIENT_FOLDER`.
+//! Finds `libturn_client.a`: in the folder that `TURN_CLIENT_LIB` names by its whole path, or else in
+//! `../dist/x86_64-linux-gnu`, which each clone has. The crate learns the folder as `TURN_CLIENT_FOLDER`.
 
+use std::env;
 use std::path::{Path, PathBuf};
 use std::process::ExitCode;
 
 const ARCHIVE: &str = "libturn_client.a";
+const RELEASED: &str = "../dist/x86_64-linux-gnu";
 const VARIABLE: &str = "TURN_CLIENT_LIB";
+/// What the released archive is compiled for, in cargo's words.
+const PLATFORM: [(&str, &str); 3] = [
+    ("CARGO_CFG_TARGET_ARCH", "x86_64"),
+    ("CARGO_CFG_TARGET_OS", "linux"),
+    ("CARGO_CFG_TARGET_ENV", "gnu"),
+];
 
-/// The folder that is asked for.
-fn folder() -> PathBuf {
-    let crate_folder = std::env::var_os("CARGO_MANIFEST_DIR").unwrap_or_default();
-    match std::env::var_os(VARIABLE) {
-        Some(named) => PathBuf::from(named),
-        None => Path::new(&crate_folder).join("..").join("build"),
+/// The released folder, where the crate is compiled for its platform.
+fn released() -> Result<PathBuf, String> {
+    if PLATFORM
+        .iter()
+        .all(|(name, wanted)| env::var(name).as_deref() == Ok(wanted))
+    {
+        return Ok(Path::new(&env::var_os("CARGO_MANIFEST_DIR").unwrap_or_default()).join(RELEASED));
+    }
+    let target = env::var("TARGET").unwrap_or_default();
+    Err(format!(
+        "{ARCHIVE} is made for x86-64 Linux with glibc, and not for {target}."
+    ))
+}
+
+/// The folder of the archive, by its whole path.
+fn folder() -> Result<PathBuf, String> {
+    let (folder, why) = match env::var_os(VARIABLE) {
+        Some(named) => (PathBuf::from(named), "which is the folder that TURN_CLIENT_LIB names"),
+        None => (
+            released()?,
+            "which is part of the repository that has this crate: clone all of it",
+        ),
+    };
+    match folder.canonicalize() {
+        Ok(whole) if whole.join(ARCHIVE).is_file() => Ok(whole),
+        _ => Err(format!("there is no {ARCHIVE} in {}, {why}.", folder.display())),
     }
 }
 
 fn main() -> ExitCode {
-    let folder = folder();
-    let archive = folder.join(ARCHIVE);
     println!("cargo:rerun-if-changed=build.rs");
     println!("cargo:rerun-if-env-changed={VARIABLE}");
-    println!("cargo:rerun-if-changed={}", archive.display());
-    let Ok(folder) = folder.canonicalize().and_then(|it| archive.metadata().map(|_| it)) else {
-        eprintln!("turn-client: {} isn't there.", archive.display());
-        eprintln!("Type `c/build build` in the folder above the crate, which makes it (c/build says what it wants),");
-        eprintln!("or set {VARIABLE} to the whole path of the folder that has {ARCHIVE}.");
-        return ExitCode::FAILURE;
+    let folder = match folder() {
+        Ok(folder) => folder,
+        Err(why) => {
+            eprintln!("turn-client: {why}");
+            return ExitCode::FAILURE;
+        }
     };
+    println!("cargo:rerun-if-changed={}", folder.join(ARCHIVE).display());
     println!("cargo:rustc-env=TURN_CLIENT_FOLDER={}", folder.display());
     println!("cargo:rustc-link-search=native={}", folder.display());
     println!("cargo:rustc-link-lib=static=turn_client");
