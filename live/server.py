@@ -1,4 +1,4 @@
-"""coturn on loopback, over IPv4 and IPv6, for the user alice with the password secret."""
+"""coturn on loopback, over IPv4 and where there is one IPv6, for the user alice with the password secret."""
 
 import os
 import random
@@ -12,7 +12,6 @@ import time
 
 PROGRAM = "turnserver"
 USER, PASSWORD, REALM = "alice", "secret", "example.org"
-HOSTS = ("127.0.0.1", "::1")
 FIRST_PORT, LAST_PORT, PORTS = 20000, 32000, 200  # a server takes PORTS in a row, from some port on
 RELAY_FROM, RELAY_TO = 100, 199  # of these the relayed ones
 READY_WITHIN = 10  # seconds
@@ -35,8 +34,21 @@ def _family(host):
     return socket.AF_INET6 if ":" in host else socket.AF_INET
 
 
-def _is_free(port):
-    """Whether both transports have the port over both families."""
+def _is_there(host):
+    """Whether this machine has the address."""
+    try:
+        with socket.socket(_family(host), socket.SOCK_DGRAM) as one:
+            one.bind((host, 0))
+            return True
+    except OSError:
+        return False
+
+
+HOSTS = tuple(filter(_is_there, ("127.0.0.1", "::1")))
+
+
+def is_free(port):
+    """Whether both transports have the port over each family."""
     for host in HOSTS:
         for kind in (socket.SOCK_STREAM, socket.SOCK_DGRAM):
             with socket.socket(_family(host), kind) as one:
@@ -59,7 +71,7 @@ class Ports:
         with self._lock:
             while True:
                 port = random.randrange(FIRST_PORT, LAST_PORT, PORTS)
-                if port not in self._taken and _is_free(port) and _is_free(port + 1):
+                if port not in self._taken and is_free(port) and is_free(port + 1):
                     self._taken.add(port)
                     return port
 
@@ -119,6 +131,10 @@ class Server:
     def end(self):
         if self._process is not None:
             self._processes.end(self._process)
+
+    def wait(self):
+        """Waits until it ends by itself: its exit status."""
+        return self._process.wait()
 
     def logged(self, pattern):
         """How often its log has this."""
