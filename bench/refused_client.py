@@ -41,7 +41,12 @@ from refused_server import data, framed  # noqa: E402
 from refused_walk import Failed, Fault, Walk, pair  # noqa: E402
 
 TOP = Path(__file__).resolve().parent.parent
-ARCHIVE = Path(os.environ.get("TURN_CLIENT_LIB") or TOP / "dist/x86_64-linux-gnu") / "libturn_client.a"
+FOLDER = Path(os.environ.get("TURN_CLIENT_LIB") or TOP / "dist/x86_64-linux-gnu")
+UNPROVED = FOLDER / "libturn_client_unproved.a"
+ARCHIVE = UNPROVED if UNPROVED.exists() else FOLDER / "libturn_client.a"
+# what the library that c/try makes wants, and a name that it has for that
+SANITIZER = ["-fsanitize=address"] * (ARCHIVE is UNPROVED)
+OPTIONS = "__asan_default_options; " * (ARCHIVE is UNPROVED)
 # more allocations than a course has
 AMPLE = 1 << 30
 
@@ -52,8 +57,8 @@ class Library:
     def __init__(self, room):
         path = f"{room}/libturn_client.so"
         names = Path(room, "names")
-        names.write_text("{ global: turn_client_*; refuse_*; local: *; };\n")
-        how = ["-shared", "-fPIC", "-O1", "-Wall", "-Wextra", "-Werror", "-Wl,-z,defs"]
+        names.write_text(f"{{ global: turn_client_*; refuse_*; {OPTIONS}local: *; }};\n")
+        how = ["-shared", "-fPIC", "-O1", "-Wall", "-Wextra", "-Werror", "-Wl,-z,defs", *SANITIZER]
         how += [f"-Wl,--version-script={names}"]
         how += [f"-Wl,--wrap={it}" for it in ("malloc", "realloc", "free")]
         archive = ["-Wl,--whole-archive", ARCHIVE, "-Wl,--no-whole-archive"]

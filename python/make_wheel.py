@@ -15,6 +15,7 @@ from pathlib import Path
 from typing import Any
 
 NAME, VERSION, TAG = "turn_client", "0.1.0", "py3-none-linux_x86_64"
+SHARED = "libturn_client.so"
 HERE = Path(__file__).resolve().parent
 LICENSES = "LICENSE-MIT", "LICENSE-APACHE"
 METADATA = f"""\
@@ -42,7 +43,10 @@ def library() -> Path:
         import turn_client
     except ImportError as why:
         sys.exit(f"turn_client isn't installed: {why}")
-    return turn_client._library()
+    found = turn_client._library()
+    if found.name != SHARED:
+        sys.exit(f"turn_client isn't installed: {found} is not proved")
+    return found
 
 
 def files() -> dict[str, bytes]:
@@ -51,7 +55,7 @@ def files() -> dict[str, bytes]:
     readme = (HERE / "README.md").read_bytes()
     return {
         f"{NAME}/__init__.py": (HERE / "turn_client.py").read_bytes(),
-        f"{NAME}/libturn_client.so": library().read_bytes(),
+        f"{NAME}/{SHARED}": library().read_bytes(),
         f"{NAME}/py.typed": b"",
         **{f"{info}/{it}": (HERE.parent / it).read_bytes() for it in LICENSES},
         f"{info}/METADATA": METADATA.encode() + readme,

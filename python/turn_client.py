@@ -25,6 +25,7 @@ import platform
 import socket
 import sys
 import threading
+import warnings
 import weakref
 from collections.abc import Callable, Sequence
 from dataclasses import dataclass, field
@@ -498,6 +499,9 @@ _CALLS: dict[str, tuple[Any, Sequence[Any]]] = {
 }
 
 
+_UNPROVED = "libturn_client_unproved.so"  # which c/try makes, for tests
+
+
 def _is_released_for_here() -> bool:
     """Whether this is the platform of the released library: x86-64 Linux with glibc."""
     has_glibc = "CS_GNU_LIBC_VERSION" in getattr(os, "confstr_names", ())
@@ -508,7 +512,8 @@ def _library() -> Path:
     """The shared library: in the folder that TURN_CLIENT_LIB names, else beside this file, else the released one."""
     name, here = "libturn_client.so", Path(__file__).resolve().parent
     if named := os.environ.get("TURN_CLIENT_LIB"):
-        return Path(named, name).absolute()
+        path, unproved = Path(named, name).absolute(), Path(named, _UNPROVED).absolute()
+        return unproved if unproved.exists() and not path.exists() else path
     if not _is_released_for_here():
         raise ImportError(f"{name} is made for x86-64 Linux with glibc, and this is {platform.platform()}")
     beside = here / name
@@ -516,6 +521,8 @@ def _library() -> Path:
 
 
 def _loaded(path: Path) -> dict[str, Callable[..., Any]]:
+    if path.name == _UNPROVED:
+        warnings.warn(f"{path} is NOT PROVED", stacklevel=1)
     try:
         library = ctypes.CDLL(str(path))
         calls: dict[str, Any] = {name: getattr(library, f"turn_client_{name}") for name in _CALLS}

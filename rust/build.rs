@@ -5,7 +5,9 @@ use std::env;
 use std::path::{Path, PathBuf};
 use std::process::ExitCode;
 
-const ARCHIVE: &str = "libturn_client.a";
+const NAME: &str = "turn_client";
+/// The library that `c/try` makes without proofs. It wants the runtime of AddressSanitizer.
+const UNPROVED: &str = "turn_client_unproved";
 const RELEASED: &str = "../dist/x86_64-linux-gnu";
 const VARIABLE: &str = "TURN_CLIENT_LIB";
 /// What the released archive is compiled for, in cargo's words.
@@ -14,6 +16,10 @@ const PLATFORM: [(&str, &str); 3] = [
     ("CARGO_CFG_TARGET_OS", "linux"),
     ("CARGO_CFG_TARGET_ENV", "gnu"),
 ];
+
+fn archive(name: &str) -> String {
+    format!("lib{name}.a")
+}
 
 /// The released folder, where the crate is compiled for its platform.
 fn released() -> Result<PathBuf, String> {
@@ -25,12 +31,12 @@ fn released() -> Result<PathBuf, String> {
     }
     let target = env::var("TARGET").unwrap_or_default();
     Err(format!(
-        "{ARCHIVE} is made for x86-64 Linux with glibc, and not for {target}."
+        "libturn_client.a is made for x86-64 Linux with glibc, and not for {target}."
     ))
 }
 
-/// The folder of the archive, by its whole path.
-fn folder() -> Result<PathBuf, String> {
+/// The folder of the library, by its whole path, and the library's name.
+fn library() -> Result<(PathBuf, &'static str), String> {
     let (folder, why) = match env::var_os(VARIABLE) {
         Some(named) => (PathBuf::from(named), "which is the folder that TURN_CLIENT_LIB names"),
         None => (
@@ -38,25 +44,33 @@ fn folder() -> Result<PathBuf, String> {
             "which is part of the repository that has this crate: clone all of it",
         ),
     };
-    match folder.canonicalize() {
-        Ok(whole) if whole.join(ARCHIVE).is_file() => Ok(whole),
-        _ => Err(format!("there is no {ARCHIVE} in {}, {why}.", folder.display())),
+    let whole = folder.canonicalize().unwrap_or_default();
+    let name = [NAME, UNPROVED]
+        .into_iter()
+        .find(|it| whole.join(archive(it)).is_file());
+    match name {
+        Some(name) => Ok((whole, name)),
+        None => Err(format!("there is no {} in {}, {why}.", archive(NAME), folder.display())),
     }
 }
 
 fn main() -> ExitCode {
     println!("cargo:rerun-if-changed=build.rs");
     println!("cargo:rerun-if-env-changed={VARIABLE}");
-    let folder = match folder() {
-        Ok(folder) => folder,
+    let (folder, name) = match library() {
+        Ok(library) => library,
         Err(why) => {
             eprintln!("turn-client: {why}");
             return ExitCode::FAILURE;
         }
     };
-    println!("cargo:rerun-if-changed={}", folder.join(ARCHIVE).display());
+    println!("cargo:rerun-if-changed={}", folder.join(archive(name)).display());
     println!("cargo:rustc-env=TURN_CLIENT_FOLDER={}", folder.display());
     println!("cargo:rustc-link-search=native={}", folder.display());
-    println!("cargo:rustc-link-lib=static=turn_client");
+    println!("cargo:rustc-link-lib=static={name}");
+    if name == UNPROVED {
+        println!("cargo:warning=the library in {} is NOT PROVED", folder.display());
+        println!("cargo:rustc-link-lib=dylib=asan");
+    }
     ExitCode::SUCCESS
 }
