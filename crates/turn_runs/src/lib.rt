@@ -27,6 +27,10 @@ pub trait Layers {
 /// Whatever the network loses, repeats, reorders or invents, each step of a lawful run is safe, where
 /// nothing is forged under a client's key and no number comes twice (`IsUnforged`).
 ///
+/// A client's key counts in a realm that it kept when the run began, that a challenge names which arrives
+/// (forged or not), or that is the desk's; not in one that nobody named. Each realm that the client keeps
+/// is such a one.
+///
 /// A response that the client takes up was signed by the desk, and a request that the desk accepts under a
 /// client's number was signed by the client. No response that is taken up is the client's own text. All
 /// that the client holds was granted in answer to that very request, and each payload names a peer so
@@ -35,7 +39,7 @@ pub trait Layers {
 pub fn runs_are_safe<L: Layers>()
     ensures steps { (first : L.Client) (run : List (Step L.Client L.Desk)) (last : L.Client)
         → IsUnforged L.words first run last
-        → AtEach (IsSafe L.words first last) run }
+        → AtEach (IsSafe L.words first last run) run }
     ensures once { (first : L.Client) (run : List (Step L.Client L.Desk)) (last : L.Client)
         → IsUnforged L.words first run last
         → AnswersOnce L.words run }

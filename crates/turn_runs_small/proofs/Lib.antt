@@ -1,3 +1,4 @@
+pub mod AnyRealm
 pub mod Bound
 pub mod Handshakes
 pub mod Joined

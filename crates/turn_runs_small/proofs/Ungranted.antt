@@ -4,14 +4,15 @@ use Rattle.stun_types.specs.declared.transport.TransportType.TheVariants.{Tcp}
 use Rattle.turn_runs.specs.Headline.{AnswersOnce, IsGrantedAt, IsSafe, ShowsTraced, Unless}
 use Rattle.turn_runs.specs.Members.{IsIn, NoneTwice}
 use Rattle.turn_runs.specs.Messages.{Allocation, AllocationCreated, Gain, Holds, Notice}
-use Rattle.turn_runs.specs.Runs.{Step, AtClient, AtDesk, AtEach, AtSome, IsCounted, Leads, NoForgery}
+use Rattle.turn_runs.specs.Names.{IntegrityAlgorithm}
+use Rattle.turn_runs.specs.Runs.{Step, AtClient, AtDesk, AtEach, AtSome, IsCounted, IsKeyOf, Leads, NoForgery}
 use Rattle.turn_runs.specs.Steps.{Call, Told, told_for}
 use Rattle.turn_runs.proofs.Tools.{in_left, none_parts}
 use Rattle.turn_runs_small.specs.Handshakes.{Addresses, grant_at}
 use Rattle.turn_runs_small.specs.Rounds.{asks_next, idle, quiet, takes_next}
-use Rattle.turn_runs_small.specs.SmallWords.{Client, Core, Idle, Waiting, given_by, small}
+use Rattle.turn_runs_small.specs.SmallWords.{Client, Core, Idle, Waiting, given_by, home, small}
 use Rattle.turn_runs_small.specs.Ungranted.{AreSafe, forget, forget_call, holds_ungranted, shows_ungranted, tells_twice}
-use Rattle.turn_runs_small.proofs.Rounds.{distinct}
+use Rattle.turn_runs_small.proofs.Rounds.{distinct, names_none}
 
 -- how far a call moves the generator is read of what the client keeps
 given_in_call : (own : Call Client) (call : Call Core) → forget_call own ≡ call →
@@ -33,7 +34,7 @@ module _ (a : Addresses) where
   -- ---- the client holds what no desk granted
 
   held_by : (run : List (Step Client ℕ)) (last : Client) → map forget run ≡ holds_ungranted a → Leads (idle 0) run last →
-      IsCounted (small a) (idle 0) run last → Unless (small a) (idle 0) run last (AtEach (IsSafe (small a) (idle 0) last) run) → ⊥
+      IsCounted (small a) (idle 0) run last → Unless (small a) (idle 0) run last (AtEach (IsSafe (small a) (idle 0) last run) run) → ⊥
   held_by (AtClient takes ∷ AtClient asks ∷ []) last told leads counted safe =
       let takes_is : forget_call takes ≡ quiet (Waiting 0) (Idle 1) = cc in
       let asks_is : forget_call asks ≡ record (quiet (Idle 0) (Waiting 0)) { drawn = Some (0 ∷ 0 ∷ []) } = cc in
@@ -46,14 +47,14 @@ module _ (a : Addresses) where
       subst (λ (x : Core). (small a).client.IsHeld (record { core = x; drawn = 0 }) (Allocation Tcp a.relayed)) (sym (ap (λ (x : Call Core). x.after) takes_is)) (inl refl) in
       elim ((safe authentic (distinct a last.drawn few)).0.holds (Allocation Tcp a.relayed) holds).1.0 [
         | inl none ↦ none
-        | inr more ↦ elim more [
+        | inr more1 ↦ elim more1 [
           | inl none ↦ none
           | inr none ↦ none
         ]
       ]
   held_by run last told leads counted safe = let never : ⊥ = cc in never
 
-  pub none_held : AreSafe a (holds_ungranted a) → ⊥
+  pub none_held : AreSafe a (idle 0) (holds_ungranted a) → ⊥
   none_held is = held_by is.run is.last is.told is.leads is.counted is.safe
 
   -- ---- a getter shows what no desk granted
@@ -73,7 +74,7 @@ module _ (a : Addresses) where
       ]
   shown_by run last told leads counted shown = let never : ⊥ = cc in never
 
-  pub none_shown : AreSafe a (shows_ungranted a) → ⊥
+  pub none_shown : AreSafe a (idle 0) (shows_ungranted a) → ⊥
   none_shown is = shown_by is.run is.last is.told is.leads is.counted is.shown
 
   -- ---- the client tells twice what was granted once
@@ -83,9 +84,29 @@ module _ (a : Addresses) where
       AtSome (IsGrantedAt (small a) number gain) (AtDesk d ∷ AtClient asks ∷ []) → number ≡ 0
   first_number d asks number gain e some = elim some [
     | inl g ↦ sym g.number_is ∙ (ap (λ grant. grant.number) g.grants.granted ∙ ap (λ n. (grant_at a n).number) e)
-    | inr more ↦ elim more [
+    | inr more2 ↦ elim more2 [
       | inl none ↦ absurd none
       | inr none ↦ absurd none
+    ]
+  ]
+
+  -- the desk's realm alone is kept or named in it
+  round_home : (d : ℕ) (again takes asks : Call Client) → again.came ≡ [] → takes.came ≡ (1 ∷ 0 ∷ []) ∷ [] → asks.came ≡ [] →
+      (b : IntegrityAlgorithm) (key : List ℕ) → IsKeyOf (small a) (idle 0) (AtClient again ∷ AtClient takes ∷ AtDesk d ∷ AtClient asks ∷ []) b key → key ≡ home
+  round_home d again takes asks none_again one none_asked b key of = elim of.1 [
+    | inl kept ↦ (let is : Some home ≡ Some of.0 = kept in let same : home ≡ of.0 = cc in of.2 ∙ sym same)
+    | inr some ↦ elim some [
+      | inl here ↦ absurd (subst (IsIn here.0) none_again here.1)
+      | inr more3 ↦ elim more3 [
+        | inl here ↦ absurd (names_none (1 ∷ 0 ∷ []) here.0 of.0 refl (subst (IsIn here.0) one here.1) here.2)
+        | inr more4 ↦ elim more4 [
+          | inl desk ↦ of.2 ∙ sym desk
+          | inr more5 ↦ elim more5 [
+            | inl here ↦ absurd (subst (IsIn here.0) none_asked here.1)
+            | inr none ↦ absurd none
+          ]
+        ]
+      ]
     ]
   ]
 
@@ -96,7 +117,7 @@ module _ (a : Addresses) where
     (λ bytes key text b i own v. absurd (subst (IsIn bytes) none_again i)),
     (
       (λ bytes key text b i own v. elim (subst (IsIn bytes) one i) [
-        | inl e ↦ inl (inr (1 ∷ d ∷ [], refl, v.0 ∙ (sym e ∙ ap (λ n. 1 ∷ n ∷ []) (sym is)), (b, v.1)))
+        | inl e ↦ inl (inr (1 ∷ d ∷ [], refl, v.0 ∙ (sym e ∙ ap (λ n. 1 ∷ n ∷ []) (sym is)), round_home d again takes asks none_again one none_asked b key own))
         | inr none ↦ absurd none
       ]),
       (
@@ -137,5 +158,5 @@ module _ (a : Addresses) where
       (once authentic (distinct a last.drawn few))
   told_by run last told leads counted once = let never : ⊥ = cc in never
 
-  pub none_told : AreSafe a (tells_twice a) → ⊥
+  pub none_told : AreSafe a (idle 0) (tells_twice a) → ⊥
   none_told is = told_by is.run is.last is.told is.leads is.counted is.once

@@ -2,3 +2,4 @@ pub mod Handshakes
 pub mod SmallWords
 pub mod Rounds
 pub mod Ungranted
+pub mod AnyRealm

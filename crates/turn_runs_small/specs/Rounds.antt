@@ -6,7 +6,11 @@ use Rattle.turn_runs.specs.Names.{socket_ip}
 use Rattle.turn_runs.specs.Runs.{Step, AtClient, AtDesk}
 use Rattle.turn_runs.specs.Steps.{Call, Told}
 use Rattle.turn_runs_small.specs.Handshakes.{Addresses, told_at, held_after}
-use Rattle.turn_runs_small.specs.SmallWords.{Client, Idle, Waiting, small}
+use Rattle.turn_runs_small.specs.SmallWords.{Client, Fresh, Idle, Waiting, small}
+
+-- no challenge has come
+abbrev pub fresh : Client
+fresh = record { core = Fresh; drawn = 0 }
 
 -- so many requests are answered, and none is outstanding
 abbrev pub idle : ℕ → Client
@@ -28,6 +32,14 @@ quiet before after = record {
   payloads = [];
   after = after;
 }
+
+-- a forged challenge names another realm, which the client doesn't keep
+abbrev pub hears_forged : Call Client
+hears_forged = record (quiet fresh fresh) { came = (2 ∷ 1 ∷ []) ∷ []; handled = (2 ∷ 1 ∷ []) ∷ [] }
+
+-- the desk's challenge comes, and the client keeps its realm
+abbrev pub hears_challenge : Call Client
+hears_challenge = record (quiet fresh (idle 0)) { came = (2 ∷ 0 ∷ []) ∷ []; handled = (2 ∷ 0 ∷ []) ∷ [] }
 
 -- the client draws its next request
 abbrev pub asks_next : ℕ → Call Client
@@ -62,10 +74,10 @@ module _ (a : Addresses) where
   abbrev pub granted : ℕ → List (Step Client ℕ) → List (Step Client ℕ)
   granted n earlier = AtClient (takes_next n) ∷ AtDesk n ∷ AtClient (asks_next n) ∷ earlier
 
-  -- so many requests, one after the other. Behind each a getter is asked, and the network plays
-  -- the answer and the client's own request to it again
+  -- two challenges, and then so many requests, one after the other. Behind each a getter is asked, and
+  -- the network plays the answer and the client's own request to it again
   abbrev pub rounds : ℕ → List (Step Client ℕ)
-  rounds zero = []
+  rounds zero = AtClient hears_challenge ∷ AtClient hears_forged ∷ []
   rounds (suc n) =
       AtClient (hears (suc n) (0 ∷ n ∷ [])) ∷ AtClient (hears (suc n) (1 ∷ n ∷ []))
       ∷ AtClient (shows_all (suc n)) ∷ granted n (rounds n)

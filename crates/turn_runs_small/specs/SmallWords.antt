@@ -7,6 +7,8 @@ use Rattle.turn_runs_small.specs.Handshakes.{Addresses, number_at, request_at, r
 
 -- what the client keeps: how many of its requests were answered, and whether the next is outstanding
 pub data Core : Type 0 where
+  -- no challenge has told it a realm yet
+  Fresh : Core
   Idle : (answered : ℕ) → Core
   Waiting : (answered : ℕ) → Core
 
@@ -17,17 +19,55 @@ pub record Client : Type 0 where
   pub drawn : ℕ
 
 abbrev pub answered_in : Core → ℕ
+answered_in Fresh = 0
 answered_in (Idle n) = n
 answered_in (Waiting n) = n
 
 -- the place that its generator has come to
 abbrev pub place_in : Core → ℕ
+place_in Fresh = 0
 place_in (Idle n) = n
 place_in (Waiting n) = suc n
 
 -- how far the generator went from one state to another, by its places in a stream of sixteen
 abbrev pub given_by : (before after : Core) → ℕ
 given_by before after = (place_in after + (16 - place_in before % 16)) % 16
+
+-- ---- realms, keys and digests
+
+-- the desk's realm, and one that a forged challenge names
+abbrev pub home : List ℕ
+home = 0 ∷ []
+
+abbrev pub abroad : List ℕ
+abroad = 1 ∷ []
+
+-- a challenge is two numbers, of which the second is the realm that it names
+abbrev pub told_small : List ℕ → Option (List ℕ)
+told_small (suc (suc zero) ∷ realm ∷ []) = Some (realm ∷ [])
+told_small _ = None
+
+-- the realm that the client keeps
+abbrev pub realm_in : Core → Option (List ℕ)
+realm_in Fresh = None
+realm_in (Idle n) = Some home
+realm_in (Waiting n) = Some home
+
+-- a digest under a key is one of sixteen numbers, so keys of many realms make the same
+abbrev pub digest_under : (key : List ℕ) → ℕ
+digest_under [] = 0
+digest_under (n ∷ rest) = n % 16
+
+-- requests and responses carry a digest; a challenge carries none
+abbrev pub CarriesDigest : List ℕ → Type 0
+CarriesDigest (zero ∷ n ∷ []) = Unit {0}
+CarriesDigest (suc zero ∷ n ∷ []) = Unit {0}
+CarriesDigest _ = ⊥
+
+-- a message is right under a key: it is covered whole, and the digest that it carries, which was made under the desk's
+-- key, is that under this key
+abbrev pub IsRight : (bytes key text : List ℕ) → Type 0
+IsRight bytes key text = (text ≡ bytes) × (digest_under key ≡ digest_under home) × CarriesDigest bytes
 
 module _ (a : Addresses) where
   -- a message is two numbers: whether it is a response, and how many came before
@@ -37,6 +77,7 @@ module _ (a : Addresses) where
   shown_small _ = None
 
   abbrev pub IsOutstandingIn : Core → Message → Type 0
+  IsOutstandingIn Fresh m = ⊥
   IsOutstandingIn (Idle n) m = ⊥
   IsOutstandingIn (Waiting n) m = m ≡ request_at a n
 
@@ -47,23 +88,25 @@ module _ (a : Addresses) where
   CarriesIn frame (FromChannel number peer bytes) = bytes ≡ frame
   CarriesIn frame (FromConnection local peer bytes) = ⊥
 
-  -- there is one account and one key, and a message is covered whole
+  -- there is one account, whose key in a realm is the realm itself
   abbrev pub small_wire : Wire
   small_wire = record {
     Account = Unit {0};
     Seed = Unit {0};
     shown = shown_small;
-    Validates = λ bytes key algorithm text. (text ≡ bytes) × (key ≡ []);
+    Validates = λ bytes key algorithm text. IsRight bytes key text;
     Covers = λ bytes algorithm text. text ≡ bytes;
     ShowsSame = λ one other. one ≡ other;
     Carries = CarriesIn;
-    key = λ account realm algorithm. [];
+    told_realm = told_small;
+    key = λ account realm algorithm. realm;
     number = λ seed place. number_at place;
   }
 
   abbrev pub small_client : ClientWords small_wire Client
   small_client = record {
     account = λ c. tt;
+    realm = λ c. realm_in c.core;
     seed = λ c. tt;
     count = λ c. c.drawn;
     given = λ before after. given_by before.core after.core;
@@ -83,8 +126,9 @@ module _ (a : Addresses) where
   small_desk = record {
     request = λ n. 0 ∷ n ∷ [];
     source = λ n. a.local;
+    realm = λ n. home;
     reply = λ n. Some (1 ∷ n ∷ []);
-    ValidatedWith = λ n key algorithm. key ≡ [];
+    ValidatedWith = λ n key algorithm. key ≡ home;
     recorded = recorded_after a;
     records = λ n. recorded_after a n ++ grant_at a n ∷ [];
     IsGranted = λ n g. g ≡ grant_at a n;

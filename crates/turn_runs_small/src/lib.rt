@@ -11,9 +11,10 @@
 ghost use Rattle.std.specs.Prelude.{ℕ, ◌≤◌, ◌↔◌, map};
 ghost use Rattle.turn_runs.specs.Headline.{AnswersOnce, IsSafe, ShowsTraced};
 ghost use Rattle.turn_runs.specs.Names.{SocketAddr};
-ghost use Rattle.turn_runs.specs.Runs.{AtEach, IsUnforged};
+ghost use Rattle.turn_runs.specs.Runs.{AtEach, IsUnforged, NoForgery};
 ghost use Rattle.turn_runs_small.specs.Handshakes.{Addresses};
-ghost use Rattle.turn_runs_small.specs.Rounds.{HoldsOneOfEach, idle, rounds};
+ghost use Rattle.turn_runs_small.specs.AnyRealm.{NoForgeryInAnyRealm};
+ghost use Rattle.turn_runs_small.specs.Rounds.{HoldsOneOfEach, fresh, idle, rounds};
 ghost use Rattle.turn_runs_small.specs.SmallWords.{small};
 ghost use Rattle.turn_runs_small.specs.Ungranted.{AreSafe, IsBound, IsJoined, forget, holds_ungranted, shows_channel, shows_connection, shows_ungranted, tells_twice};
 
@@ -25,20 +26,31 @@ ghost use Rattle.turn_runs_small.specs.Ungranted.{AreSafe, IsBound, IsJoined, fo
 /// Of the client's numbers sixteen differ; then the first comes again.
 pub fn handshakes_are_unforged()
     ensures unforged { (a : Addresses) (n : ℕ) → n ≤ 16
-        → IsUnforged (small a) (idle 0) (rounds a n) (idle n) }
+        → IsUnforged (small a) fresh (rounds a n) (idle n) }
     ensures held { (a : Addresses) → HoldsOneOfEach a (idle 5) }
     ensures safe { (a : Addresses) (n : ℕ) → n ≤ 16
-        → AtEach (IsSafe (small a) (idle 0) (idle n)) (rounds a n) }
+        → AtEach (IsSafe (small a) fresh (idle n) (rounds a n)) (rounds a n) }
     ensures once { (a : Addresses) (n : ℕ) → n ≤ 16
         → AnswersOnce (small a) (rounds a n) }
     ensures shown { (a : Addresses) (n : ℕ) → n ≤ 16
         → AtEach (ShowsTraced (small a)) (rounds a n) }
 {}
 
+/// Of any such run, whatever number of numbers counts, nothing is forged: keys of the realms that a challenge or
+/// the desk names validate only what was signed under them, though one challenge is forged and names a
+/// realm that is not the desk's. But as soon as one request was answered there is a key of a realm that
+/// nobody ever named under which the answer validates too, and nobody signed it under that key: a digest
+/// is one of sixteen. So a premise that speaks of keys in every realm is false of each such run.
+pub fn only_named_realms_count()
+    ensures met { (a : Addresses) (n count : ℕ) → NoForgery (small a) fresh count (rounds a n) }
+    ensures wider { (a : Addresses) (n count : ℕ)
+        → 1 ≤ n → NoForgeryInAnyRealm (small a) fresh count (rounds a n) → ⊥ }
+{}
+
 /// Of such a run there is an account of which the promise stands, however many requests it has. Behind more
 /// than sixteen a number has come twice, and what is promised says nothing.
 pub fn handshakes_meet_an_account()
-    ensures { (a : Addresses) (n : ℕ) → AreSafe a (map forget (rounds a n)) }
+    ensures { (a : Addresses) (n : ℕ) → AreSafe a fresh (map forget (rounds a n)) }
 {}
 
 /// Three runs have no account of which the promise stands, whatever it says of how many numbers the client
@@ -55,14 +67,14 @@ pub fn handshakes_meet_an_account()
 ///
 /// That a step is one by the contracts is no part of it: the promise alone rules these runs out.
 pub fn nothing_ungranted_meets_an_account()
-    ensures held { (a : Addresses) → AreSafe a (holds_ungranted a) → ⊥ }
-    ensures told { (a : Addresses) → AreSafe a (tells_twice a) → ⊥ }
-    ensures shown { (a : Addresses) → AreSafe a (shows_ungranted a) → ⊥ }
+    ensures held { (a : Addresses) → AreSafe a (idle 0) (holds_ungranted a) → ⊥ }
+    ensures told { (a : Addresses) → AreSafe a (idle 0) (tells_twice a) → ⊥ }
+    ensures shown { (a : Addresses) → AreSafe a (idle 0) (shows_ungranted a) → ⊥ }
     ensures channels { (a : Addresses) (n number : ℕ) (peer : SocketAddr) → n ≤ 16
-        → AreSafe a (shows_channel a n number peer) ↔ IsBound a n number peer }
+        → AreSafe a fresh (shows_channel a n number peer) ↔ IsBound a n number peer }
     ensures connections { (a : Addresses) (n : ℕ) (local : SocketAddr) (number : ℕ)
-        (peer : SocketAddr) → n ≤ 16 → AreSafe a (shows_connection a n local number peer)
+        (peer : SocketAddr) → n ≤ 16 → AreSafe a fresh (shows_connection a n local number peer)
         → IsJoined a n number peer }
     ensures joined { (a : Addresses) (n : ℕ) → 5 ≤ n
-        → AreSafe a (shows_connection a n a.local 7 a.peer) }
+        → AreSafe a fresh (shows_connection a n a.local 7 a.peer) }
 {}
