@@ -6,7 +6,7 @@ use Rattle.turn_runs.specs.Names.{SocketAddr, IntegrityAlgorithm, Request, Indic
 use Rattle.turn_types.specs.TurnRegistry.{connection_attempt_method}
 use Rattle.turn_runs.specs.Words.{Words, WireLaws}
 use Rattle.turn_runs.specs.Steps.{Call, Told, told_for, IsOwnKey, Arrives, IsAnswered, IsTried, WasKnown, ClientStep, Grants, DeskStep}
-use Rattle.turn_runs.specs.Runs.{Step, AtClient, AtDesk, AtSome, AtEach, IsLawful, IsSignedByClient, IsSignedByDesk, IsSigned, WasSigned, HasNumber, AreDistinct, IsAuthentic, IsKeyOf, IsRealmOf, NamesRealm}
+use Rattle.turn_runs.specs.Runs.{Step, AtClient, AtDesk, AtSome, AtEach, IsLawful, IsSignedByClient, IsSignedByDesk, IsSigned, WasSigned, HasNumber, AreDistinct, IsAuthentic, IsForClient, IsKeyOf, IsRealmOf, NamesRealm}
 use Rattle.turn_runs.specs.Headline.{DrawsSame, IsGrantedAt, TracedBy, IsConnected, TracedWith, Traced, AnswersGranted}
 use Rattle.turn_runs.proofs.Tools.{in_either, in_left, in_right, none_twice, none_parts, map_joined, Parts, in_parts, both_at, some_weaker, each_weaker, from_some}
 use Rattle.turn_runs.proofs.Grants.{granted_is, brings_by, brings_response, response_no_request, response_no_indication, request_no_indication}
@@ -20,7 +20,7 @@ module _ {C D : Type 0} (W : Words C D) where
   DrewWell all (AtDesk d) = Unit {0}
 
   -- what is known of a client behind the run so far, which is the old part of the whole run
-  pub record Kept (first : C) (whole run : List (Step C D)) (c : C) : Type 0 where
+  pub record Kept (first : C) (count : ℕ) (whole run : List (Step C D)) (c : C) : Type 0 where
     pub account : W.client.account c ≡ W.client.account first
     pub seed : W.client.seed c ≡ W.client.seed first
     -- the requests that the client has made
@@ -38,9 +38,9 @@ module _ {C D : Type 0} (W : Words C D) where
     -- the realm that is kept counts, and so does one that a challenge names which waits in buffers
     pub realm : (r : List ℕ) → W.client.realm c ≡ Some r → IsRealmOf W first whole r
     pub buffered_realm : (bytes r : List ℕ) → W.client.IsBuffered c bytes → W.wire.told_realm bytes ≡ Some r → IsRealmOf W first whole r
-    -- what waits in buffers and validates was signed
-    pub buffered : (bytes key text : List ℕ) (a : IntegrityAlgorithm) → W.client.IsBuffered c bytes → IsKeyOf W first whole a key →
-        W.wire.Validates bytes key a text → WasSigned W key a text run
+    -- what waits in buffers, validates and is for the client was signed
+    pub buffered : (bytes key text : List ℕ) (a : IntegrityAlgorithm) (m : Message) → W.client.IsBuffered c bytes → IsKeyOf W first whole a key →
+        W.wire.Validates bytes key a text → W.wire.shown bytes ≡ Some m → IsForClient W first count m → WasSigned W key a text run
     -- what waits to be told as created, and what was told, with the numbers of the requests that were answered
     pub pending : List Told
     pub pending_is : map (λ t. t.notice) pending ≡ W.client.created c
@@ -181,7 +181,7 @@ module _ {C D : Type 0} (W : Words C D) where
     with_later s earlier t h = (inr h.0, connected_later s earlier t.held h.1)
 
     module _ (first : C) (count : ℕ) (distinct : AreDistinct W (W.client.seed first) count) (whole earlier : List (Step C D)) (call : Call C)
-        (named : (r : List ℕ) → NamesRealm W r (AtClient call) → IsRealmOf W first whole r) (kept : Kept first whole earlier call.before) (step : ClientStep W.client call)
+        (named : (r : List ℕ) → NamesRealm W r (AtClient call) → IsRealmOf W first whole r) (kept : Kept first count whole earlier call.before) (step : ClientStep W.client call)
         (lawful : AtEach (λ s _. IsLawful W s) earlier) (no_forgery : AtEach (IsAuthentic W first count whole) earlier)
         (authentic : IsAuthentic W first count whole (AtClient call) earlier) (fits : W.client.count call.after ≤ count) where
       begun_at : AreAt (W.wire.number (W.client.seed first)) (W.client.count call.before) (W.client.count call.after) step.begun
@@ -226,16 +226,16 @@ module _ {C D : Type 0} (W : Words C D) where
       past : AtEach (IsPast first count whole kept.all) earlier
       past = past_of first count whole kept.all earlier no_forgery kept.drew lawful
 
-      -- what is taken up was signed before
-      pub handled_signed : (bytes key text : List ℕ) (a : IntegrityAlgorithm) → IsIn bytes call.handled → IsKeyOf W first whole a key →
-          W.wire.Validates bytes key a text → WasSigned W key a text earlier
-      handled_signed bytes key text a i own valid = elim (step.handles bytes i) [
-        | inl came ↦ authentic bytes key text a came own valid
-        | inr b ↦ kept.buffered bytes key text a b own valid
+      -- what is taken up and is for the client was signed before
+      pub handled_signed : (bytes key text : List ℕ) (a : IntegrityAlgorithm) (m : Message) → IsIn bytes call.handled → IsKeyOf W first whole a key →
+          W.wire.Validates bytes key a text → W.wire.shown bytes ≡ Some m → IsForClient W first count m → WasSigned W key a text earlier
+      handled_signed bytes key text a m i own valid shows for_it = elim (step.handles bytes i) [
+        | inl came ↦ authentic bytes key text a m came own valid shows for_it
+        | inr b ↦ kept.buffered bytes key text a m b own valid shows for_it
       ]
 
-      was_signed : (bytes : List ℕ) (m : Message) (a : Arrives W.client call bytes m) → WasSigned W a.key a.algorithm a.text earlier
-      was_signed bytes m a = handled_signed bytes a.key a.text a.algorithm a.handled (own_key a.algorithm a.key a.own) a.valid
+      was_signed : (bytes : List ℕ) (m : Message) (a : Arrives W.client call bytes m) → IsForClient W first count m → WasSigned W a.key a.algorithm a.text earlier
+      was_signed bytes m a for_it = handled_signed bytes a.key a.text a.algorithm m a.handled (own_key a.algorithm a.key a.own) a.valid a.shows for_it
 
       answer_here : (gain : Gain) (number : ℕ) → IsAnswered W.client call step.begun gain number →
           AtSome (λ s before. IsGrantedAt W number gain s before × ((m : Message) × IsIn m kept.all × (m.number ≡ number))) earlier
@@ -255,7 +255,8 @@ module _ {C D : Type 0} (W : Words C D) where
           r.valid r.shows a.number_is a.brings own (fitting number has) asks s before
           (by_desk kept.all kept.requests a.bytes r.key r.text r.algorithm a.response r.valid r.shows (brings_response a.response gain a.brings) s h.1.1 h.0)
           h.1 h.2)
-          earlier (both_at (IsPast first count whole kept.all) (λ s _. IsSigned W r.key r.algorithm r.text s) earlier past (was_signed a.bytes a.response r))
+          earlier (both_at (IsPast first count whole kept.all) (λ s _. IsSigned W r.key r.algorithm r.text s) earlier past
+          (was_signed a.bytes a.response r (inl (subst (HasNumber W (W.client.seed first) count) (sym a.number_is) (fitting number has)))))
 
       answer_traced : (gain : Gain) (number : ℕ) → IsAnswered W.client call step.begun gain number → TracedBy W earlier number gain
       answer_traced gain number a = some_weaker _ (IsGrantedAt W number gain) (λ s before h. h.0) earlier (answer_here gain number a)
@@ -268,7 +269,7 @@ module _ {C D : Type 0} (W : Words C D) where
       never_tried : IsTried W.client call → ⊥
       never_tried t =
           let r = t.arrives in
-          let signed = was_signed t.bytes t.attempt r in
+          let signed = was_signed t.bytes t.attempt r (inr (t.class_is, t.method_is)) in
           from_some _ ⊥
           (λ s before h. (let i = (by_client kept.all t.bytes r.key r.text r.algorithm t.attempt r.valid r.shows t.class_is s h.1.1 h.1.2 h.0).2 in
           (kept.requests t.attempt i).1 t.method_is))
@@ -376,7 +377,7 @@ module _ {C D : Type 0} (W : Words C D) where
         ]
       ]
 
-      pub keeps_call : Kept first whole (AtClient call ∷ earlier) call.after
+      pub keeps_call : Kept first count whole (AtClient call ∷ earlier) call.after
       keeps_call = record {
         account = step.account ∙ kept.account;
         seed = step.seed ∙ kept.seed;
@@ -435,9 +436,9 @@ module _ {C D : Type 0} (W : Words C D) where
           | inl came ↦ named r (bytes, came, told)
           | inr old ↦ kept.buffered_realm bytes r old told
         ];
-        buffered = λ bytes key text a b own valid. elim (step.buffers bytes b) [
-          | inl came ↦ inr (authentic bytes key text a came own valid)
-          | inr old ↦ inr (kept.buffered bytes key text a old own valid)
+        buffered = λ bytes key text a m b own valid shows for_it. elim (step.buffers bytes b) [
+          | inl came ↦ inr (authentic bytes key text a m came own valid shows for_it)
+          | inr old ↦ inr (kept.buffered bytes key text a m old own valid shows for_it)
         ];
         pending = parts.back;
         pending_is = parts.back_is;

@@ -9,7 +9,7 @@ use Rattle.turn_runs.proofs.Numbers.{numbered_growing}
 use Rattle.turn_runs.proofs.Keeps.{Kept, DrewWell, not_own, by_desk, past_of, request_drawn, traced_later, with_later, handled_signed, keeps_call}
 
 module _ {C D : Type 0} (W : Words C D) (laws : WireLaws W.wire) (first last : C) (whole : List (Step C D)) (distinct : AreDistinct W (W.client.seed first) (W.client.count last)) where
-  keeps_desk : (earlier : List (Step C D)) (d : D) (c : C) → Kept W first whole earlier c → Kept W first whole (AtDesk d ∷ earlier) c
+  keeps_desk : (earlier : List (Step C D)) (d : D) (c : C) → Kept W first (W.client.count last) whole earlier c → Kept W first (W.client.count last) whole (AtDesk d ∷ earlier) c
   keeps_desk earlier d c kept = record {
     account = kept.account;
     seed = kept.seed;
@@ -26,7 +26,7 @@ module _ {C D : Type 0} (W : Words C D) (laws : WireLaws W.wire) (first last : C
     waits = λ number peer w. let h = kept.waits number peer w in (h.0, inr h.1);
     realm = kept.realm;
     buffered_realm = kept.buffered_realm;
-    buffered = λ bytes key text a b own valid. inr (kept.buffered bytes key text a b own valid);
+    buffered = λ bytes key text a m b own valid shows for_it. inr (kept.buffered bytes key text a m b own valid shows for_it);
     pending = kept.pending;
     pending_is = kept.pending_is;
     pending_traced = λ t i. with_later W laws (AtDesk d) earlier t (kept.pending_traced t i);
@@ -39,7 +39,7 @@ module _ {C D : Type 0} (W : Words C D) (laws : WireLaws W.wire) (first last : C
     gone = kept.gone;
   }
 
-  safe_desk : (earlier : List (Step C D)) (d : D) (c : C) → Kept W first whole earlier c → DeskStep W.wire W.desk d →
+  safe_desk : (earlier : List (Step C D)) (d : D) (c : C) → Kept W first (W.client.count last) whole earlier c → DeskStep W.wire W.desk d →
       AtEach (λ s _. IsLawful W s) earlier → AtEach (IsAuthentic W first (W.client.count last) whole) earlier → IsAuthentic W first (W.client.count last) whole (AtDesk d) earlier →
       IsSafe W first last whole (AtDesk d) earlier
   safe_desk earlier d c kept step lawful no_forgery authentic = record {
@@ -58,14 +58,14 @@ module _ {C D : Type 0} (W : Words C D) (laws : WireLaws W.wire) (first last : C
     names = tt;
   }
 
-  safe_call : (earlier : List (Step C D)) (call : Call C) → ((r : List ℕ) → NamesRealm W r (AtClient call) → IsRealmOf W first whole r) → Kept W first whole earlier call.before → (step : ClientStep W.client call) →
+  safe_call : (earlier : List (Step C D)) (call : Call C) → ((r : List ℕ) → NamesRealm W r (AtClient call) → IsRealmOf W first whole r) → Kept W first (W.client.count last) whole earlier call.before → (step : ClientStep W.client call) →
       AtEach (λ s _. IsLawful W s) earlier → AtEach (IsAuthentic W first (W.client.count last) whole) earlier → IsAuthentic W first (W.client.count last) whole (AtClient call) earlier → W.client.count call.after ≤ W.client.count last →
-      Kept W first whole (AtClient call ∷ earlier) call.after → IsSafe W first last whole (AtClient call) earlier
+      Kept W first (W.client.count last) whole (AtClient call ∷ earlier) call.after → IsSafe W first last whole (AtClient call) earlier
   safe_call earlier call named kept step lawful no_forgery authentic fits after = record {
-    desks = λ bytes key text a m came own valid shows responds.
+    desks = λ bytes key text a m came own valid shows responds has.
         some_weaker _ (λ one _. IsSignedByDesk W key a text one)
         (λ one before h. by_desk W laws kept.all kept.requests bytes key text a m valid shows responds one h.1 h.0)
-        earlier (both_at (λ s _. DrewWell W kept.all s) (λ one _. IsSigned W key a text one) earlier kept.drew (handled_signed W laws first (W.client.count last) distinct whole earlier call named kept step lawful no_forgery authentic fits bytes key text a came own valid));
+        earlier (both_at (λ s _. DrewWell W kept.all s) (λ one _. IsSigned W key a text one) earlier kept.drew (handled_signed W laws first (W.client.count last) distinct whole earlier call named kept step lawful no_forgery authentic fits bytes key text a m came own valid shows (inl has)));
     realms = kept.realm;
     clients = tt;
     reflects = λ bytes key text a m came valid shows responds signed.
@@ -78,9 +78,9 @@ module _ {C D : Type 0} (W : Words C D) (laws : WireLaws W.wire) (first last : C
   -- of the old part of the whole run, whose steps name no realm that doesn't count
   safe_from : IsNew W first → (run : List (Step C D)) (c : C) → Leads first run c → AtEach (λ s _. IsLawful W s) run → AtEach (IsAuthentic W first (W.client.count last) whole) run →
       ((r : List ℕ) → AtSome (λ s _. NamesRealm W r s) run → IsRealmOf W first whole r) →
-      W.client.count c ≤ W.client.count last → Kept W first whole run c × AtEach (IsSafe W first last whole) run
+      W.client.count c ≤ W.client.count last → Kept W first (W.client.count last) whole run c × AtEach (IsSafe W first last whole) run
   safe_from new [] c leads lawful no_forgery named fits = (
-    subst (λ (x : C). Kept W first whole [] x) (sym leads) (record {
+    subst (λ (x : C). Kept W first (W.client.count last) whole [] x) (sym leads) (record {
       account = refl;
       seed = refl;
       all = [];
@@ -96,7 +96,7 @@ module _ {C D : Type 0} (W : Words C D) (laws : WireLaws W.wire) (first last : C
       waits = λ number peer w. absurd (new.none_waits number peer w);
       realm = λ r is. inl is;
       buffered_realm = λ bytes r b told. absurd (new.none_buffered bytes b);
-      buffered = λ bytes key text a b own valid. absurd (new.none_buffered bytes b);
+      buffered = λ bytes key text a m b own valid shows for_it. absurd (new.none_buffered bytes b);
       pending = [];
       pending_is = sym new.none_created;
       pending_traced = λ t i. absurd i;
@@ -122,9 +122,9 @@ module _ {C D : Type 0} (W : Words C D) (laws : WireLaws W.wire) (first last : C
       let grows = numbered_growing W.client call.before (W.client.count call.before) (W.client.count call.after) [] step.begun step.numbered in
       let h = safe_from new earlier call.before leads.1 lawful.1 no_forgery.1 (λ r n. named r (inr n)) (omega (arith, grows, there)) in
       let here : (r : List ℕ) → NamesRealm W r (AtClient call) → IsRealmOf W first whole r = λ r n. named r (inl n) in
-      let kept : Kept W first whole earlier call.before = h.0 in
+      let kept : Kept W first (W.client.count last) whole earlier call.before = h.0 in
       let after = keeps_call W laws first (W.client.count last) distinct whole earlier call here kept step lawful.1 no_forgery.1 no_forgery.0 there in (
-        subst (λ (x : C). Kept W first whole (AtClient call ∷ earlier) x) (sym leads.0) after,
+        subst (λ (x : C). Kept W first (W.client.count last) whole (AtClient call ∷ earlier) x) (sym leads.0) after,
         (safe_call earlier call here kept step lawful.1 no_forgery.1 no_forgery.0 there after, h.1),
       )
 

@@ -62,14 +62,16 @@ module _ {C D : Type 0} (W : Words C D) where
       × ((h : Held) × NamesHeld p h × W.client.IsKept call.after h × Traced (AtClient call ∷ earlier) h)
   NamesTraced (AtDesk d) earlier = Unit {0}
 
-  -- a response that the client takes up and that validates with a key of the client's that counts in
-  -- the whole run was signed by the desk
-  abbrev pub TakesDesks : (first : C) → (whole : List (Step C D)) → Step C D → List (Step C D) → Type 0
-  TakesDesks first whole (AtClient call) earlier =
+  -- a response that the client takes up, that has one of its transaction IDs and that validates with a key of
+  -- the client's that counts in the whole run was signed by the desk. All that the client gains answers a
+  -- request of its own (`GrantsInAnswer`), so a response with another transaction ID brings it nothing
+  abbrev pub TakesDesks : (first last : C) → (whole : List (Step C D)) → Step C D → List (Step C D) → Type 0
+  TakesDesks first last whole (AtClient call) earlier =
       (bytes key text : List ℕ) (a : IntegrityAlgorithm) (m : Message) → IsIn bytes call.handled →
       IsKeyOf W first whole a key → W.wire.Validates bytes key a text → W.wire.shown bytes ≡ Some m →
-      IsResponse m.class → AtSome (λ one _. IsSignedByDesk W key a text one) earlier
-  TakesDesks first whole (AtDesk d) earlier = Unit {0}
+      IsResponse m.class → HasNumber W (W.client.seed first) (W.client.count last) m.number →
+      AtSome (λ one _. IsSignedByDesk W key a text one) earlier
+  TakesDesks first last whole (AtDesk d) earlier = Unit {0}
 
   -- a request that the desk validates with such a key, and that has one of the client's numbers, was
   -- signed by the client
@@ -97,7 +99,7 @@ module _ {C D : Type 0} (W : Words C D) where
   TakesNoReflection (AtDesk d) earlier = Unit {0}
 
   pub record IsSafe (first last : C) (whole : List (Step C D)) (s : Step C D) (earlier : List (Step C D)) : Type 0 where
-    pub desks : TakesDesks first whole s earlier
+    pub desks : TakesDesks first last whole s earlier
     pub realms : KeepsRealm first whole s
     pub clients : TakesClients first last whole s earlier
     pub reflects : TakesNoReflection s earlier

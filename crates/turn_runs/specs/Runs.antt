@@ -1,7 +1,7 @@
 -- Runs of a client and a desk, the newest step first: behind each stand those that came before it.
 use Rattle.std.specs.Prelude.{◌≡◌, ◌≢◌, ◌⊎◌, ℕ, ◌+◌, ◌<◌, List, [], ◌∷◌, Some}
 use Rattle.turn_runs.specs.Members.{IsIn}
-use Rattle.turn_runs.specs.Messages.{Message, Held}
+use Rattle.turn_runs.specs.Messages.{Message, Held, IsAttempt}
 use Rattle.turn_runs.specs.Names.{SocketAddr, IntegrityAlgorithm}
 use Rattle.turn_runs.specs.Words.{Words}
 use Rattle.turn_runs.specs.Steps.{Call, ClientStep, DeskStep}
@@ -87,12 +87,20 @@ module _ {C D : Type 0} (W : Words C D) where
   abbrev pub AreDistinct : (seed : W.wire.Seed) → (count : ℕ) → Type 0
   AreDistinct seed count = (i j : ℕ) → i < j → j < count → W.wire.number seed i ≢ W.wire.number seed j
 
-  -- at a step of the whole run: what arrives at the client, or at the desk with a number of the
-  -- client's, and validates with a key that counts in the run was signed before
+  -- a message that the client may act on once it validates: it has one of the client's transaction IDs, or it
+  -- is a CONNECTION_ATTEMPT. What was signed in another run of the same account, and is replayed, has
+  -- the transaction IDs of that run
+  abbrev pub IsForClient : (first : C) → (count : ℕ) → Message → Type 0
+  IsForClient first count m = HasNumber (W.client.seed first) count m.number ⊎ IsAttempt m
+
+  -- at a step of the whole run: a message that validates with a key that counts in the run was signed
+  -- before, where it arrives at the client and is for the client, or arrives at the desk with one of the
+  -- client's transaction IDs
   abbrev pub IsAuthentic : (first : C) → (count : ℕ) → (whole : List (Step C D)) → Step C D → List (Step C D) → Type 0
   IsAuthentic first count whole (AtClient call) earlier =
-      (bytes key text : List ℕ) (a : IntegrityAlgorithm) → IsIn bytes call.came → IsKeyOf first whole a key →
-      W.wire.Validates bytes key a text → WasSigned key a text earlier
+      (bytes key text : List ℕ) (a : IntegrityAlgorithm) (m : Message) → IsIn bytes call.came →
+      IsKeyOf first whole a key → W.wire.Validates bytes key a text → W.wire.shown bytes ≡ Some m →
+      IsForClient first count m → WasSigned key a text earlier
   IsAuthentic first count whole (AtDesk d) earlier =
       (key text : List ℕ) (a : IntegrityAlgorithm) (m : Message) → IsKeyOf first whole a key →
       W.wire.Validates (W.desk.request d) key a text → W.wire.shown (W.desk.request d) ≡ Some m →

@@ -84,8 +84,8 @@ module _ (a : Addresses) where
   authentic_alike count whole others keys [] [] same all = tt
   authentic_alike count whole others keys (AtClient c ∷ run) (AtClient d ∷ other) same all =
       let call_is : forget_call c ≡ forget_call d = cc in (
-        (λ bytes key text b i own v.
-            signed_alike key b text run other (cc) (all.0 bytes key text b (subst (IsIn bytes) (ap (λ (x : Call Core). x.came) call_is) i) (keys b key own) v)),
+        (λ bytes key text b m i own v shows for_it.
+            signed_alike key b text run other (cc) (all.0 bytes key text b m (subst (IsIn bytes) (ap (λ (x : Call Core). x.came) call_is) i) (keys b key own) v shows for_it)),
         authentic_alike count whole others keys run other (cc) all.1,
       )
   authentic_alike count whole others keys (AtDesk c ∷ run) (AtDesk d ∷ other) same all =
@@ -173,7 +173,7 @@ module _ (a : Addresses) where
       let drawn : last.drawn ≤ 16 =
       omega (arith, few, counts, all_counted, given_alike earlier (rounds a n) before, none_given n, ap (λ (x : Call Core). given_by x.before x.after) gets_is) in
       let unforged : NoForgery (small a) fresh last.drawn (AtClient gets ∷ earlier) = (
-        (λ bytes key text b i own v. absurd (subst (IsIn bytes) (ap (λ (x : Call Core). x.came) gets_is) i)),
+        (λ bytes key text b m i own v shows for_it. absurd (subst (IsIn bytes) (ap (λ (x : Call Core). x.came) gets_is) i)),
         authentic_alike last.drawn (AtClient gets ∷ earlier) (rounds a n) (key_alike gets earlier (rounds a n) (ap (λ (x : Call Core). x.came) gets_is) before)
             earlier (rounds a n) before (authentic a last.drawn n),
       ) in

@@ -379,29 +379,29 @@ module _ (a : Addresses) where
       ((b : IntegrityAlgorithm) (key : List ℕ) → IsKeyOf (small a) fresh whole b key → digest_under key ≡ digest_under home → key ≡ home) →
       (n : ℕ) → AtEach (IsAuthentic (small a) fresh count whole) (rounds a n)
   authentic_on count whole keys zero = (
-    (λ bytes key text b i own v. absurd (no_digest 0 bytes i v.2)),
-    ((λ bytes key text b i own v. absurd (no_digest 1 bytes i v.2)), tt),
+    (λ bytes key text b m i own v shows for_it. absurd (no_digest 0 bytes i v.2)),
+    ((λ bytes key text b m i own v shows for_it. absurd (no_digest 1 bytes i v.2)), tt),
   )
   authentic_on count whole keys (suc n) = (
-    (λ bytes key text b i own v. elim i [
+    (λ bytes key text b m i own v shows for_it. elim i [
       | inl e ↦ inr (inr (inr (inr (inl (inl (0 ∷ n ∷ [], refl, (v.0 ∙ sym e, v.1, tt)))))))
       | inr none ↦ absurd none
     ]),
     (
-      (λ bytes key text b i own v. elim i [
+      (λ bytes key text b m i own v shows for_it. elim i [
         | inl e ↦ inr (inr (inl (inr (1 ∷ n ∷ [], refl, v.0 ∙ sym e, keys b key own v.1))))
         | inr none ↦ absurd none
       ]),
       (
-        (λ bytes key text b i. absurd i),
+        (λ bytes key text b m i. absurd i),
         (
-          (λ bytes key text b i own v. elim i [
+          (λ bytes key text b m i own v shows for_it. elim i [
             | inl e ↦ inl (inr (1 ∷ n ∷ [], refl, v.0 ∙ sym e, keys b key own v.1))
             | inr none ↦ absurd none
           ]),
           (
             (λ key text b m own v shows has. inl (inl (0 ∷ n ∷ [], refl, v))),
-            ((λ bytes key text b i. absurd i), authentic_on count whole keys n),
+            ((λ bytes key text b m i. absurd i), authentic_on count whole keys n),
           ),
         ),
       ),

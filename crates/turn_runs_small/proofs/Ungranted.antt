@@ -40,8 +40,8 @@ module _ (a : Addresses) where
       let asks_is : forget_call asks ≡ record (quiet (Idle 0) (Waiting 0)) { drawn = Some (0 ∷ 0 ∷ []) } = cc in
       let few : last.drawn ≤ 16 = omega (arith, counted, given_in_call takes _ takes_is, given_in_call asks _ asks_is) in
       let authentic : NoForgery (small a) (idle 0) last.drawn (AtClient takes ∷ AtClient asks ∷ []) = (
-        (λ bytes key text b i own v. absurd (subst (IsIn bytes) (ap (λ (x : Call Core). x.came) takes_is) i)),
-        ((λ bytes key text b i own v. absurd (subst (IsIn bytes) (ap (λ (x : Call Core). x.came) asks_is) i)), tt),
+        (λ bytes key text b m i own v shows for_it. absurd (subst (IsIn bytes) (ap (λ (x : Call Core). x.came) takes_is) i)),
+        ((λ bytes key text b m i own v shows for_it. absurd (subst (IsIn bytes) (ap (λ (x : Call Core). x.came) asks_is) i)), tt),
       ) in
       let holds : (small a).client.IsHeld takes.after (Allocation Tcp a.relayed) =
       subst (λ (x : Core). (small a).client.IsHeld (record { core = x; drawn = 0 }) (Allocation Tcp a.relayed)) (sym (ap (λ (x : Call Core). x.after) takes_is)) (inl refl) in
@@ -65,7 +65,7 @@ module _ (a : Addresses) where
       let gets_is : forget_call gets ≡ record (quiet (Idle 0) (Idle 0)) { shown = Allocation Tcp a.relayed ∷ [] } = cc in
       let few : last.drawn ≤ 16 = omega (arith, counted, given_in_call gets _ gets_is) in
       let authentic : NoForgery (small a) (idle 0) last.drawn (AtClient gets ∷ []) =
-      ((λ bytes key text b i own v. absurd (subst (IsIn bytes) (ap (λ (x : Call Core). x.came) gets_is) i)), tt) in
+      ((λ bytes key text b m i own v shows for_it. absurd (subst (IsIn bytes) (ap (λ (x : Call Core). x.came) gets_is) i)), tt) in
       let listed : IsIn (Allocation Tcp a.relayed) gets.shown =
       subst (IsIn (Allocation Tcp a.relayed)) (sym (ap (λ (x : Call Core). x.shown) gets_is)) (inl refl) in
       elim ((shown authentic (distinct a last.drawn few)).0 (Allocation Tcp a.relayed) listed).1.0 [
@@ -114,15 +114,15 @@ module _ (a : Addresses) where
   round_authentic : (count d : ℕ) (again takes asks : Call Client) → d ≡ 0 → again.came ≡ [] → takes.came ≡ (1 ∷ 0 ∷ []) ∷ [] → asks.came ≡ [] →
       asks.drawn ≡ Some (0 ∷ 0 ∷ []) → NoForgery (small a) (idle 0) count (AtClient again ∷ AtClient takes ∷ AtDesk d ∷ AtClient asks ∷ [])
   round_authentic count d again takes asks is none_again one none_asked drawn = (
-    (λ bytes key text b i own v. absurd (subst (IsIn bytes) none_again i)),
+    (λ bytes key text b m i own v shows for_it. absurd (subst (IsIn bytes) none_again i)),
     (
-      (λ bytes key text b i own v. elim (subst (IsIn bytes) one i) [
+      (λ bytes key text b m i own v shows for_it. elim (subst (IsIn bytes) one i) [
         | inl e ↦ inl (inr (1 ∷ d ∷ [], refl, v.0 ∙ (sym e ∙ ap (λ n. 1 ∷ n ∷ []) (sym is)), round_home d again takes asks none_again one none_asked b key own))
         | inr none ↦ absurd none
       ]),
       (
         (λ key text b m own v shows has. inl (inl (0 ∷ d ∷ [], drawn ∙ ap (λ n. Some (0 ∷ n ∷ [])) (sym is), v))),
-        ((λ bytes key text b i own v. absurd (subst (IsIn bytes) none_asked i)), tt),
+        ((λ bytes key text b m i own v shows for_it. absurd (subst (IsIn bytes) none_asked i)), tt),
       ),
     ),
   )
