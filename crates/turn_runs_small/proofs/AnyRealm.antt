@@ -5,12 +5,9 @@ use Rattle.turn_runs.specs.Runs.{Step, AtClient, AtDesk, AtSome, IsSignedByClien
 use Rattle.turn_runs.specs.Steps.{Call}
 use Rattle.turn_runs_small.specs.AnyRealm.{IsSignedByDeskAnyhow, NoForgeryInAnyRealm}
 use Rattle.turn_runs_small.specs.Handshakes.{Addresses}
-use Rattle.turn_runs_small.specs.Rounds.{asks_next, fresh, hears, hears_challenge, hears_forged, rounds, shows_all, takes_next}
+use Rattle.turn_runs_small.specs.Rounds.{asks_next, fresh, rounds}
 use Rattle.turn_runs_small.specs.SmallWords.{Client, small}
-
-abbrev first_of : List ℕ → ℕ
-first_of [] = 0
-first_of (n ∷ rest) = n
+use Rattle.turn_runs_small.proofs.Unsigned.{first_of, signed_nowhere}
 
 -- the key of a realm that nobody named, under which digests are those under the desk's key
 abbrev strange : List ℕ
@@ -43,41 +40,16 @@ module _ (a : Addresses) where
   no_desk : (k m : ℕ) → IsSignedHere k (AtDesk m) → ⊥
   no_desk k m signed = elim signed [
     | inl c ↦ c
-    | inr d ↦ (let no : 16 ≡ 0 = ap first_of d.3.1 in omega (arith, no))
+    | inr d ↦ (let no : 16 ≡ 0 = ap first_of d.3.1.1 in omega (arith, no))
   ]
 
   never_signed : (m k : ℕ) → AtSome (λ s _. IsSignedHere k s) (rounds a m) → ⊥
-  never_signed zero k some = elim some [
-    | inl s ↦ no_draw k hears_challenge refl s
-    | inr more1 ↦ elim more1 [
-      | inl s ↦ no_draw k hears_forged refl s
-      | inr none ↦ none
-    ]
-  ]
-  never_signed (suc m) k some = elim some [
-    | inl s ↦ no_draw k (hears (suc m) (0 ∷ m ∷ [])) refl s
-    | inr more2 ↦ elim more2 [
-      | inl s ↦ no_draw k (hears (suc m) (1 ∷ m ∷ [])) refl s
-      | inr more3 ↦ elim more3 [
-        | inl s ↦ no_draw k (shows_all a (suc m)) refl s
-        | inr more4 ↦ elim more4 [
-          | inl s ↦ no_draw k (takes_next a m) refl s
-          | inr more5 ↦ elim more5 [
-            | inl s ↦ no_desk k m s
-            | inr more6 ↦ elim more6 [
-              | inl s ↦ no_request k m s
-              | inr before ↦ never_signed m k before
-            ]
-          ]
-        ]
-      ]
-    ]
-  ]
+  never_signed m k some = signed_nowhere a (λ s. IsSignedHere k s) (no_draw k) (no_request k) (no_desk k) m some
 
   pub wider_fails : (n count : ℕ) → 1 ≤ n → NoForgeryInAnyRealm (small a) fresh count (rounds a n) → ⊥
   wider_fails zero count le all = omega (arith, le)
   wider_fails (suc n) count le all =
-      elim (all.1.1.1.0 (1 ∷ n ∷ []) strange (1 ∷ n ∷ []) Sha1 (inl refl) (strange, Sha1, refl) (refl, refl, tt)) [
+      elim (all.1.1.1.0 (1 ∷ n ∷ []) strange (1 ∷ n ∷ []) Sha1 (inl refl) (strange, Sha1, refl) (refl, refl, refl)) [
         | inl s ↦ no_desk n n s
         | inr more7 ↦ elim more7 [
           | inl s ↦ no_request n n s

@@ -92,7 +92,7 @@ module _ (a : Addresses) where
       let is : c ≡ d = cc in (
         (λ key text b m own v shows has.
             signed_alike key b text run other (cc) (all.0 key text b m (keys b key own)
-            (v.0 ∙ ap (λ (n : ℕ). 0 ∷ n ∷ []) is, v.1, tt) (ap (λ (n : ℕ). Some (request_at a n)) (sym is) ∙ shows) has)),
+            (v.0 ∙ ap (λ (n : ℕ). 0 ∷ n ∷ []) is, v.1, v.2) (ap (λ (n : ℕ). Some (request_at a n)) (sym is) ∙ shows) has)),
         authentic_alike count whole others keys run other (cc) all.1,
       )
   authentic_alike count whole others keys run other same all = absurd (let never : ⊥ = cc in never)

@@ -4,3 +4,5 @@ pub mod Handshakes
 pub mod Joined
 pub mod Rounds
 pub mod Ungranted
+pub mod Unsigned
+pub mod AnyNumber

@@ -7,15 +7,15 @@ use Rattle.turn_runs.specs.Headline.{IsPromised}
 use Rattle.turn_runs.specs.Members.{IsIn}
 use Rattle.turn_runs.specs.Messages.{Message, Held, Permission, Channel, Connection, Gain, Holds, Knows, Asks, Brings, IsGrantFor, Payload, NamesHeld}
 use Rattle.turn_runs.specs.Names.{IntegrityAlgorithm, socket_ip, Request, Success, Error}
-use Rattle.turn_runs.specs.Runs.{Step, AreDistinct, AtEach, AtSome, IsAuthentic, IsKeyOf, IsLawful, IsNew, IsUnforged, Leads, NamesRealm, NoForgery}
+use Rattle.turn_runs.specs.Runs.{Step, AtClient, AtDesk, AreDistinct, AtEach, AtSome, IsAuthentic, IsKeyOf, IsLawful, IsNew, IsSigned, IsUnforged, Leads, NamesRealm, NoForgery}
 use Rattle.turn_runs.specs.Steps.{Told, IsAnswered, IsDelivered, ClientStep, DeskStep}
 use Rattle.turn_runs.specs.Words.{WireLaws}
 use Rattle.turn_types.specs.TurnRegistry.{connection_attempt_method}
 use Rattle.turn_runs.proofs.Safe.{promised}
 use Rattle.turn_runs.proofs.Tools.{in_either, in_left}
 use Rattle.turn_runs_small.specs.Handshakes.{Addresses, number_at, request_at, response_at, grant_at, told_at, held_after, recorded_after}
-use Rattle.turn_runs_small.specs.Rounds.{fresh, idle, quiet, asks_next, hears, hears_challenge, hears_forged, payloads_at, takes_next, shows_all, rounds}
-use Rattle.turn_runs_small.specs.SmallWords.{Client, Idle, Waiting, CarriesDigest, abroad, digest_under, given_by, home, told_small, shown_small, small_wire, small_client, small_desk, small}
+use Rattle.turn_runs_small.specs.Rounds.{fresh, idle, waiting, quiet, asks_next, hears, hears_challenge, hears_earlier, hears_forged, payloads_at, takes_next, shows_all, rounds}
+use Rattle.turn_runs_small.specs.SmallWords.{Client, Idle, Waiting, IsRight, abroad, answered_in, digest_in, digest_under, given_by, home, key_small, place_in, told_small, shown_small, small_wire, small_client, small_desk, small}
 use Rattle.turn_runs_small.proofs.Handshakes.{request_class, response_class, not_attempt, request_number, response_number, told_so, told_once, waits_next, grant_for, from_local}
 
 -- ---- how far the generator goes
@@ -44,7 +44,7 @@ pub names_none : (came bytes r : List ℕ) → told_small came ≡ None → IsIn
 names_none came bytes r none i told = let no : None ≡ Some r = sym none ∙ told_alone came bytes r i told in let never : ⊥ = cc in never
 
 module _ (a : Addresses) where
-  asks_step : (n : ℕ) → ClientStep (small_client a) (asks_next n)
+  pub asks_step : (n : ℕ) → ClientStep (small_client a) (asks_next n)
   asks_step n = record {
     account = refl;
     seed = refl;
@@ -87,7 +87,7 @@ module _ (a : Addresses) where
   answered_here n gain asks brings = record {
     bytes = 1 ∷ n ∷ [];
     response = response_at a n;
-    arrives = record { handled = inl refl; shows = refl; key = home; algorithm = Sha1; own = (home, refl, refl); text = 1 ∷ n ∷ []; valid = (refl, refl, tt) };
+    arrives = record { handled = inl refl; shows = refl; key = home; algorithm = Sha1; own = (home, refl, refl); text = 1 ∷ n ∷ []; valid = (refl, refl, refl) };
     number_is = response_number a n;
     request = request_at a n;
     waited = inl refl;
@@ -130,7 +130,7 @@ module _ (a : Addresses) where
   ]
   delivers_next (suc (suc (suc (suc (suc n))))) p i = absurd i
 
-  takes_step : (n : ℕ) → ClientStep (small_client a) (takes_next a n)
+  pub takes_step : (n : ℕ) → ClientStep (small_client a) (takes_next a n)
   takes_step n = record {
     account = refl;
     seed = refl;
@@ -170,14 +170,14 @@ module _ (a : Addresses) where
   }
 
   -- a call that leaves the client as it was, and draws, tells and brings nothing
-  pub idle_step : (n : ℕ) (came : List (List ℕ)) (shown : List Held) → ((h : Held) → IsIn h shown → IsIn h (held_after a n)) →
-      ClientStep (small_client a) (record (quiet (idle n) (idle n)) { came = came; handled = came; shown = shown })
-  idle_step n came shown held = record {
+  still_step : (c : Client) (came : List (List ℕ)) (shown : List Held) → ((h : Held) → IsIn h shown → IsIn h (held_after a (answered_in c.core))) →
+      ClientStep (small_client a) (record (quiet c c) { came = came; handled = came; shown = shown })
+  still_step c came shown held = record {
     account = refl;
     seed = refl;
     realms = λ r e. inl e;
-    counted = omega (arith, none_given n);
-    few = omega (arith, none_given n);
+    counted = omega (arith, none_given (place_in c.core));
+    few = omega (arith, none_given (place_in c.core));
     begun = [];
     requests = λ m i. absurd i;
     numbered = omega arith;
@@ -203,44 +203,23 @@ module _ (a : Addresses) where
     names = λ p i. absurd i;
   }
 
+  pub idle_step : (n : ℕ) (came : List (List ℕ)) (shown : List Held) → ((h : Held) → IsIn h shown → IsIn h (held_after a n)) →
+      ClientStep (small_client a) (record (quiet (idle n) (idle n)) { came = came; handled = came; shown = shown })
+  idle_step n came shown held = still_step (idle n) came shown held
+
   hears_step : (n : ℕ) (bytes : List ℕ) → ClientStep (small_client a) (hears n bytes)
   hears_step n bytes = idle_step n (bytes ∷ []) [] (λ h i. absurd i)
 
   shows_step : (n : ℕ) → ClientStep (small_client a) (shows_all a n)
   shows_step n = idle_step n [] (held_after a n) (λ h i. i)
 
-  -- a forged challenge came, and the client is as it was
+  -- an answer of an earlier run came while a request is outstanding
+  pub earlier_step : (n : ℕ) → ClientStep (small_client a) (hears_earlier n)
+  earlier_step n = still_step (waiting n) ((3 ∷ n ∷ []) ∷ []) [] (λ h i. absurd i)
+
+  -- a forged challenge came
   forged_step : ClientStep (small_client a) hears_forged
-  forged_step = record {
-    account = refl;
-    seed = refl;
-    realms = λ r e. inl e;
-    counted = omega (arith, none_given 0);
-    few = omega (arith, none_given 0);
-    begun = [];
-    requests = λ m i. absurd i;
-    numbered = omega arith;
-    outstanding = λ m o. inl o;
-    queued = λ m q. absurd q;
-    taken = λ k t. absurd t;
-    draws = λ b m e shows. absurd (let never : ⊥ = cc in never);
-    handles = λ b i. inl i;
-    buffers = λ b i. absurd i;
-    gained = [];
-    gains = λ h k. inl k;
-    answers = λ t i. absurd i;
-    once = tt;
-    spent = λ t m i. absurd i;
-    known = λ t i. absurd i;
-    is_of = λ t i. absurd i;
-    tells = refl;
-    shows = λ h k. k;
-    shown = λ h i. absurd i;
-    waits = λ number to w. inl w;
-    attempted = λ k t. absurd t;
-    delivers = λ p i. absurd i;
-    names = λ p i. absurd i;
-  }
+  forged_step = still_step fresh ((2 ∷ 1 ∷ []) ∷ []) [] (λ h i. absurd i)
 
   -- the desk's challenge came, and the client keeps its realm
   challenge_step : ClientStep (small_client a) hears_challenge
@@ -275,7 +254,7 @@ module _ (a : Addresses) where
     names = λ p i. absurd i;
   }
 
-  desk_step : (n : ℕ) → DeskStep (small_wire a) (small_desk a) n
+  pub desk_step : (n : ℕ) → DeskStep (small_wire a) (small_desk a) n
   desk_step n =
       let shows_it : (r : List ℕ) (m : Message) → Some (1 ∷ n ∷ []) ≡ Some r → shown_small a r ≡ Some m → response_at a n ≡ m
       = λ r m e f. (let same : 1 ∷ n ∷ [] ≡ r = cc in let both : Some (response_at a n) ≡ Some m = ap (shown_small a) same ∙ f in cc) in
@@ -292,9 +271,10 @@ module _ (a : Addresses) where
           kept = refl;
         };
         refuses = λ r m e f is. absurd (let no : Success ≡ Error = sym (subst (λ (x : Message). x.class ≡ Success) (shows_it r m e f) (response_class a n)) ∙ is in let never : ⊥ = cc in never);
-        validates = λ key algorithm e. (0 ∷ n ∷ [], (refl, ap digest_under e, tt));
-        keyed = λ key algorithm e. (tt, e);
-        signs = λ key text r algorithm e f g. (let same : 1 ∷ n ∷ [] ≡ r = cc in (g, ap digest_under e, subst CarriesDigest same tt));
+        validates = λ key algorithm e. (0 ∷ n ∷ [], (refl, e.0, ap (λ (k : List ℕ). Some (digest_under k)) (sym e.1)));
+        keyed = λ key algorithm e. (tt, e.1 ∙ sym (ap (key_small home) e.0));
+        signs = λ key text r algorithm e f g.
+            (let same : 1 ∷ n ∷ [] ≡ r = cc in (g, e.0, sym (ap digest_in same) ∙ ap (λ (k : List ℕ). Some (digest_under k)) (sym e.1)));
         keeps = λ g i. in_left g (recorded_after a n) (grant_at a n ∷ []) i;
       }
 
@@ -330,7 +310,7 @@ module _ (a : Addresses) where
   )
 
   -- two realms are named: the desk's, and that of the forged challenge
-  named_in : (n : ℕ) (r : List ℕ) → AtSome (λ s _. NamesRealm (small a) r s) (rounds a n) → (r ≡ home) ⊎ (r ≡ abroad)
+  pub named_in : (n : ℕ) (r : List ℕ) → AtSome (λ s _. NamesRealm (small a) r s) (rounds a n) → (r ≡ home) ⊎ (r ≡ abroad)
   named_in zero r some = elim some [
     | inl here ↦ (let t : Some home ≡ Some r = told_alone (2 ∷ 0 ∷ []) here.0 r here.1 here.2 in let same : r ≡ home = cc in inl same)
     | inr more1 ↦ elim more1 [
@@ -358,47 +338,64 @@ module _ (a : Addresses) where
     ]
   ]
 
+  -- a message that carries the digest under the desk's key, and is right under another, has the same digest under that
+  home_digest : (came bytes key : List ℕ) → IsIn bytes (came ∷ []) → digest_in came ≡ Some 0 → digest_in bytes ≡ Some (digest_under key) → digest_under key ≡ 0
+  home_digest came bytes key i carries right = elim i [
+    | inl e ↦ (let same : Some 0 ≡ Some (digest_under key) = sym carries ∙ (ap digest_in e ∙ right) in cc)
+    | inr none ↦ absurd none
+  ]
+
   -- of the keys that count, the desk's alone is right
-  home_key : (n : ℕ) (b : IntegrityAlgorithm) (key : List ℕ) → IsKeyOf (small a) fresh (rounds a n) b key → digest_under key ≡ digest_under home → key ≡ home
-  home_key n b key of right = elim of.1 [
+  pub home_key : (whole : List (Step Client ℕ)) → ((r : List ℕ) → AtSome (λ s _. NamesRealm (small a) r s) whole → (r ≡ home) ⊎ (r ≡ abroad)) →
+      (b : IntegrityAlgorithm) (key : List ℕ) → IsKeyOf (small a) fresh whole b key → b ≡ Sha1 → digest_under key ≡ 0 → key ≡ home
+  home_key whole named b key of sha1 right = elim of.1 [
     | inl kept ↦ (let no : None ≡ Some of.0 = kept in absurd (let never : ⊥ = cc in never))
-    | inr some ↦ elim (named_in n of.0 some) [
-      | inl e ↦ of.2 ∙ e
-      | inr e ↦ (let no : 1 ≡ 0 = sym (ap digest_under (of.2 ∙ e)) ∙ right in absurd (omega (arith, no)))
-    ]
+    | inr some ↦ (
+        let is : key ≡ of.0 = of.2 ∙ ap (key_small of.0) sha1 in
+        elim (named of.0 some) [
+          | inl e ↦ is ∙ e
+          | inr e ↦ (let no : 1 ≡ 0 = sym (ap digest_under (is ∙ e)) ∙ right in absurd (omega (arith, no)))
+        ])
   ]
 
   -- a challenge carries no digest
-  no_digest : (realm : ℕ) (bytes : List ℕ) → IsIn bytes ((2 ∷ realm ∷ []) ∷ []) → CarriesDigest bytes → ⊥
-  no_digest realm bytes i carries = elim i [
-    | inl e ↦ subst CarriesDigest (sym e) carries
+  no_digest : (realm : ℕ) (bytes key : List ℕ) → IsIn bytes ((2 ∷ realm ∷ []) ∷ []) → digest_in bytes ≡ Some (digest_under key) → ⊥
+  no_digest realm bytes key i carries = elim i [
+    | inl e ↦ (let no : None ≡ Some (digest_under key) = ap digest_in e ∙ carries in let never : ⊥ = cc in never)
     | inr none ↦ none
   ]
 
-  authentic_on : (count : ℕ) (whole : List (Step Client ℕ)) →
-      ((b : IntegrityAlgorithm) (key : List ℕ) → IsKeyOf (small a) fresh whole b key → digest_under key ≡ digest_under home → key ≡ home) →
+  -- the desk's answer was signed by the desk, whenever it comes
+  pub by_desk : (n : ℕ) (b : IntegrityAlgorithm) (bytes key text : List ℕ) → ((digest_under key ≡ 0) → key ≡ home) → IsIn bytes ((1 ∷ n ∷ []) ∷ []) →
+      IsRight bytes key b text → IsSigned (small a) key b text (AtDesk n)
+  by_desk n b bytes key text is_home i v = elim i [
+    | inl e ↦ inr (1 ∷ n ∷ [], refl, v.0 ∙ sym e, (v.1, is_home (home_digest (1 ∷ n ∷ []) bytes key (inl e) refl v.2)))
+    | inr none ↦ absurd none
+  ]
+
+  -- a request was signed by the client, whenever it comes
+  by_client : (n : ℕ) (b : IntegrityAlgorithm) (bytes key text : List ℕ) → IsIn bytes ((0 ∷ n ∷ []) ∷ []) → IsRight bytes key b text →
+      IsSigned (small a) key b text (AtClient (asks_next n))
+  by_client n b bytes key text i v = elim i [
+    | inl e ↦ inl (0 ∷ n ∷ [], refl, (v.0 ∙ sym e, v.1, ap digest_in e ∙ v.2))
+    | inr none ↦ absurd none
+  ]
+
+  pub authentic_on : (count : ℕ) (whole : List (Step Client ℕ)) →
+      ((b : IntegrityAlgorithm) (key : List ℕ) → IsKeyOf (small a) fresh whole b key → b ≡ Sha1 → digest_under key ≡ 0 → key ≡ home) →
       (n : ℕ) → AtEach (IsAuthentic (small a) fresh count whole) (rounds a n)
   authentic_on count whole keys zero = (
-    (λ bytes key text b m i own v shows for_it. absurd (no_digest 0 bytes i v.2)),
-    ((λ bytes key text b m i own v shows for_it. absurd (no_digest 1 bytes i v.2)), tt),
+    (λ bytes key text b m i own v shows for_it. absurd (no_digest 0 bytes key i v.2)),
+    ((λ bytes key text b m i own v shows for_it. absurd (no_digest 1 bytes key i v.2)), tt),
   )
   authentic_on count whole keys (suc n) = (
-    (λ bytes key text b m i own v shows for_it. elim i [
-      | inl e ↦ inr (inr (inr (inr (inl (inl (0 ∷ n ∷ [], refl, (v.0 ∙ sym e, v.1, tt)))))))
-      | inr none ↦ absurd none
-    ]),
+    (λ bytes key text b m i own v shows for_it. inr (inr (inr (inr (inl (by_client n b bytes key text i v)))))),
     (
-      (λ bytes key text b m i own v shows for_it. elim i [
-        | inl e ↦ inr (inr (inl (inr (1 ∷ n ∷ [], refl, v.0 ∙ sym e, keys b key own v.1))))
-        | inr none ↦ absurd none
-      ]),
+      (λ bytes key text b m i own v shows for_it. inr (inr (inl (by_desk n b bytes key text (keys b key own v.1) i v)))),
       (
         (λ bytes key text b m i. absurd i),
         (
-          (λ bytes key text b m i own v shows for_it. elim i [
-            | inl e ↦ inl (inr (1 ∷ n ∷ [], refl, v.0 ∙ sym e, keys b key own v.1))
-            | inr none ↦ absurd none
-          ]),
+          (λ bytes key text b m i own v shows for_it. inl (by_desk n b bytes key text (keys b key own v.1) i v)),
           (
             (λ key text b m own v shows has. inl (inl (0 ∷ n ∷ [], refl, v))),
             ((λ bytes key text b m i. absurd i), authentic_on count whole keys n),
@@ -409,7 +406,7 @@ module _ (a : Addresses) where
   )
 
   pub authentic : (count n : ℕ) → NoForgery (small a) fresh count (rounds a n)
-  authentic count n = authentic_on count (rounds a n) (home_key n) n
+  authentic count n = authentic_on count (rounds a n) (home_key (rounds a n) (named_in n)) n
 
   -- the first sixteen numbers differ
   pub distinct : (count : ℕ) → count ≤ 16 → AreDistinct (small a) tt count

@@ -1,5 +1,6 @@
 -- No account of a run in which the client holds, tells or shows what no desk granted.
 use Rattle.std.proofs.Common.{◌≡◌, ℕ, ◌≤◌, List, [], ◌∷◌, map, Some, refl, ap, sym, ◌∙◌, subst, inl, inr, arith}
+use Rattle.stun_types.specs.IntegrityAlgorithms.{Sha1}
 use Rattle.stun_types.specs.declared.transport.TransportType.TheVariants.{Tcp}
 use Rattle.turn_runs.specs.Headline.{AnswersOnce, IsGrantedAt, IsSafe, ShowsTraced, Unless}
 use Rattle.turn_runs.specs.Members.{IsIn, NoneTwice}
@@ -10,7 +11,7 @@ use Rattle.turn_runs.specs.Steps.{Call, Told, told_for}
 use Rattle.turn_runs.proofs.Tools.{in_left, none_parts}
 use Rattle.turn_runs_small.specs.Handshakes.{Addresses, grant_at}
 use Rattle.turn_runs_small.specs.Rounds.{asks_next, idle, quiet, takes_next}
-use Rattle.turn_runs_small.specs.SmallWords.{Client, Core, Idle, Waiting, given_by, home, small}
+use Rattle.turn_runs_small.specs.SmallWords.{Client, Core, Idle, Waiting, given_by, home, key_small, small}
 use Rattle.turn_runs_small.specs.Ungranted.{AreSafe, forget, forget_call, holds_ungranted, shows_ungranted, tells_twice}
 use Rattle.turn_runs_small.proofs.Rounds.{distinct, names_none}
 
@@ -92,15 +93,15 @@ module _ (a : Addresses) where
 
   -- the desk's realm alone is kept or named in it
   round_home : (d : ℕ) (again takes asks : Call Client) → again.came ≡ [] → takes.came ≡ (1 ∷ 0 ∷ []) ∷ [] → asks.came ≡ [] →
-      (b : IntegrityAlgorithm) (key : List ℕ) → IsKeyOf (small a) (idle 0) (AtClient again ∷ AtClient takes ∷ AtDesk d ∷ AtClient asks ∷ []) b key → key ≡ home
-  round_home d again takes asks none_again one none_asked b key of = elim of.1 [
-    | inl kept ↦ (let is : Some home ≡ Some of.0 = kept in let same : home ≡ of.0 = cc in of.2 ∙ sym same)
+      (b : IntegrityAlgorithm) (key : List ℕ) → IsKeyOf (small a) (idle 0) (AtClient again ∷ AtClient takes ∷ AtDesk d ∷ AtClient asks ∷ []) b key → b ≡ Sha1 → key ≡ home
+  round_home d again takes asks none_again one none_asked b key of sha1 = elim of.1 [
+    | inl kept ↦ (let is : Some home ≡ Some of.0 = kept in let same : home ≡ of.0 = cc in of.2 ∙ (ap (key_small of.0) sha1 ∙ sym same))
     | inr some ↦ elim some [
       | inl here ↦ absurd (subst (IsIn here.0) none_again here.1)
       | inr more3 ↦ elim more3 [
         | inl here ↦ absurd (names_none (1 ∷ 0 ∷ []) here.0 of.0 refl (subst (IsIn here.0) one here.1) here.2)
         | inr more4 ↦ elim more4 [
-          | inl desk ↦ of.2 ∙ sym desk
+          | inl desk ↦ of.2 ∙ (ap (key_small of.0) sha1 ∙ sym desk)
           | inr more5 ↦ elim more5 [
             | inl here ↦ absurd (subst (IsIn here.0) none_asked here.1)
             | inr none ↦ absurd none
@@ -117,7 +118,7 @@ module _ (a : Addresses) where
     (λ bytes key text b m i own v shows for_it. absurd (subst (IsIn bytes) none_again i)),
     (
       (λ bytes key text b m i own v shows for_it. elim (subst (IsIn bytes) one i) [
-        | inl e ↦ inl (inr (1 ∷ d ∷ [], refl, v.0 ∙ (sym e ∙ ap (λ n. 1 ∷ n ∷ []) (sym is)), round_home d again takes asks none_again one none_asked b key own))
+        | inl e ↦ inl (inr (1 ∷ d ∷ [], refl, v.0 ∙ (sym e ∙ ap (λ n. 1 ∷ n ∷ []) (sym is)), (v.1, round_home d again takes asks none_again one none_asked b key own v.1)))
         | inr none ↦ absurd none
       ]),
       (

@@ -3,3 +3,4 @@ pub mod SmallWords
 pub mod Rounds
 pub mod Ungranted
 pub mod AnyRealm
+pub mod AnyNumber

@@ -49,6 +49,11 @@ asks_next n = record (quiet (idle n) (waiting n)) { drawn = Some (0 ∷ n ∷ []
 abbrev pub hears : ℕ → List ℕ → Call Client
 hears n bytes = record (quiet (idle n) (idle n)) { came = bytes ∷ []; handled = bytes ∷ [] }
 
+-- it hands the client an answer of an earlier run, while a request is outstanding
+abbrev pub hears_earlier : ℕ → Call Client
+hears_earlier n =
+    record (quiet (waiting n) (waiting n)) { came = (3 ∷ n ∷ []) ∷ []; handled = (3 ∷ n ∷ []) ∷ [] }
+
 module _ (a : Addresses) where
   -- a payload from the peer by each thing that can bring one
   abbrev pub payloads_at : ℕ → List Payload
@@ -81,6 +86,11 @@ module _ (a : Addresses) where
   rounds (suc n) =
       AtClient (hears (suc n) (0 ∷ n ∷ [])) ∷ AtClient (hears (suc n) (1 ∷ n ∷ []))
       ∷ AtClient (shows_all (suc n)) ∷ granted n (rounds n)
+
+  -- the network hands the client, while its request is outstanding, what the desk answered to that request in an earlier
+  -- run; the client takes the answer of this run
+  abbrev pub replayed : ℕ → List (Step Client ℕ)
+  replayed n = AtClient (takes_next n) ∷ AtDesk n ∷ AtClient (hears_earlier n) ∷ AtClient (asks_next n) ∷ rounds n
 
   -- the client holds one of each kind
   pub record HoldsOneOfEach (c : Client) : Type 0 where

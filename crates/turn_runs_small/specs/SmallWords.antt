@@ -1,5 +1,6 @@
 -- A small client and a small desk, in the words of a run.
 use Rattle.std.specs.Prelude.{◌≡◌, ℕ, zero, suc, ◌+◌, ◌-◌, ◌%◌, List, [], ◌∷◌, ◌++◌, Option, Some, None}
+use Rattle.stun_types.specs.IntegrityAlgorithms.{IntegrityAlgorithm, Sha1, Sha256, Sha512}
 use Rattle.turn_runs.specs.Members.{IsIn}
 use Rattle.turn_runs.specs.Messages.{Message, Payload, FromPeer, Reported, FromChannel, FromConnection}
 use Rattle.turn_runs.specs.Words.{Wire, ClientWords, DeskWords, Words}
@@ -53,27 +54,44 @@ realm_in Fresh = None
 realm_in (Idle n) = Some home
 realm_in (Waiting n) = Some home
 
+-- the key of a realm for an algorithm: for SHA-1 it is the realm itself
+abbrev pub key_small : (realm : List ℕ) → IntegrityAlgorithm → List ℕ
+key_small realm Sha1 = realm
+key_small realm Sha256 = 2 ∷ realm
+key_small realm Sha512 = 3 ∷ realm
+
 -- a digest under a key is one of sixteen numbers, so keys of many realms make the same
 abbrev pub digest_under : (key : List ℕ) → ℕ
 digest_under [] = 0
 digest_under (n ∷ rest) = n % 16
 
--- requests and responses carry a digest; a challenge carries none
-abbrev pub CarriesDigest : List ℕ → Type 0
-CarriesDigest (zero ∷ n ∷ []) = Unit {0}
-CarriesDigest (suc zero ∷ n ∷ []) = Unit {0}
-CarriesDigest _ = ⊥
+-- the digest that a message carries, made by SHA-1 under the desk's key; but one kind of answer has a digest of its own,
+-- and a challenge carries none
+abbrev pub digest_in : List ℕ → Option ℕ
+digest_in (zero ∷ n ∷ []) = Some 0
+digest_in (suc zero ∷ n ∷ []) = Some 0
+digest_in (suc (suc (suc zero)) ∷ n ∷ []) = Some 0
+digest_in (suc (suc (suc (suc zero))) ∷ n ∷ digest ∷ []) = Some digest
+digest_in _ = None
 
--- a message is right under a key: it is covered whole, and the digest that it carries, which was made under the desk's
--- key, is that under this key
-abbrev pub IsRight : (bytes key text : List ℕ) → Type 0
-IsRight bytes key text = (text ≡ bytes) × (digest_under key ≡ digest_under home) × CarriesDigest bytes
+-- a message is right under a key, by SHA-1: it is covered whole, and it carries the digest under this key
+abbrev pub IsRight : (bytes key : List ℕ) → IntegrityAlgorithm → (text : List ℕ) → Type 0
+IsRight bytes key algorithm text =
+    (text ≡ bytes) × (algorithm ≡ Sha1) × (digest_in bytes ≡ Some (digest_under key))
 
 module _ (a : Addresses) where
-  -- a message is two numbers: whether it is a response, and how many came before
+  -- what the desk answered to that request in an earlier run of the same account, in which the client had other
+  -- transaction IDs
+  abbrev pub earlier_response : ℕ → Message
+  earlier_response n = record (response_at a n) { number = 16 + number_at n }
+
+  -- a message begins with its kind and with how many requests came before: a request, the desk's answer, its answer in an
+  -- earlier run, an answer with a digest of its own
   abbrev pub shown_small : List ℕ → Option Message
   shown_small (zero ∷ n ∷ []) = Some (request_at a n)
   shown_small (suc zero ∷ n ∷ []) = Some (response_at a n)
+  shown_small (suc (suc (suc zero)) ∷ n ∷ []) = Some (earlier_response n)
+  shown_small (suc (suc (suc (suc zero))) ∷ n ∷ digest ∷ []) = Some (response_at a n)
   shown_small _ = None
 
   abbrev pub IsOutstandingIn : Core → Message → Type 0
@@ -88,18 +106,18 @@ module _ (a : Addresses) where
   CarriesIn frame (FromChannel number peer bytes) = bytes ≡ frame
   CarriesIn frame (FromConnection local peer bytes) = ⊥
 
-  -- there is one account, whose key in a realm is the realm itself
+  -- there is one account
   abbrev pub small_wire : Wire
   small_wire = record {
     Account = Unit {0};
     Seed = Unit {0};
     shown = shown_small;
-    Validates = λ bytes key algorithm text. IsRight bytes key text;
+    Validates = IsRight;
     Covers = λ bytes algorithm text. text ≡ bytes;
     ShowsSame = λ one other. one ≡ other;
     Carries = CarriesIn;
     told_realm = told_small;
-    key = λ account realm algorithm. realm;
+    key = λ account realm algorithm. key_small realm algorithm;
     number = λ seed place. number_at place;
   }
 
@@ -128,7 +146,7 @@ module _ (a : Addresses) where
     source = λ n. a.local;
     realm = λ n. home;
     reply = λ n. Some (1 ∷ n ∷ []);
-    ValidatedWith = λ n key algorithm. key ≡ home;
+    ValidatedWith = λ n key algorithm. (algorithm ≡ Sha1) × (key ≡ home);
     recorded = recorded_after a;
     records = λ n. recorded_after a n ++ grant_at a n ∷ [];
     IsGranted = λ n g. g ≡ grant_at a n;

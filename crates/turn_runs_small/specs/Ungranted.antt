@@ -8,7 +8,7 @@ use Rattle.turn_runs.specs.Names.{SocketAddr}
 use Rattle.turn_runs.specs.Runs.{Step, AtClient, AtDesk, AtEach, IsCounted, Leads}
 use Rattle.turn_runs.specs.Steps.{Call}
 use Rattle.turn_runs_small.specs.Handshakes.{Addresses}
-use Rattle.turn_runs_small.specs.Rounds.{granted, idle, quiet, rounds}
+use Rattle.turn_runs_small.specs.Rounds.{granted, quiet, rounds}
 use Rattle.turn_runs_small.specs.SmallWords.{Client, Core, Idle, Waiting, small}
 
 -- a call, without what a run says of how many numbers were drawn

@@ -2,19 +2,22 @@
 //! what it promises says something.
 //!
 //! The client asks for one thing after the other, and the desk grants each (`specs/Handshakes.antt`). They
-//! keep all that the theory asks of a client and a desk. Three runs in which the client holds, tells or
+//! keep all that the theory asks of a client and a desk. The premise that nothing is forged can be met, also
+//! where a challenge is forged and an answer of an earlier run is replayed; two wider premises can't
+//! (`specs/AnyRealm.antt`, `specs/AnyNumber.antt`). Three runs in which the client holds, tells or
 //! shows an address that no desk granted have no account of which the promise stands; and so it is of a
 //! run in which the client shows a channel or a connection that no desk granted (`specs/Ungranted.antt`).
 //! There is no code but the laws.
 #![tactic(auto)]
 
-ghost use Rattle.std.specs.Prelude.{ℕ, ◌≤◌, ◌↔◌, map};
+ghost use Rattle.std.specs.Prelude.{ℕ, suc, ◌≤◌, ◌↔◌, map};
 ghost use Rattle.turn_runs.specs.Headline.{AnswersOnce, IsSafe, ShowsTraced};
 ghost use Rattle.turn_runs.specs.Names.{SocketAddr};
 ghost use Rattle.turn_runs.specs.Runs.{AtEach, IsUnforged, NoForgery};
 ghost use Rattle.turn_runs_small.specs.Handshakes.{Addresses};
+ghost use Rattle.turn_runs_small.specs.AnyNumber.{NoForgeryForAnyNumber};
 ghost use Rattle.turn_runs_small.specs.AnyRealm.{NoForgeryInAnyRealm};
-ghost use Rattle.turn_runs_small.specs.Rounds.{HoldsOneOfEach, fresh, idle, rounds};
+ghost use Rattle.turn_runs_small.specs.Rounds.{HoldsOneOfEach, fresh, idle, replayed, rounds};
 ghost use Rattle.turn_runs_small.specs.SmallWords.{small};
 ghost use Rattle.turn_runs_small.specs.Ungranted.{AreSafe, IsBound, IsJoined, forget, holds_ungranted, shows_channel, shows_connection, shows_ungranted, tells_twice};
 
@@ -45,6 +48,19 @@ pub fn only_named_realms_count()
     ensures met { (a : Addresses) (n count : ℕ) → NoForgery (small a) fresh count (rounds a n) }
     ensures wider { (a : Addresses) (n count : ℕ)
         → 1 ≤ n → NoForgeryInAnyRealm (small a) fresh count (rounds a n) → ⊥ }
+{}
+
+/// An answer of an earlier run of the same account may come while a request is outstanding, whatever number
+/// of numbers counts: nothing is forged, though it is right under the desk's key and no step of this run
+/// signed it. For the earlier run had other transaction IDs. The run is lawful, and up to sixteen requests
+/// no number comes twice. A premise that speaks of messages with any transaction ID is false of each such
+/// run.
+pub fn only_own_numbers_count()
+    ensures met { (a : Addresses) (n count : ℕ) → NoForgery (small a) fresh count (replayed a n) }
+    ensures unforged { (a : Addresses) (n : ℕ) → n ≤ 15
+        → IsUnforged (small a) fresh (replayed a n) (idle (suc n)) }
+    ensures wider { (a : Addresses) (n count : ℕ)
+        → NoForgeryForAnyNumber (small a) fresh count (replayed a n) → ⊥ }
 {}
 
 /// Of such a run there is an account of which the promise stands, however many requests it has. Behind more
