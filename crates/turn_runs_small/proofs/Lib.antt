@@ -6,3 +6,4 @@ pub mod Rounds
 pub mod Ungranted
 pub mod Unsigned
 pub mod AnyNumber
+pub mod OtherKeys

@@ -16,7 +16,7 @@ use Rattle.turn_runs_small.specs.Ungranted.{AreSafe, forget, forget_call, holds_
 use Rattle.turn_runs_small.proofs.Rounds.{distinct, names_none}
 
 -- how far a call moves the generator is read of what the client keeps
-given_in_call : (own : Call Client) (call : Call Core) → forget_call own ≡ call →
+pub given_in_call : (own : Call Client) (call : Call Core) → forget_call own ≡ call →
     given_by own.before.core own.after.core ≡ given_by call.before call.after
 given_in_call own call e = ap (λ (x : Call Core). given_by x.before x.after) e
 

@@ -4,3 +4,4 @@ pub mod Rounds
 pub mod Ungranted
 pub mod AnyRealm
 pub mod AnyNumber
+pub mod OtherKeys

@@ -2,23 +2,28 @@
 //! what it promises says something.
 //!
 //! The client asks for one thing after the other, and the desk grants each (`specs/Handshakes.antt`). They
-//! keep all that the theory asks of a client and a desk. The premise that nothing is forged can be met, also
-//! where a challenge is forged and an answer of an earlier run is replayed; two wider premises can't
-//! (`specs/AnyRealm.antt`, `specs/AnyNumber.antt`). Three runs in which the client holds, tells or
-//! shows an address that no desk granted have no account of which the promise stands; and so it is of a
-//! run in which the client shows a channel or a connection that no desk granted (`specs/Ungranted.antt`).
-//! There is no code but the laws.
+//! keep all that the theory asks of a client and a desk. The premise that nothing is forged is met, also
+//! where a challenge is forged and a response of an earlier run is replayed. Two wider premises are false of
+//! these runs (`specs/AnyRealm.antt`, `specs/AnyNumber.antt`).
+//!
+//! Three runs in which the client holds, tells or shows an address that no desk granted have no account of
+//! which the promise stands; and so it is of a run in which the client shows a channel or a connection that
+//! no desk granted (`specs/Ungranted.antt`), or takes what its own key doesn't validate
+//! (`specs/OtherKeys.antt`). There is no code but the laws.
 #![tactic(auto)]
 
-ghost use Rattle.std.specs.Prelude.{ℕ, suc, ◌≤◌, ◌↔◌, map};
+ghost use Rattle.std.specs.Prelude.{ℕ, suc, ◌≢◌, ◌≤◌, ◌↔◌, List, map};
+ghost use Rattle.stun_types.specs.IntegrityAlgorithms.{Sha1, Sha256};
 ghost use Rattle.turn_runs.specs.Headline.{AnswersOnce, IsSafe, ShowsTraced};
 ghost use Rattle.turn_runs.specs.Names.{SocketAddr};
 ghost use Rattle.turn_runs.specs.Runs.{AtEach, IsUnforged, NoForgery};
+ghost use Rattle.turn_runs.specs.Steps.{ClientStep};
 ghost use Rattle.turn_runs_small.specs.Handshakes.{Addresses};
 ghost use Rattle.turn_runs_small.specs.AnyNumber.{NoForgeryForAnyNumber};
 ghost use Rattle.turn_runs_small.specs.AnyRealm.{NoForgeryInAnyRealm};
+ghost use Rattle.turn_runs_small.specs.OtherKeys.{answer_under, gains_under, keeps_unnamed, takes_under, takes_unsent};
 ghost use Rattle.turn_runs_small.specs.Rounds.{HoldsOneOfEach, fresh, idle, replayed, rounds};
-ghost use Rattle.turn_runs_small.specs.SmallWords.{small};
+ghost use Rattle.turn_runs_small.specs.SmallWords.{IsRight, abroad, digest_under, home, key_small, small, small_client};
 ghost use Rattle.turn_runs_small.specs.Ungranted.{AreSafe, IsBound, IsJoined, forget, holds_ungranted, shows_channel, shows_connection, shows_ungranted, tells_twice};
 
 /// Up to sixteen requests, each granted and answered, over a network that plays messages again, are a lawful
@@ -50,23 +55,25 @@ pub fn only_named_realms_count()
         → 1 ≤ n → NoForgeryInAnyRealm (small a) fresh count (rounds a n) → ⊥ }
 {}
 
-/// An answer of an earlier run of the same account may come while a request is outstanding, whatever number
-/// of numbers counts: nothing is forged, though it is right under the desk's key and no step of this run
-/// signed it. For the earlier run had other transaction IDs. The run is lawful, and up to sixteen requests
-/// no number comes twice. A premise that speaks of messages with any transaction ID is false of each such
-/// run.
+/// Of such a run there is an account of which the promise stands, however many requests it has. Behind more
+/// than sixteen a number has come twice, and what is promised says nothing.
+pub fn handshakes_meet_an_account()
+    ensures { (a : Addresses) (n : ℕ) → AreSafe a fresh (map forget (rounds a n)) }
+{}
+
+/// A response that the server signed in an earlier run of the same account may be replayed to the client, also
+/// while the same request is outstanding again. It has a transaction ID of the earlier run, so nothing is
+/// forged in the sense of the premise, however many numbers count (`met`). The run is lawful, and up to
+/// sixteen requests no number comes twice: all that `turn_runs` promises holds of it (`unforged`).
+///
+/// A premise that speaks of messages with any transaction ID is false of each such run: the response
+/// validates under the desk's key, and no step of this run signed it (`wider`).
 pub fn only_own_numbers_count()
     ensures met { (a : Addresses) (n count : ℕ) → NoForgery (small a) fresh count (replayed a n) }
     ensures unforged { (a : Addresses) (n : ℕ) → n ≤ 15
         → IsUnforged (small a) fresh (replayed a n) (idle (suc n)) }
     ensures wider { (a : Addresses) (n count : ℕ)
         → NoForgeryForAnyNumber (small a) fresh count (replayed a n) → ⊥ }
-{}
-
-/// Of such a run there is an account of which the promise stands, however many requests it has. Behind more
-/// than sixteen a number has come twice, and what is promised says nothing.
-pub fn handshakes_meet_an_account()
-    ensures { (a : Addresses) (n : ℕ) → AreSafe a fresh (map forget (rounds a n)) }
 {}
 
 /// Three runs have no account of which the promise stands, whatever it says of how many numbers the client
@@ -93,4 +100,27 @@ pub fn nothing_ungranted_meets_an_account()
         → IsJoined a n number peer }
     ensures joined { (a : Addresses) (n : ℕ) → 5 ≤ n
         → AreSafe a fresh (shows_connection a n a.local 7 a.peer) }
+{}
+
+/// Three more runs have no account of which the promise stands:
+///
+/// - `unnamed`: the client goes by a realm that it didn't keep at first and that nobody named.
+/// - `unsent`: the client takes up a response to its request that never arrived and that the desk never sent,
+///   though it gains nothing by it.
+/// - `gained`: the client gains an address by a response that is right under another key than its own
+///   (`right`). The digests under both keys differ.
+///
+/// A call that does the last is no step of a client by the contracts either (`steps`). Such another key is
+/// that of a realm that the client doesn't keep; and so is the key of the realm that it keeps, for another
+/// algorithm than the one by which the response is right (`others`).
+pub fn no_other_key_meets_an_account()
+    ensures unnamed { (a : Addresses) → AreSafe a fresh keeps_unnamed → ⊥ }
+    ensures unsent { (a : Addresses) → AreSafe a (idle 0) takes_unsent → ⊥ }
+    ensures right { (key : List ℕ) → IsRight (answer_under key) key Sha1 (answer_under key) }
+    ensures others { (digest_under abroad ≢ digest_under home)
+        × (digest_under (key_small home Sha256) ≢ digest_under home) }
+    ensures gained { (a : Addresses) (key : List ℕ) → digest_under key ≢ digest_under home
+        → AreSafe a (idle 0) (gains_under a key) → ⊥ }
+    ensures steps { (a : Addresses) (key : List ℕ) → digest_under key ≢ digest_under home
+        → ClientStep (small_client a) (takes_under a key) → ⊥ }
 {}
