@@ -214,7 +214,7 @@ module _ {C D : Type 0} (W : Words C D) where
 
       -- the key of the realm that is kept counts
       own_key : (a : IntegrityAlgorithm) (key : List ℕ) → IsOwnKey W.client call.before a key → IsKeyOf W first whole a key
-      own_key a key own = (own.0, kept.realm own.0 own.1, own.2 ∙ ap (λ (x : W.wire.Account). W.wire.key x own.0 a) kept.account)
+      own_key a key own = (own.0, kept.realm own.0 own.1, own.3 ∙ ap (λ (x : W.wire.Account). W.wire.key x own.0 a) kept.account)
 
       -- a challenge that is taken up has arrived
       handled_realm : (bytes r : List ℕ) → IsIn bytes call.handled → W.wire.told_realm bytes ≡ Some r → IsRealmOf W first whole r

@@ -46,9 +46,11 @@ module _ {V : Wire} {C : Type 0} (K : ClientWords V C) where
       (place : ℕ) × (from ≤ place) × (place < to) × IsNumberAt c others place m.number
       × AreNumbered c (m ∷ others) (place + 1) to rest
 
-  -- the client's key for an algorithm: of its own name and password, in the realm that it keeps
+  -- the client's key, and the algorithm that it is for: of its own name and password, in the realm that it keeps, for the
+  -- algorithm that it chose
   abbrev pub IsOwnKey : C → IntegrityAlgorithm → (key : List ℕ) → Type 0
-  IsOwnKey c a key = (realm : List ℕ) × (K.realm c ≡ Some realm) × (key ≡ V.key (K.account c) realm a)
+  IsOwnKey c a key = (realm : List ℕ) × (K.realm c ≡ Some realm) × (K.algorithm c ≡ Some a)
+      × (key ≡ V.key (K.account c) realm a)
 
   -- a message that was taken up validates with the client's key, by the algorithm that the key is for
   pub record Arrives (call : Call C) (bytes : List ℕ) (m : Message) : Type 0 where

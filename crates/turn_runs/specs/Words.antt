@@ -31,6 +31,8 @@ pub record ClientWords (V : Wire) (C : Type 0) : Type 1 where
   pub account : C → V.Account
   -- the realm that it keeps: in this one it signs and validates
   pub realm : C → Option (List ℕ)
+  -- the algorithm that it chose for that: by this one it signs and validates
+  pub algorithm : C → Option IntegrityAlgorithm
   pub seed : C → V.Seed
   -- how many numbers it has drawn from its stream
   pub count : C → ℕ

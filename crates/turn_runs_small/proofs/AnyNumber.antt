@@ -89,7 +89,7 @@ module _ (a : Addresses) where
   pub authentic_replayed : (n count : ℕ) → NoForgery (small a) fresh count (replayed a n)
   authentic_replayed n count =
       let keys = home_key a (replayed a n) (named_replayed n) in (
-        (λ bytes key text b m i own v shows for_it. inl (by_desk a n b bytes key text (keys b key own v.1) i v)),
+        (λ bytes key text b m i own v shows for_it. inl (by_desk a n b bytes key text (keys b key own) i v)),
         (
           (λ key text b m own v shows has. inr (inl (inl (0 ∷ n ∷ [], refl, v)))),
           (

@@ -1,7 +1,7 @@
 -- No account of a run in which the client goes by a realm that nobody named, takes up what never came, or takes what is right
 -- under another key than its own; and the last is no step of a client.
 use Rattle.std.proofs.Common.{◌≡◌, ◌≢◌, ℕ, ◌<◌, ◌≤◌, List, [], ◌∷◌, map, Some, None, refl, ap, sym, ◌∙◌, subst, inl, inr, arith}
-use Rattle.stun_types.specs.IntegrityAlgorithms.{Sha1}
+use Rattle.stun_types.specs.IntegrityAlgorithms.{Sha1, Sha256}
 use Rattle.stun_types.specs.declared.transport.TransportType.TheVariants.{Tcp}
 use Rattle.turn_runs.specs.Headline.{IsSafe, Unless}
 use Rattle.turn_runs.specs.Members.{IsIn}
@@ -10,9 +10,9 @@ use Rattle.turn_runs.specs.Names.{IntegrityAlgorithm}
 use Rattle.turn_runs.specs.Runs.{Step, AtClient, AtEach, IsCounted, IsKeyOf, NoForgery}
 use Rattle.turn_runs.specs.Steps.{Call, ClientStep}
 use Rattle.turn_runs_small.specs.Handshakes.{Addresses, response_at}
-use Rattle.turn_runs_small.specs.OtherKeys.{answer_under, gains_under, keeps_unnamed, takes_under, takes_unsent}
+use Rattle.turn_runs_small.specs.OtherKeys.{answer_by_sha256, answer_under, gains_under, keeps_unnamed, takes_answer, takes_under, takes_unsent}
 use Rattle.turn_runs_small.specs.Rounds.{asks_next, fresh, idle, quiet}
-use Rattle.turn_runs_small.specs.SmallWords.{Client, Core, Fresh, Idle, Waiting, digest_in, digest_under, home, key_small, realm_in, small, small_client, told_small}
+use Rattle.turn_runs_small.specs.SmallWords.{Client, Core, Fresh, Idle, Waiting, algorithm_by, digest_in, digest_under, home, key_small, realm_in, small, small_client, told_small}
 use Rattle.turn_runs_small.specs.Ungranted.{AreSafe, forget, forget_call}
 use Rattle.turn_runs_small.proofs.Rounds.{distinct, names_none}
 use Rattle.turn_runs_small.proofs.Ungranted.{given_in_call}
@@ -23,6 +23,10 @@ same_digest key own bytes i is_home right = elim i [
   | inl e ↦ (let same : Some (digest_under key) ≡ Some (digest_under own) = ap digest_in e ∙ right in let digests : digest_under key ≡ digest_under own = cc in digests ∙ ap digest_under is_home)
   | inr none ↦ absurd none
 ]
+
+-- such an answer has its digest by SHA-1
+by_sha1 : (key bytes : List ℕ) (b : IntegrityAlgorithm) → IsIn bytes (answer_under key ∷ []) → b ≡ algorithm_by bytes → b ≡ Sha1
+by_sha1 key bytes b i is = elim i [ inl e ↦ is ∙ sym (ap algorithm_by e) | inr none ↦ absurd none ]
 
 -- the key for SHA-1 of a realm that is the desk's
 home_sha1 : (realm key : List ℕ) (b : IntegrityAlgorithm) → Some home ≡ Some realm → key ≡ key_small realm b → b ≡ Sha1 → key ≡ home
@@ -37,8 +41,23 @@ module _ (a : Addresses) where
     | inr t ↦ (
         let answered = step.answers t.0 t.1 in
         let arrives = answered.arrives in
-        let own = home_sha1 arrives.own.0 arrives.key arrives.algorithm arrives.own.1 arrives.own.2 arrives.valid.1 in
+        let sha1 = by_sha1 key answered.bytes arrives.algorithm arrives.handled arrives.valid.1 in
+        let own = home_sha1 arrives.own.0 arrives.key arrives.algorithm arrives.own.1 arrives.own.3 sha1 in
         differs (same_digest key arrives.key answered.bytes arrives.handled own arrives.valid.2))
+  ]
+
+  -- nor is it one where the answer's algorithm isn't the chosen one
+  pub none_by_sha256 : ClientStep (small_client a) (takes_answer a answer_by_sha256) → ⊥
+  none_by_sha256 step = elim (step.gains (Allocation Tcp a.relayed) (inl refl)) [
+    | inl before ↦ absurd before
+    | inr t ↦ (
+        let arrives = (step.answers t.0 t.1).arrives in
+        let chosen : Some Sha1 ≡ Some arrives.algorithm = arrives.own.2 in
+        let sha1 : Sha1 ≡ arrives.algorithm = cc in
+        elim arrives.handled [
+          | inl e ↦ (let no : Sha1 ≡ Sha256 = sha1 ∙ (arrives.valid.1 ∙ sym (ap algorithm_by e)) in let never : ⊥ = cc in never)
+          | inr none ↦ none
+        ])
   ]
 
   -- ---- and the promise shuts it out
@@ -67,7 +86,8 @@ module _ (a : Addresses) where
       let none_asked : asks.came ≡ [] = ap (λ (x : Call Core). x.came) asks_is in
       let authentic : NoForgery (small a) (idle 0) last.drawn (AtClient takes ∷ AtClient asks ∷ []) = (
         (λ bytes own text b m i of v shows for_it.
-            absurd (differs (same_digest key own bytes (subst (IsIn bytes) one i) (key_kept takes asks (answer_under key) one refl none_asked b own of v.1) v.2))),
+            let came = subst (IsIn bytes) one i in
+            absurd (differs (same_digest key own bytes came (key_kept takes asks (answer_under key) one refl none_asked b own of (by_sha1 key bytes b came v.1)) v.2))),
         ((λ bytes own text b m i of v shows for_it. absurd (subst (IsIn bytes) none_asked i)), tt),
       ) in
       let holds : (small a).client.IsHeld takes.after (Allocation Tcp a.relayed) =

@@ -15,7 +15,7 @@ use Rattle.turn_runs.proofs.Safe.{promised}
 use Rattle.turn_runs.proofs.Tools.{in_either, in_left}
 use Rattle.turn_runs_small.specs.Handshakes.{Addresses, number_at, request_at, response_at, grant_at, told_at, held_after, recorded_after}
 use Rattle.turn_runs_small.specs.Rounds.{fresh, idle, waiting, quiet, asks_next, hears, hears_challenge, hears_earlier, hears_forged, payloads_at, takes_next, shows_all, rounds}
-use Rattle.turn_runs_small.specs.SmallWords.{Client, Idle, Waiting, IsRight, abroad, answered_in, digest_in, digest_under, given_by, home, key_small, place_in, told_small, shown_small, small_wire, small_client, small_desk, small}
+use Rattle.turn_runs_small.specs.SmallWords.{Client, Idle, Waiting, IsRight, abroad, algorithm_by, answered_in, digest_in, digest_under, given_by, home, key_small, place_in, told_small, shown_small, small_wire, small_client, small_desk, small}
 use Rattle.turn_runs_small.proofs.Handshakes.{request_class, response_class, not_attempt, request_number, response_number, told_so, told_once, waits_next, grant_for, from_local}
 
 -- ---- how far the generator goes
@@ -87,7 +87,7 @@ module _ (a : Addresses) where
   answered_here n gain asks brings = record {
     bytes = 1 ∷ n ∷ [];
     response = response_at a n;
-    arrives = record { handled = inl refl; shows = refl; key = home; algorithm = Sha1; own = (home, refl, refl); text = 1 ∷ n ∷ []; valid = (refl, refl, refl) };
+    arrives = record { handled = inl refl; shows = refl; key = home; algorithm = Sha1; own = (home, refl, refl, refl); text = 1 ∷ n ∷ []; valid = (refl, refl, refl) };
     number_is = response_number a n;
     request = request_at a n;
     waited = inl refl;
@@ -274,7 +274,7 @@ module _ (a : Addresses) where
         validates = λ key algorithm e. (0 ∷ n ∷ [], (refl, e.0, ap (λ (k : List ℕ). Some (digest_under k)) (sym e.1)));
         keyed = λ key algorithm e. (tt, e.1 ∙ sym (ap (key_small home) e.0));
         signs = λ key text r algorithm e f g.
-            (let same : 1 ∷ n ∷ [] ≡ r = cc in (g, e.0, sym (ap digest_in same) ∙ ap (λ (k : List ℕ). Some (digest_under k)) (sym e.1)));
+            (let same : 1 ∷ n ∷ [] ≡ r = cc in (g, e.0 ∙ ap algorithm_by same, sym (ap digest_in same) ∙ ap (λ (k : List ℕ). Some (digest_under k)) (sym e.1)));
         keeps = λ g i. in_left g (recorded_after a n) (grant_at a n ∷ []) i;
       }
 
@@ -366,10 +366,12 @@ module _ (a : Addresses) where
   ]
 
   -- the desk's answer was signed by the desk, whenever it comes
-  pub by_desk : (n : ℕ) (b : IntegrityAlgorithm) (bytes key text : List ℕ) → ((digest_under key ≡ 0) → key ≡ home) → IsIn bytes ((1 ∷ n ∷ []) ∷ []) →
+  pub by_desk : (n : ℕ) (b : IntegrityAlgorithm) (bytes key text : List ℕ) → (b ≡ Sha1 → digest_under key ≡ 0 → key ≡ home) → IsIn bytes ((1 ∷ n ∷ []) ∷ []) →
       IsRight bytes key b text → IsSigned (small a) key b text (AtDesk n)
   by_desk n b bytes key text is_home i v = elim i [
-    | inl e ↦ inr (1 ∷ n ∷ [], refl, v.0 ∙ sym e, (v.1, is_home (home_digest (1 ∷ n ∷ []) bytes key (inl e) refl v.2)))
+    | inl e ↦ (
+        let sha1 : b ≡ Sha1 = v.1 ∙ sym (ap algorithm_by e) in
+        inr (1 ∷ n ∷ [], refl, v.0 ∙ sym e, (sha1, is_home sha1 (home_digest (1 ∷ n ∷ []) bytes key (inl e) refl v.2))))
     | inr none ↦ absurd none
   ]
 
@@ -377,7 +379,7 @@ module _ (a : Addresses) where
   by_client : (n : ℕ) (b : IntegrityAlgorithm) (bytes key text : List ℕ) → IsIn bytes ((0 ∷ n ∷ []) ∷ []) → IsRight bytes key b text →
       IsSigned (small a) key b text (AtClient (asks_next n))
   by_client n b bytes key text i v = elim i [
-    | inl e ↦ inl (0 ∷ n ∷ [], refl, (v.0 ∙ sym e, v.1, ap digest_in e ∙ v.2))
+    | inl e ↦ inl (0 ∷ n ∷ [], refl, (v.0 ∙ sym e, v.1 ∙ sym (ap algorithm_by e), ap digest_in e ∙ v.2))
     | inr none ↦ absurd none
   ]
 
@@ -391,11 +393,11 @@ module _ (a : Addresses) where
   authentic_on count whole keys (suc n) = (
     (λ bytes key text b m i own v shows for_it. inr (inr (inr (inr (inl (by_client n b bytes key text i v)))))),
     (
-      (λ bytes key text b m i own v shows for_it. inr (inr (inl (by_desk n b bytes key text (keys b key own v.1) i v)))),
+      (λ bytes key text b m i own v shows for_it. inr (inr (inl (by_desk n b bytes key text (keys b key own) i v)))),
       (
         (λ bytes key text b m i. absurd i),
         (
-          (λ bytes key text b m i own v shows for_it. inl (by_desk n b bytes key text (keys b key own v.1) i v)),
+          (λ bytes key text b m i own v shows for_it. inl (by_desk n b bytes key text (keys b key own) i v)),
           (
             (λ key text b m own v shows has. inl (inl (0 ∷ n ∷ [], refl, v))),
             ((λ bytes key text b m i. absurd i), authentic_on count whole keys n),

@@ -11,7 +11,7 @@ use Rattle.turn_runs.specs.Steps.{Call, Told, told_for}
 use Rattle.turn_runs.proofs.Tools.{in_left, none_parts}
 use Rattle.turn_runs_small.specs.Handshakes.{Addresses, grant_at}
 use Rattle.turn_runs_small.specs.Rounds.{asks_next, idle, quiet, takes_next}
-use Rattle.turn_runs_small.specs.SmallWords.{Client, Core, Idle, Waiting, given_by, home, key_small, small}
+use Rattle.turn_runs_small.specs.SmallWords.{Client, Core, Idle, Waiting, algorithm_by, given_by, home, key_small, small}
 use Rattle.turn_runs_small.specs.Ungranted.{AreSafe, forget, forget_call, holds_ungranted, shows_ungranted, tells_twice}
 use Rattle.turn_runs_small.proofs.Rounds.{distinct, names_none}
 
@@ -118,7 +118,9 @@ module _ (a : Addresses) where
     (λ bytes key text b m i own v shows for_it. absurd (subst (IsIn bytes) none_again i)),
     (
       (λ bytes key text b m i own v shows for_it. elim (subst (IsIn bytes) one i) [
-        | inl e ↦ inl (inr (1 ∷ d ∷ [], refl, v.0 ∙ (sym e ∙ ap (λ n. 1 ∷ n ∷ []) (sym is)), (v.1, round_home d again takes asks none_again one none_asked b key own v.1)))
+        | inl e ↦ (
+            let sha1 : b ≡ Sha1 = v.1 ∙ sym (ap algorithm_by e) in
+            inl (inr (1 ∷ d ∷ [], refl, v.0 ∙ (sym e ∙ ap (λ n. 1 ∷ n ∷ []) (sym is)), (sha1, round_home d again takes asks none_again one none_asked b key own sha1))))
         | inr none ↦ absurd none
       ]),
       (

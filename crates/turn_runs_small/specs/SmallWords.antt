@@ -54,6 +54,12 @@ realm_in Fresh = None
 realm_in (Idle n) = Some home
 realm_in (Waiting n) = Some home
 
+-- the algorithm that the client chose
+abbrev pub algorithm_in : Core → Option IntegrityAlgorithm
+algorithm_in Fresh = None
+algorithm_in (Idle n) = Some Sha1
+algorithm_in (Waiting n) = Some Sha1
+
 -- the key of a realm for an algorithm: for SHA-1 it is the realm itself
 abbrev pub key_small : (realm : List ℕ) → IntegrityAlgorithm → List ℕ
 key_small realm Sha1 = realm
@@ -65,19 +71,25 @@ abbrev pub digest_under : (key : List ℕ) → ℕ
 digest_under [] = 0
 digest_under (n ∷ rest) = n % 16
 
--- the digest that a message carries, made by SHA-1 under the desk's key; but one kind of answer has a digest of its own,
--- and a challenge carries none
+-- the digest that a message carries, made under the desk's key; but two kinds of answer have a digest of their own, and
+-- a challenge carries none
 abbrev pub digest_in : List ℕ → Option ℕ
 digest_in (zero ∷ n ∷ []) = Some 0
 digest_in (suc zero ∷ n ∷ []) = Some 0
 digest_in (suc (suc (suc zero)) ∷ n ∷ []) = Some 0
 digest_in (suc (suc (suc (suc zero))) ∷ n ∷ digest ∷ []) = Some digest
+digest_in (suc (suc (suc (suc (suc zero)))) ∷ n ∷ digest ∷ []) = Some digest
 digest_in _ = None
 
--- a message is right under a key, by SHA-1: it is covered whole, and it carries the digest under this key
+-- the algorithm by which that was made: SHA-1, but for one kind of answer
+abbrev pub algorithm_by : List ℕ → IntegrityAlgorithm
+algorithm_by (suc (suc (suc (suc (suc zero)))) ∷ n ∷ digest ∷ []) = Sha256
+algorithm_by _ = Sha1
+
+-- a message is right under a key, by an algorithm: it is covered whole, and it carries the digest under this key
 abbrev pub IsRight : (bytes key : List ℕ) → IntegrityAlgorithm → (text : List ℕ) → Type 0
 IsRight bytes key algorithm text =
-    (text ≡ bytes) × (algorithm ≡ Sha1) × (digest_in bytes ≡ Some (digest_under key))
+    (text ≡ bytes) × (algorithm ≡ algorithm_by bytes) × (digest_in bytes ≡ Some (digest_under key))
 
 module _ (a : Addresses) where
   -- what the desk answered to that request in an earlier run of the same account, in which the client had other
@@ -86,12 +98,13 @@ module _ (a : Addresses) where
   earlier_response n = record (response_at a n) { number = 16 + number_at n }
 
   -- a message begins with its kind and with how many requests came before: a request, the desk's answer, its answer in an
-  -- earlier run, an answer with a digest of its own
+  -- earlier run, an answer with a digest of its own, by SHA-1 or by SHA-256
   abbrev pub shown_small : List ℕ → Option Message
   shown_small (zero ∷ n ∷ []) = Some (request_at a n)
   shown_small (suc zero ∷ n ∷ []) = Some (response_at a n)
   shown_small (suc (suc (suc zero)) ∷ n ∷ []) = Some (earlier_response n)
   shown_small (suc (suc (suc (suc zero))) ∷ n ∷ digest ∷ []) = Some (response_at a n)
+  shown_small (suc (suc (suc (suc (suc zero)))) ∷ n ∷ digest ∷ []) = Some (response_at a n)
   shown_small _ = None
 
   abbrev pub IsOutstandingIn : Core → Message → Type 0
@@ -125,6 +138,7 @@ module _ (a : Addresses) where
   small_client = record {
     account = λ c. tt;
     realm = λ c. realm_in c.core;
+    algorithm = λ c. algorithm_in c.core;
     seed = λ c. tt;
     count = λ c. c.drawn;
     given = λ before after. given_by before.core after.core;

@@ -21,7 +21,7 @@ ghost use Rattle.turn_runs.specs.Steps.{ClientStep};
 ghost use Rattle.turn_runs_small.specs.Handshakes.{Addresses};
 ghost use Rattle.turn_runs_small.specs.AnyNumber.{NoForgeryForAnyNumber};
 ghost use Rattle.turn_runs_small.specs.AnyRealm.{NoForgeryInAnyRealm};
-ghost use Rattle.turn_runs_small.specs.OtherKeys.{answer_under, gains_under, keeps_unnamed, takes_under, takes_unsent};
+ghost use Rattle.turn_runs_small.specs.OtherKeys.{answer_by_sha256, answer_under, gains_under, keeps_unnamed, takes_answer, takes_under, takes_unsent};
 ghost use Rattle.turn_runs_small.specs.Rounds.{HoldsOneOfEach, fresh, idle, replayed, rounds};
 ghost use Rattle.turn_runs_small.specs.SmallWords.{IsRight, abroad, digest_under, home, key_small, small, small_client};
 ghost use Rattle.turn_runs_small.specs.Ungranted.{AreSafe, IsBound, IsJoined, forget, holds_ungranted, shows_channel, shows_connection, shows_ungranted, tells_twice};
@@ -123,4 +123,12 @@ pub fn no_other_key_meets_an_account()
         → AreSafe a (idle 0) (gains_under a key) → ⊥ }
     ensures steps { (a : Addresses) (key : List ℕ) → digest_under key ≢ digest_under home
         → ClientStep (small_client a) (takes_under a key) → ⊥ }
+{}
+
+/// A call by which the client gains an address by a response that is right under its own key for SHA-256 is
+/// no step by the contracts, for it chose SHA-1.
+pub fn only_the_chosen_algorithm_is_taken()
+    ensures right { IsRight answer_by_sha256 (key_small home Sha256) Sha256 answer_by_sha256 }
+    ensures steps { (a : Addresses)
+        → ClientStep (small_client a) (takes_answer a answer_by_sha256) → ⊥ }
 {}
