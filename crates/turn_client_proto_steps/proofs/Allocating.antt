@@ -41,7 +41,7 @@ use Rattle.turn_client_proto_steps.proofs.Lists.{in_filter, in_map}
 use Rattle.turn_client_proto_steps.proofs.Gaining.{anything, fresh, fresh_distinct, in_firsts, kept_gained, none_asked, none_attempted, none_bound, none_connects, none_peers, none_pending, none_sent, none_short, none_twice, none_waits, relayed_shown, told_created, told_of}
 use Rattle.turn_client_proto_steps.proofs.Orderly.{until_all}
 use Rattle.turn_client_proto_steps.proofs.Plain.{counts_none, failures_tell_nothing, held_is_kept, joined, none_told, notices}
-use Rattle.turn_client_proto_steps.proofs.Realms.{IsGoing, KeepsRealm, realm_going, realm_kept}
+use Rattle.turn_client_proto_steps.proofs.Realms.{IsGoing, TakesRealm, realm_going, realm_kept}
 use Rattle.turn_client_proto_steps.proofs.Signed.{signed_arrives}
 
 -- ---- the request
@@ -125,7 +125,7 @@ module _ (c : Client) (signer : signers.Client) (bytes : List ℕ) (lifetime now
       ∙ ap (λ (l : List run.Notice). notices c.core.events ++ l) (told_created transport number lifetime now all)
 
   -- the client has not ended, neither before nor afterwards
-  realms : KeepsRealm (bytes ∷ []) c.core core
+  realms : TakesRealm (bytes ∷ []) c.core core
   unfolding allocated accepted
   realms realm is =
       under_way.realms realm (realm_going c.core.phase signer.challenge realm going (realm_kept (phase_by (map (fresh transport number lifetime now) all)) signer.challenge realm is))

@@ -36,7 +36,7 @@ use Rattle.turn_client_proto_steps.proofs.Adding.{Adds, adds_both, adds_none, ag
 use Rattle.turn_client_proto_steps.proofs.Numbers.{IsAtPlace, number_at_place, number_small, words_after}
 use Rattle.turn_client_proto_steps.proofs.Orderly.{IsAllocate, IsFree, agent_orderly, queue_orderly, request_orderly, until_all}
 use Rattle.turn_client_proto_steps.proofs.Plain.{counts_one, notices, run_step}
-use Rattle.turn_client_proto_steps.proofs.Realms.{KeepsRealm, judged_realm}
+use Rattle.turn_client_proto_steps.proofs.Realms.{TakesRealm, judged_realm}
 use Rattle.turn_client_proto_steps.proofs.Taken.{free_by}
 
 -- ---- a call under way
@@ -48,7 +48,7 @@ pub record IsUnderWay (c : Client) (came : List (List ℕ)) (mid : Protocol) : T
   pub can_ask : CanAsk (moved c c.drawn mid)
   pub told : notices mid.events ≡ notices c.core.events
   pub rng : mid.rng ≡ c.core.rng
-  pub realms : KeepsRealm came c.core mid
+  pub realms : TakesRealm came c.core mid
 
 pub at_first : (c : Client) (came : List (List ℕ)) → IsOrderly (parts_of c.core) → CanAsk c → IsUnderWay c came c.core
 at_first c came orderly can = record {

@@ -20,7 +20,7 @@ use Rattle.turn_client_proto_steps.specs.RunSteps.{IsRunStep, call_of}
 use Rattle.turn_client_proto_steps.specs.Sound.{CanAsk, IsOrderly, UntilEnded}
 use Rattle.turn_client_proto_steps.proofs.Adding.{Adds}
 use Rattle.turn_client_proto_steps.proofs.Lists.{nothing_behind}
-use Rattle.turn_client_proto_steps.proofs.Realms.{KeepsRealm}
+use Rattle.turn_client_proto_steps.proofs.Realms.{TakesRealm}
 
 -- ---- what is told
 
@@ -77,7 +77,7 @@ counts_one c core same = counts c (c.drawn + 1) 1 core (omega arith) (omega arit
 pub record IsPlain (begun : List run.Message) (came : List (List ℕ)) (drawn : Option (List ℕ)) (answered : List run.Notice) (c : Client) (count : ℕ) (core : Protocol) : Type 0 where
   pub requests : (m : run.Message) → IsIn m begun → (m.class ≡ Request) × (m.method ≢ connection_attempt_method)
   pub counts : IsCounted c count core
-  pub realms : KeepsRealm came c.core core
+  pub realms : TakesRealm came c.core core
   pub numbered : AreNumbered client_words c [] c.drawn count begun
   pub adds : Adds begun (parts_of c.core) (parts_of core)
   pub draws : (bytes : List ℕ) (m : run.Message) → drawn ≡ Some bytes → stun_wire.shown bytes ≡ Some m → MayDraw client_words c begun m
@@ -134,7 +134,7 @@ nothing_drawn begun c bytes m h shows = absurd (Prim.cc h)
 growing : (c : Client) (count : ℕ) (core : Protocol) → IsCounted c count core → c.drawn ≤ count
 growing c count core is = omega (arith, is.counted)
 
-pub quiet : {came : List (List ℕ)} (drawn : Option (List ℕ)) (answered : List run.Notice) (c : Client) (count : ℕ) (core : Protocol) → IsCounted c count core → KeepsRealm came c.core core → Adds [] (parts_of c.core) (parts_of core)
+pub quiet : {came : List (List ℕ)} (drawn : Option (List ℕ)) (answered : List run.Notice) (c : Client) (count : ℕ) (core : Protocol) → IsCounted c count core → TakesRealm came c.core core → Adds [] (parts_of c.core) (parts_of core)
     → ((bytes : List ℕ) (m : run.Message) → drawn ≡ Some bytes → stun_wire.shown bytes ≡ Some m → MayDraw client_words c [] m)
     → answered ++ notices core.events ≡ notices c.core.events → IsPlain [] came drawn answered c count core
 quiet drawn answered c count core more realms adds draws told = record {

@@ -37,12 +37,12 @@ realm_going phase kept realm going is = ap realm_in (going kept) ∙ is
 -- ---- from one client to another
 
 -- the realm afterwards is the one before, or a challenge told it that came
-abbrev pub KeepsRealm : (came : List (List ℕ)) → (old new : Protocol) → Type 0
-KeepsRealm came old new = (realm : List ℕ) → realm_in (challenge_of new) ≡ Some realm
+abbrev pub TakesRealm : (came : List (List ℕ)) → (old new : Protocol) → Type 0
+TakesRealm came old new = (realm : List ℕ) → realm_in (challenge_of new) ≡ Some realm
     → (realm_in (challenge_of old) ≡ Some realm) ⊎ ((bytes : List ℕ) × IsIn bytes came × (stun_wire.told_realm bytes ≡ Some realm))
 
 -- a client that has ended has none
-pub ended_realm : (came : List (List ℕ)) (old new : Protocol) → new.phase ≡ Ended → KeepsRealm came old new
+pub ended_realm : (came : List (List ℕ)) (old new : Protocol) → new.phase ≡ Ended → TakesRealm came old new
 ended_realm came old new over realm is =
     let none : realm_in (challenge_of new) ≡ None = ap (λ (f : Phase). realm_in (challenge_in f new.auth.challenge)) over in
     absurd (Prim.cc (sym none ∙ is))
@@ -72,7 +72,7 @@ module _ (old new : signers.Client) (bytes realm : List ℕ) where
   in_phase Ended verdict is h = absurd (Prim.cc h)
 
 pub judged_realm : (p : Protocol) (bytes : List ℕ) (verdict : Result LongTermClientValidation LongTermClientAuthError) (signer : signers.Client) → IsJudged p.auth bytes verdict signer
-    → KeepsRealm (bytes ∷ []) p (judged signer p)
+    → TakesRealm (bytes ∷ []) p (judged signer p)
 judged_realm p bytes verdict signer is realm h = elim (in_phase p.auth signer bytes realm p.phase verdict is h) [
   | inl was ↦ inl was
   | inr told ↦ inr (bytes, inl refl, told)

@@ -100,6 +100,15 @@ pub fn new_clients_are_new<D: Desk>()
         → IsNewInRun (run_words D.words) (first_client config.credentials seed core) }
 {}
 
+/// A new client keeps no realm: it has no key yet (RFC 8489, section 9.2.5). So in a run of a new client no
+/// key counts but in realms that the steps of the run name.
+pub fn new_clients_keep_no_realm()
+    ensures { (transport : TransportType) (here server : SocketAddr) (config : Config)
+        (seed : List ℕ) (core : Protocol)
+        → IsNew transport here server config seed core
+        → client_words.realm (first_client config.credentials seed core) ≡ None }
+{}
+
 /// The relayed addresses that a client shows are held, in the words of a run: each is that of an
 /// allocation which is not marked as expired. A getter changes nothing, and is no step.
 pub fn shown_addresses_are_held()
