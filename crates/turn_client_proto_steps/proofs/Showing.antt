@@ -6,9 +6,9 @@ use Rattle.turn_client_proto_data.specs.Messages.{Message, Held, Gain, Holds, Kn
 use Rattle.turn_client_proto_data.specs.Words.{Wire, ClientWords}
 use Rattle.turn_client_proto_data.specs.Steps.{Arrives, Call, ClientStep, IsAnswered, IsDelivered, IsTried}
 
--- a call that takes up the same, of the same account and realm, where as much is outstanding
+-- a call that takes up the same, of the same account, realm and algorithm, where as much is outstanding
 module _ {V : Wire} {C : Type 0} (K : ClientWords V C) (call other : Call C) (same : call.handled ≡ other.handled) (account : K.account call.before ≡ K.account other.before)
-    (realm : K.realm call.before ≡ K.realm other.before)
+    (realm : K.realm call.before ≡ K.realm other.before) (algorithm : K.algorithm call.before ≡ K.algorithm other.before)
     (outstanding : (m : Message) → K.IsOutstanding call.before m → K.IsOutstanding other.before m) where
   pub arrives : (bytes : List ℕ) (m : Message) → Arrives K call bytes m → Arrives K other bytes m
   arrives bytes m is = record {
@@ -16,7 +16,7 @@ module _ {V : Wire} {C : Type 0} (K : ClientWords V C) (call other : Call C) (sa
     shows = is.shows;
     key = is.key;
     algorithm = is.algorithm;
-    own = (is.own.0, sym realm ∙ is.own.1, is.own.2 ∙ ap (λ (a : V.Account). V.key a is.own.0 is.algorithm) account);
+    own = (is.own.0, sym realm ∙ is.own.1, sym algorithm ∙ is.own.2, is.own.3 ∙ ap (λ (a : V.Account). V.key a is.own.0 is.algorithm) account);
     text = is.text;
     valid = is.valid;
   }
@@ -56,14 +56,14 @@ module _ {V : Wire} {C : Type 0} (K : ClientWords V C) (call : Call C) (held : L
     queued = is.queued;
     taken = λ n h. elim (is.taken n h) [
       | inl was ↦ inl was
-      | inr now ↦ elim now [ inl made ↦ inr (inl made) | inr came ↦ inr (inr (tried K call telling refl refl refl (λ m is. is) came)) ]
+      | inr now ↦ elim now [ inl made ↦ inr (inl made) | inr came ↦ inr (inr (tried K call telling refl refl refl refl (λ m is. is) came)) ]
     ];
     draws = is.draws;
     handles = is.handles;
     buffers = is.buffers;
     gained = is.gained;
     gains = is.gains;
-    answers = λ t h. answered K call telling refl refl refl (λ m is. is) is.begun (Holds t.held) t.number (is.answers t h);
+    answers = λ t h. answered K call telling refl refl refl refl (λ m is. is) is.begun (Holds t.held) t.number (is.answers t h);
     once = is.once;
     spent = is.spent;
     known = is.known;
@@ -74,11 +74,11 @@ module _ {V : Wire} {C : Type 0} (K : ClientWords V C) (call : Call C) (held : L
     waits = λ n peer h. elim (is.waits n peer h) [
       | inl was ↦ inl was
       | inr now ↦ elim now [
-        | inl known ↦ inr (inl (known.0, answered K call telling refl refl refl (λ m is. is) is.begun (Knows n peer) known.0 known.1))
-        | inr came ↦ inr (inr (tried K call telling refl refl refl (λ m is. is) came))
+        | inl known ↦ inr (inl (known.0, answered K call telling refl refl refl refl (λ m is. is) is.begun (Knows n peer) known.0 known.1))
+        | inr came ↦ inr (inr (tried K call telling refl refl refl refl (λ m is. is) came))
       ]
     ];
-    attempted = λ n h. elim (is.attempted n h) [ inl was ↦ inl was | inr came ↦ inr (tried K call telling refl refl refl (λ m is. is) came) ];
+    attempted = λ n h. elim (is.attempted n h) [ inl was ↦ inl was | inr came ↦ inr (tried K call telling refl refl refl refl (λ m is. is) came) ];
     delivers = delivers;
     names = names;
   }

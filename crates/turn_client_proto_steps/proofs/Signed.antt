@@ -12,7 +12,7 @@ use Rattle.turn_client_proto_data.specs.Steps.{Arrives}
 use Rattle.turn_client_proto_data.specs.StunWire.{key_in, told_by}
 use Rattle.turn_client_proto_data.specs.Request.Judging.{IsJudged}
 use Rattle.turn_client_proto_steps.specs.Adding.{IsSignedFor}
-use Rattle.turn_client_proto_steps.specs.ClientWords.{client_words, realm_in}
+use Rattle.turn_client_proto_steps.specs.ClientWords.{choice_in, client_words, realm_in}
 use Rattle.turn_client_proto_steps.specs.RunClient.{Client}
 use Rattle.turn_client_proto_steps.specs.RunSteps.{call_of}
 use Rattle.turn_client_proto_steps.specs.Sound.{CanAsk}
@@ -55,7 +55,7 @@ signed_arrives c bytes after message own = record {
   shows = message_shown bytes message;
   key = key_in c.credentials own.challenge.realm own.challenge.choice;
   algorithm = own.challenge.choice;
-  own = (own.challenge.realm, ap realm_in own.kept, refl);
+  own = (own.challenge.realm, ap realm_in own.kept, ap choice_in own.kept, refl);
   text = own.text;
   valid = own.valid;
 }

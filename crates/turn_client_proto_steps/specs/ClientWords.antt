@@ -6,6 +6,7 @@ use Rattle.std.specs.List.{filter_map}
 use Rattle.std.specs.Option.{option_map}
 use Rattle.std.specs.declared.net.socket_addr.SocketAddr.{SocketAddr}
 use Rattle.stun_types.specs.Grammar.{number_at}
+use Rattle.stun_types.specs.IntegrityAlgorithms.{IntegrityAlgorithm}
 use Rattle.stun_proto.specs.Agents.{Transaction}
 use Rattle.stun_proto.specs.Client.{Challenge}
 use Rattle.stun_proto.specs.State.{Agent}
@@ -39,6 +40,9 @@ challenge_of p = challenge_in p.phase p.auth.challenge
 
 abbrev pub realm_in : Option Challenge → Option (List ℕ)
 realm_in challenge = option_map (λ (c : Challenge). c.realm) challenge
+
+abbrev pub choice_in : Option Challenge → Option IntegrityAlgorithm
+choice_in challenge = option_map (λ (c : Challenge). c.choice) challenge
 
 -- ---- requests
 
@@ -134,6 +138,7 @@ abbrev pub client_words : ClientWords stun_wire Client
 client_words = record {
   account = λ c. c.credentials;
   realm = λ c. realm_in (challenge_of c.core);
+  algorithm = λ c. choice_in (challenge_of c.core);
   seed = λ c. c.seed;
   count = λ c. c.drawn;
   given = λ before after. numbers_between before.core.rng after.core.rng;

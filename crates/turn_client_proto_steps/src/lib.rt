@@ -303,6 +303,10 @@ pub fn first_numbers_are_of_the_seed()
 /// section 4.3), or by a CONNECTION_ATTEMPT, which validates under the client's key, too (section 4.4). A
 /// challenge may make a request, and may tell the client another realm (RFC 8489, section 9.2.5). A call
 /// that takes up no message leaves the realm as it was; a client that has ended keeps none.
+///
+/// The client has one key at a time: that of its name and password, in the realm of the challenge that it
+/// keeps, for the algorithm that it chose for that challenge. A message by which it gains something validates
+/// under that key, by that algorithm (RFC 8489, sections 9.2.2 and 9.2.5).
 pub fn messages_are_steps()
     ensures { (c : Client) (bytes : List ℕ) (now : ℕ) (handled : Bool) (new : Protocol)
         → IsSound c
