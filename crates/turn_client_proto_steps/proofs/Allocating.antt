@@ -1,32 +1,26 @@
 -- A success response to an ALLOCATE is a step of a run: the addresses that it brings are gained.
-use Rattle.std.proofs.Common.{◌≡◌, ℕ, true, List, [], ◌∷◌, ◌++◌, map, Option, Some, None, Ok, refl, sym, ap, ◌∙◌, subst, arith, inl, inr}
+use Rattle.std.proofs.Common.{◌≡◌, ℕ, true, List, [], ◌∷◌, ◌++◌, map, Option, Some, None, refl, sym, ap, ◌∙◌, subst, arith, inl, inr}
 use Rattle.std.specs.FinMap as finite
 use Rattle.std.specs.List.{filter}
 use Rattle.std.specs.Prelude.{is_some}
 use Rattle.std.specs.declared.net.socket_addr.SocketAddr.{SocketAddr}
 use Rattle.stun_types.specs.Attributes.{kind_at}
-use Rattle.stun_types.specs.Credentials.{Key, NameAndPassword}
 use Rattle.stun_types.specs.Grammar.{number_at, refusal}
-use Rattle.stun_types.specs.Headers.{AreBytes}
-use Rattle.stun_types.specs.IntegrityAlgorithms.{IntegrityAlgorithm}
 use Rattle.stun_types.specs.MessageClasses.{Success}
 use Rattle.stun_types.specs.Types.{class_of}
 use Rattle.stun_types.specs.declared.transport.TransportType.{TransportType}
 use Rattle.stun_proto.specs.Agents.{Transaction}
 use Rattle.stun_proto.specs.Client as signers
-use Rattle.stun_proto.specs.ClientValidations.{Validated}
 use Rattle.stun_proto.specs.Handling.{after_message, ends_one, is_awaited}
 use Rattle.stun_proto.specs.Numbers.{IsWithout, ShowsNumbers}
 use Rattle.stun_proto.specs.State.{Agent}
 use Rattle.stun_proto_agent.proofs.Numbers.{answered_without, handled_new, still_shows}
-use Rattle.stun_proto_client.proofs.Stepping.{step_of}
 use Rattle.turn_types.specs.TurnRegistry.{allocate_method}
 use Rattle.turn_client_proto_data.specs.Members.{IsIn}
 use Rattle.turn_client_proto_data.specs.Messages as run
-use Rattle.turn_client_proto_data.specs.Steps.{ClientStep, IsAnswered, IsOwnKey, Told, WasKnown}
-use Rattle.turn_client_proto_data.specs.StunWire.{stun_wire, told_by}
+use Rattle.turn_client_proto_data.specs.Steps.{ClientStep, IsAnswered, Told, WasKnown}
+use Rattle.turn_client_proto_data.specs.StunWire.{told_by}
 use Rattle.turn_client_proto_data.specs.Api.declared.event.TurnEvent.TheVariants.{AllocationCreateFailed}
-use Rattle.turn_client_proto_data.specs.Request.Judging.{IsJudged}
 use Rattle.turn_client_proto_data.specs.Response.Granting.{are_of_one_family, families_without, first_of_each, is_wanted}
 use Rattle.turn_client_proto_data.specs.Response.Telling.{created}
 use Rattle.turn_client_proto_data.specs.Response.Told.{relayed_told}
@@ -43,24 +37,12 @@ use Rattle.turn_client_proto_steps.specs.RunSteps.{IsRunStep, call_of}
 use Rattle.turn_client_proto_steps.specs.Sound.{AreAllocates, IsOrderly}
 use Rattle.turn_client_proto_steps.proofs.Agents.{has_other, message_shown, outstanding_before}
 use Rattle.turn_client_proto_steps.proofs.Asking.{IsUnderWay}
-use Rattle.turn_client_proto_steps.proofs.Lists.{in_filter, in_map, inside}
+use Rattle.turn_client_proto_steps.proofs.Lists.{in_filter, in_map}
 use Rattle.turn_client_proto_steps.proofs.Gaining.{anything, fresh, fresh_distinct, in_firsts, kept_gained, none_asked, none_attempted, none_bound, none_connects, none_peers, none_pending, none_sent, none_short, none_twice, none_waits, relayed_shown, told_created, told_of}
 use Rattle.turn_client_proto_steps.proofs.Orderly.{until_all}
 use Rattle.turn_client_proto_steps.proofs.Plain.{counts_none, failures_tell_nothing, held_is_kept, joined, none_told, notices}
-
--- ---- the key
-
-pub validated_own : (old new : signers.Client) (bytes : List ℕ) (algorithm : IntegrityAlgorithm) (account : NameAndPassword) → AreBytes bytes → old.account ≡ Some account → IsJudged old bytes (Ok (Validated algorithm)) new → IsSignedFor account bytes
-validated_own old new bytes algorithm account are_bytes has is =
-    let from = (step_of old new bytes (Ok (Validated algorithm)) is).from_server in
-    let same : from.own.account ≡ account = inside (sym from.own.own ∙ has) in
-    record {
-      key = from.key.bytes;
-      own = subst (λ (a : NameAndPassword). IsOwnKey stun_wire a from.key.bytes) same (from.own.realm, from.own.algorithm, ap (λ (k : Key). k.bytes) from.own.is);
-      algorithm = from.key.algorithm;
-      text = from.right.text;
-      valid = record { are_bytes = are_bytes; validates = from.right.validates };
-    }
+use Rattle.turn_client_proto_steps.proofs.Realms.{IsGoing, TakesRealm, realm_going, realm_kept}
+use Rattle.turn_client_proto_steps.proofs.Signed.{signed_arrives}
 
 -- ---- the request
 
@@ -81,7 +63,8 @@ allocate_sent c bytes are h = sent_by c (number_at bytes) (finite.get c.core.age
 -- ---- the step
 
 module _ (c : Client) (signer : signers.Client) (bytes : List ℕ) (lifetime now : ℕ) (message : refusal bytes ≡ None) (success : class_of (kind_at bytes) ≡ Success) (ends : ends_one c.core.agent bytes ≡ true)
-    (own : IsSignedFor c.credentials bytes) (sent : IsAllocateSent c (number_at bytes)) (orderly : IsOrderly (parts_of c.core)) (under_way : IsUnderWay c (accepted bytes (judged signer c.core))) where
+    (own : IsSignedFor c bytes) (sent : IsAllocateSent c (number_at bytes)) (orderly : IsOrderly (parts_of c.core)) (going : IsGoing c.core.phase)
+    (under_way : IsUnderWay c (bytes ∷ []) (accepted bytes (judged signer c.core))) where
   abbrev number : ℕ
   number = number_at bytes
 
@@ -123,7 +106,7 @@ module _ (c : Client) (signer : signers.Client) (bytes : List ℕ) (lifetime now
   answers = by_address (λ (t : Told). IsAnswered client_words (call_of c (bytes ∷ []) None [] (moved c c.drawn core)) [] (run.Holds t.held) t.number) (λ x listed. record {
     bytes = bytes;
     response = told_by bytes;
-    arrives = record { handled = inl refl; shows = message_shown bytes message; key = own.key; own = own.own; algorithm = own.algorithm; text = own.text; valid = own.valid };
+    arrives = signed_arrives c bytes (moved c c.drawn core) message own;
     number_is = refl;
     request = told_by sent.transaction.bytes;
     waited = inl (record { number = number; transaction = sent.transaction; there = sent.there; shows = message_shown sent.transaction.bytes (orderly.messages number sent.transaction sent.there) });
@@ -141,11 +124,18 @@ module _ (c : Client) (signer : signers.Client) (bytes : List ℕ) (lifetime now
       ∙ joined c.core.events (map created allocations)
       ∙ ap (λ (l : List run.Notice). notices c.core.events ++ l) (told_created transport number lifetime now all)
 
+  -- the client has not ended, neither before nor afterwards
+  realms : TakesRealm (bytes ∷ []) c.core core
+  unfolding allocated accepted
+  realms realm is =
+      under_way.realms realm (realm_going c.core.phase signer.challenge realm going (realm_kept (phase_by (map (fresh transport number lifetime now) all)) signer.challenge realm is))
+
   step : ClientStep client_words (call_of c (bytes ∷ []) None [] (moved c c.drawn core))
   unfolding allocated accepted
   step = record {
     account = refl;
     seed = refl;
+    realms = realms;
     counted = (counts_none c core refl).counted;
     few = (counts_none c core refl).few;
     begun = [];

@@ -1,8 +1,7 @@
 -- What is kept in addition after a message was taken is what it brings as the response to a request that was outstanding.
-use Rattle.std.proofs.Common.{◌≡◌, ℕ, ◌+◌, ◌≤◌, ◌<◌, Bool, List, [], ◌∷◌, ◌++◌, None, refl, sym, ap, ◌∙◌, subst, arith, inl, inr}
+use Rattle.std.proofs.Common.{◌≡◌, ℕ, ◌+◌, ◌≤◌, ◌<◌, Bool, List, [], ◌∷◌, ◌++◌, Some, None, refl, sym, ap, ◌∙◌, subst, arith, inl, inr}
 use Rattle.std.specs.declared.net.socket_addr.SocketAddr.{SocketAddr}
 use Rattle.stun_types.specs.Attributes.{Attr, attr_size, numbered}
-use Rattle.stun_types.specs.Credentials.{NameAndPassword}
 use Rattle.stun_types.specs.Grammar.{refusal, shown}
 use Rattle.stun_types.specs.Headers.{AreBytes}
 use Rattle.stun_types.specs.Integrity.{algorithm_of, attribute_kind}
@@ -13,18 +12,22 @@ use Rattle.turn_client_proto_data.specs.Hearing.{IsHeardAt}
 use Rattle.turn_client_proto_data.specs.Members.{IsIn}
 use Rattle.turn_client_proto_data.specs.Messages as run
 use Rattle.turn_client_proto_data.specs.Steps.{AreNumbered, Call, ClientStep, IsAnswered, Told}
-use Rattle.turn_client_proto_data.specs.StunWire.{stun_wire}
+use Rattle.turn_client_proto_data.specs.StunWire.{AreValid, stun_wire}
 use Rattle.turn_client_proto_data.specs.Core.Receiving.{IsHeard}
+use Rattle.turn_client_proto_data.specs.Core.declared.protocol.Phase.{Phase}
+use Rattle.turn_client_proto_data.specs.Core.declared.protocol.Phase.TheVariants.{Initial, InitialSent, Authenticating, Authenticated, Ended}
 use Rattle.turn_client_proto_data.specs.Core.declared.protocol.Protocol.{Protocol}
 use Rattle.turn_client_proto_steps.specs.Adding.{AddsAnswered, AddsNothing, IsAnsweredBy, IsSignedFor, ShowNoIntegrity}
 use Rattle.turn_client_proto_steps.specs.ClientWords.{IsKept, IsOutstanding, client_words}
 use Rattle.turn_client_proto_steps.specs.RunClient.{Client}
 use Rattle.turn_client_proto_steps.specs.RunSteps.{IsReceiving, call_of}
-use Rattle.turn_client_proto_steps.specs.Sound.{IsSound}
+use Rattle.turn_client_proto_steps.specs.Sound.{CanAsk, IsSound, UntilEnded}
 use Rattle.turn_client_proto_steps.proofs.Answering.{answer_step}
 use Rattle.turn_client_proto_steps.proofs.Plain.{counts_none}
+use Rattle.turn_client_proto_steps.proofs.Realms.{IsGoing}
 use Rattle.turn_client_proto_steps.proofs.Receiving.{receive_step}
-use Rattle.turn_client_proto_steps.proofs.Unasked.{Comes, heard_at_comes, heard_keeps}
+use Rattle.turn_client_proto_steps.proofs.Signed.{validated_own}
+use Rattle.turn_client_proto_steps.proofs.Unasked.{Comes, IsAcceptedBy, heard_at_comes, heard_keeps}
 
 -- what brings something is a success
 is_success : (m : run.Message) (h : run.Held) → run.Brings m (run.Holds h) → m.class ≡ Success
@@ -41,7 +44,7 @@ none_begun : (c : Client) (to : ℕ) (begun : List run.Message) → to ≡ c.dra
 none_begun c to [] same numbered m h = h
 none_begun c to (x ∷ begun) same numbered m h = nowhere c.drawn to numbered.0 same numbered.1 numbered.2
 
-module _ (c : Client) (bytes : List ℕ) (new : Protocol) (is : IsReceiving c bytes new) (same : new.rng ≡ c.core.rng) where
+module _ (c : Client) (bytes : List ℕ) (new : Protocol) (is : IsReceiving c bytes new) (same : new.rng ≡ c.core.rng) (signed : IsSignedFor c bytes) where
   -- no number was drawn, and no request was made
   none_drawn : is.after.drawn ≡ c.drawn
   none_drawn =
@@ -62,8 +65,7 @@ module _ (c : Client) (bytes : List ℕ) (new : Protocol) (is : IsReceiving c by
       record {
         response = a.response;
         shows = ap (λ (x : List ℕ). stun_wire.shown x) (sym own) ∙ a.arrives.shows;
-        signed = subst (λ (x : List ℕ). IsSignedFor c.credentials x) own
-            (record { key = a.arrives.key; own = a.arrives.own; algorithm = a.arrives.algorithm; text = a.arrives.text; valid = a.arrives.valid });
+        signed = signed;
         success = is_success a.response t.held a.brings;
         brings = a.brings;
         request = a.request;
@@ -80,11 +82,22 @@ module _ (c : Client) (bytes : List ℕ) (new : Protocol) (is : IsReceiving c by
     | inr gained ↦ inr (subst (λ (x : run.Held). IsAnsweredBy c bytes new x) gained.2 (by_answer gained.0 gained.1 (is.step.answers gained.0 gained.1)))
   ]
 
-comes_adds : (c : Client) (bytes : List ℕ) (new : Protocol) → IsReceiving c bytes new → Comes bytes c.core.allocations c.core.agent c.core.rng new → AddsAnswered c bytes new
-comes_adds c bytes new is (inl more) h k = inl (more h k)
-comes_adds c bytes new is (inr taken) h k = answered_adds c bytes new is taken.1 h k
+-- a client that has not ended can ask
+can_while : (c : Client) (phase : Phase) → IsGoing phase → UntilEnded phase (CanAsk c) → CanAsk c
+can_while c Initial going can = can
+can_while c (InitialSent numbers) going can = can
+can_while c (Authenticating numbers) going can = can
+can_while c Authenticated going can = can
+can_while c Ended going can = absurd (Prim.cc (going (Some (record { realm = []; nonce = []; offered = None; choice = Sha1 }))))
 
-unsigned : (c : Client) (bytes : List ℕ) (new : Protocol) → (IsSignedFor c.credentials bytes → ⊥) → AddsAnswered c bytes new → AddsNothing c.core new
+signed_by : (c : Client) (bytes : List ℕ) → IsSound c → AreBytes bytes → IsAcceptedBy c.core bytes → IsSignedFor c bytes
+signed_by c bytes sound are_bytes is = validated_own c is.signer bytes is.algorithm are_bytes (can_while c c.core.phase is.going sound.can_ask) is.going is.valid
+
+comes_adds : (c : Client) (bytes : List ℕ) (new : Protocol) → IsSound c → AreBytes bytes → IsReceiving c bytes new → Comes (IsAcceptedBy c.core bytes) bytes c.core.allocations c.core.agent c.core.rng new → AddsAnswered c bytes new
+comes_adds c bytes new sound are_bytes is (inl more) h k = inl (more h k)
+comes_adds c bytes new sound are_bytes is (inr taken) h k = answered_adds c bytes new is taken.1 (signed_by c bytes sound are_bytes taken.2) h k
+
+unsigned : (c : Client) (bytes : List ℕ) (new : Protocol) → (IsSignedFor c bytes → ⊥) → AddsAnswered c bytes new → AddsNothing c.core new
 unsigned c bytes new isnt adds h k = elim (adds h k) [ inl was ↦ was | inr gained ↦ absurd (isnt gained.signed) ]
 
 -- ---- where no integrity is shown
@@ -104,29 +117,29 @@ of_kind Sha1 none = Prim.cc none
 of_kind Sha256 none = Prim.cc none
 of_kind Sha512 none = Prim.cc none
 
-pub none_signed : (account : NameAndPassword) (bytes : List ℕ) → ShowNoIntegrity bytes → IsSignedFor account bytes → ⊥
-none_signed account bytes none is =
-    let signed = is.valid.validates.signed in
+pub none_signed : (bytes key text : List ℕ) (algorithm : IntegrityAlgorithm) → ShowNoIntegrity bytes → AreValid bytes key algorithm text → ⊥
+none_signed bytes key text algorithm none is =
+    let signed = is.validates.signed in
     let entry : ℕ × Attr = (signed.offset, signed.attribute) in
     let listed : IsIn entry (numbered header_size (shown bytes)) = subst (λ (all : List (ℕ × Attr)). IsIn entry all) (sym signed.shows) (in_middle entry signed.before signed.behind) in
-    of_kind is.algorithm (ap algorithm_of (sym signed.kind) ∙ none signed.attribute (in_numbered (shown bytes) header_size entry listed))
+    of_kind algorithm (ap algorithm_of (sym signed.kind) ∙ none signed.attribute (in_numbered (shown bytes) header_size entry listed))
 
 -- ---- a message of the server's
 
 module _ (c : Client) (bytes : List ℕ) (now : ℕ) (handled : Bool) (new : Protocol) (sound : IsSound c) (are_bytes : AreBytes bytes) (message : refusal bytes ≡ None) where
   pub heard_adds : IsHeard c.core bytes now handled new → AddsAnswered c bytes new
-  heard_adds is = comes_adds c bytes new (receive_step c bytes now handled new sound are_bytes message is) ((heard_keeps bytes now c.core).keeps handled new is)
+  heard_adds is = comes_adds c bytes new sound are_bytes (receive_step c bytes now handled new sound are_bytes message is) ((heard_keeps bytes now c.core).keeps handled new is)
 
-  pub heard_unsigned : (IsSignedFor c.credentials bytes → ⊥) → IsHeard c.core bytes now handled new → AddsNothing c.core new
+  pub heard_unsigned : (IsSignedFor c bytes → ⊥) → IsHeard c.core bytes now handled new → AddsNothing c.core new
   heard_unsigned isnt is = unsigned c bytes new isnt (heard_adds is)
 
 -- ---- one that came over the socket of a connection
 
 module _ (c : Client) (here : SocketAddr) (bytes : List ℕ) (now : ℕ) (new : Protocol) (sound : IsSound c) (are_bytes : AreBytes bytes) (message : refusal bytes ≡ None) where
   pub heard_at_adds : IsHeardAt here c.core bytes now new → AddsAnswered c bytes new
-  heard_at_adds is = comes_adds c bytes new (answer_step c bytes now new here sound are_bytes message is) (heard_at_comes here bytes now new c.core is)
+  heard_at_adds is = comes_adds c bytes new sound are_bytes (answer_step c bytes now new here sound are_bytes message is) (heard_at_comes here bytes now new c.core is)
 
-  pub heard_at_unsigned : (IsSignedFor c.credentials bytes → ⊥) → IsHeardAt here c.core bytes now new → AddsNothing c.core new
+  pub heard_at_unsigned : (IsSignedFor c bytes → ⊥) → IsHeardAt here c.core bytes now new → AddsNothing c.core new
   heard_at_unsigned isnt is = unsigned c bytes new isnt (heard_at_adds is)
 
 -- ---- no message

@@ -50,7 +50,6 @@ use Rattle.turn_client_proto_steps.specs.RunSteps.{IsRunStep, call_of}
 use Rattle.turn_client_proto_steps.specs.Sound.{AsksFor, CanAsk, IsOrderly, IsSound, UntilEnded}
 use Rattle.turn_client_proto_steps.proofs.Adding.{HasNumber, adds_both, allocations_less}
 use Rattle.turn_client_proto_steps.proofs.Agents.{has_other, message_shown, outstanding_before}
-use Rattle.turn_client_proto_steps.proofs.Allocating.{validated_own}
 use Rattle.turn_client_proto_steps.proofs.Asking.{IsMade, IsUnderWay, asked_from_adds, asked_from_orderly, asks, at_first, made, once_accepted, once_answered, once_judged}
 use Rattle.turn_client_proto_steps.proofs.Binds.{asks_bind}
 use Rattle.turn_client_proto_steps.proofs.Changing.{AreChanging, Bounding, IsChanging, IsFirst, IsTurned, Rebinding, allocations_changing, attempted_changing, changing_orderly, first_changing, held_as, kept_changing, none_bound, none_rebound, one_changing, taken_changing, waits_changing}
@@ -61,13 +60,15 @@ use Rattle.turn_client_proto_steps.proofs.Orderly.{allocations_orderly, until_al
 use Rattle.turn_client_proto_steps.proofs.Parting.{closed_alike, closed_less}
 use Rattle.turn_client_proto_steps.proofs.Plain.{counts_none, held_is_kept, joined, none_told, nothing_drawn, quiet, run_step}
 use Rattle.turn_client_proto_steps.proofs.Polling.{by_test}
+use Rattle.turn_client_proto_steps.proofs.Realms.{going_at}
 use Rattle.turn_client_proto_steps.proofs.Refreshing.{allocated}
 use Rattle.turn_client_proto_steps.proofs.Requesting.{authenticated}
+use Rattle.turn_client_proto_steps.proofs.Signed.{signed_arrives, validated_own}
 use Rattle.turn_client_proto_steps.proofs.Streaming.{from_first}
 
 -- ---- the connection goes
 
-module _ (c : Client) (mid : Protocol) (bytes : List ℕ) (here peer : SocketAddr) (under_way : IsUnderWay c mid) where
+module _ (c : Client) (mid : Protocol) (bytes : List ℕ) (here peer : SocketAddr) (under_way : IsUnderWay c (bytes ∷ []) mid) where
   breaks : IsRunStep c (bytes ∷ []) None [] (broken_off here peer mid)
   unfolding broken_off
   breaks =
@@ -75,7 +76,7 @@ module _ (c : Client) (mid : Protocol) (bytes : List ℕ) (here peer : SocketAdd
       let after : Protocol = broken_off here peer mid in
       let fewer = each_less [] (closed here) (closed_less here) mid.allocations in
       run_step [] (bytes ∷ []) None [] c c.drawn after
-      (quiet None [] c c.drawn after (counts_none c after under_way.rng)
+      (quiet None [] c c.drawn after (counts_none c after under_way.rng) under_way.realms
       (adds_both [] (parts_of c.core) (parts_of mid) (parts_of after) under_way.adds (allocations_less [] [] (parts_of mid) left fewer (λ r h. absurd h)))
       (nothing_drawn [] c) (none_told mid.events (TcpConnectFailed peer ∷ []) refl ∙ under_way.told))
       (allocations_orderly [] (parts_of mid) left fewer (λ r h. absurd h) (same_distinct (closed here) (closed_alike here) mid.allocations under_way.orderly.distinct) under_way.orderly)
@@ -120,7 +121,7 @@ module _ (New : Bounding) (Now : Rebinding) (here : SocketAddr) (all : List Allo
 
 -- ---- it is asked for once more
 
-module _ (c : Client) (mid : Protocol) (bytes : List ℕ) (now : ℕ) (under_way : IsUnderWay c mid) (stands : mid.phase ≡ Authenticated) (here : SocketAddr) (j : Joining) (is : IsJoining here mid.allocations j) where
+module _ (c : Client) (mid : Protocol) (bytes : List ℕ) (now : ℕ) (under_way : IsUnderWay c (bytes ∷ []) mid) (stands : mid.phase ≡ Authenticated) (here : SocketAddr) (j : Joining) (is : IsJoining here mid.allocations j) where
   -- by the request of this number
   abbrev asks_by : ℕ → Rebinding
   asks_by number k b = (k.connection ≡ j.connection) × (b.number ≡ number)
@@ -154,7 +155,7 @@ module _ (c : Client) (mid : Protocol) (bytes : List ℕ) (now : ℕ) (under_way
       let distinct : AreDistinct left = same_first_distinct (has_from here) (waits_in here (Some (awaited number))) (λ a. (refl, refl)) mid.allocations under_way.orderly.distinct in
       let orderly = changing_orderly none_bound (asks_by number) sent left are asks_it distinct
       (asked_from_orderly here mid (ConnectionBind j.connection) number now made_it (allocated _ mid.phase stands) under_way.orderly) in
-      asks c mid (ConnectionBind j.connection) number under_way made_it (bytes ∷ []) None core adds orderly refl under_way.can_ask.families refl refl (nothing_drawn begun c)
+      asks c mid (ConnectionBind j.connection) number under_way made_it None core adds orderly refl (λ realm h. h) under_way.can_ask.families refl refl (nothing_drawn begun c)
 
   pub anew_step : (new : Protocol) → IsAskedAnew here j.connection now mid new → IsRunStep c (bytes ∷ []) None [] new
   anew_step new h =
@@ -164,9 +165,9 @@ module _ (c : Client) (mid : Protocol) (bytes : List ℕ) (now : ℕ) (under_way
 -- ---- it is bound
 
 module _ (c : Client) (signer : signers.Client) (bytes : List ℕ) (message : refusal bytes ≡ None) (success : class_of (kind_at bytes) ≡ Success) (ends : ends_one c.core.agent bytes ≡ true)
-    (own : IsSignedFor c.credentials bytes) (here : SocketAddr) (j : Joining) (is : IsJoining here c.core.allocations j) (number_is : number_at bytes ≡ j.number)
+    (own : IsSignedFor c bytes) (here : SocketAddr) (j : Joining) (is : IsJoining here c.core.allocations j) (number_is : number_at bytes ≡ j.number)
     (t : Transaction) (there : finite.get c.core.agent.outstanding (number_at bytes) ≡ Some t)
-    (orderly : IsOrderly (parts_of c.core)) (under_way : IsUnderWay c (accepted bytes (judged signer c.core))) where
+    (orderly : IsOrderly (parts_of c.core)) (under_way : IsUnderWay c (bytes ∷ []) (accepted bytes (judged signer c.core))) where
   abbrev agent : Agent
   agent = after_message c.core.agent bytes c.core.server
 
@@ -236,7 +237,7 @@ module _ (c : Client) (signer : signers.Client) (bytes : List ℕ) (message : re
   answers_it = record {
     bytes = bytes;
     response = told_by bytes;
-    arrives = record { handled = inl refl; shows = message_shown bytes message; key = own.key; own = own.own; algorithm = own.algorithm; text = own.text; valid = own.valid };
+    arrives = signed_arrives c bytes (moved c c.drawn core) message own;
     number_is = refl;
     request = told_by t.bytes;
     waited = inl (record { number = number_at bytes; transaction = t; there = there; shows = message_shown t.bytes (orderly.messages (number_at bytes) t there) });
@@ -250,6 +251,7 @@ module _ (c : Client) (signer : signers.Client) (bytes : List ℕ) (message : re
   step = record {
     account = refl;
     seed = refl;
+    realms = under_way.realms;
     counted = (counts_none c core refl).counted;
     few = (counts_none c core refl).few;
     begun = [];
@@ -312,7 +314,7 @@ module _ (c : Client) (bytes : List ℕ) (now : ℕ) (orderly : IsOrderly (parts
   bound_by algorithm signer valid success awaited (Some t) there some =
       let both = both_so (is_response bytes) (number_at bytes == j.number) answer in
       let ends : ends_one c.core.agent bytes ≡ true = (rw (both.0, awaited) refl) in
-      bound_step c signer bytes message success ends (validated_own c.core.auth signer bytes algorithm c.credentials are_bytes can.account valid) here j is
+      bound_step c signer bytes message success ends (validated_own c signer bytes algorithm are_bytes can (going_at c.core.phase Authenticated stands (λ kept. refl)) valid) here j is
       (eqb-true (number_at bytes) j.number both.1) t there orderly (once_accepted c (judged signer c.core) bytes (once_judged c bytes (Ok (Validated algorithm)) signer orderly can valid))
 
   settled : (algorithm : IntegrityAlgorithm) (signer : signers.Client) (new : Protocol) → IsJudged c.core.auth bytes (Ok (Validated algorithm)) signer → IsSettled here j.peer (judged signer c.core) bytes new
@@ -353,7 +355,7 @@ module _ (c : Client) (bytes : List ℕ) (now : ℕ) (new : Protocol) (here : So
       by_test (is_answer j.number bytes)
       (λ (answer : is_answer j.number bytes ≡ true) (o : IsAnswerHeard here j c.core bytes now new).
       answer_judged c bytes now sound.orderly can stands are_bytes message here j (joining_is here c.core.allocations j there) answer o.verdict o.auth new o.is_judged o.outcome)
-      (λ (_ : is_answer j.number bytes ≡ false) (o : new ≡ broken_off here j.peer c.core). broken_step c c.core bytes here j.peer (at_first c sound.orderly can) new o) h
+      (λ (_ : is_answer j.number bytes ≡ false) (o : new ≡ broken_off here j.peer c.core). broken_step c c.core bytes here j.peer (at_first c (bytes ∷ []) sound.orderly can) new o) h
 
   pub answer_step : IsHeardAt here c.core bytes now new → IsRunStep c (bytes ∷ []) None [] new
   answer_step is =

@@ -28,7 +28,7 @@ use Rattle.turn_client_proto_data.specs.Drawing.{sent_at_once}
 use Rattle.turn_client_proto_data.specs.Core.Numbering.{IsNextNumber, after_draw, after_number}
 use Rattle.turn_client_proto_data.specs.Core.Responding.{accepted, answered, judged}
 use Rattle.turn_client_proto_data.specs.Core.declared.protocol.Protocol.{Protocol}
-use Rattle.turn_client_proto_steps.specs.ClientWords.{client_words}
+use Rattle.turn_client_proto_steps.specs.ClientWords.{challenge_of, client_words, realm_in}
 use Rattle.turn_client_proto_steps.specs.RunClient.{Client, Parts, moved, parts_of}
 use Rattle.turn_client_proto_steps.specs.RunSteps.{IsRunStep}
 use Rattle.turn_client_proto_steps.specs.Sound.{BeforeAllocated, CanAsk, IsOrderly, stream_from}
@@ -36,29 +36,32 @@ use Rattle.turn_client_proto_steps.proofs.Adding.{Adds, adds_both, adds_none, ag
 use Rattle.turn_client_proto_steps.proofs.Numbers.{IsAtPlace, number_at_place, number_small, words_after}
 use Rattle.turn_client_proto_steps.proofs.Orderly.{IsAllocate, IsFree, agent_orderly, queue_orderly, request_orderly, until_all}
 use Rattle.turn_client_proto_steps.proofs.Plain.{counts_one, notices, run_step}
+use Rattle.turn_client_proto_steps.proofs.Realms.{TakesRealm, judged_realm}
 use Rattle.turn_client_proto_steps.proofs.Taken.{free_by}
 
 -- ---- a call under way
 
 -- so far nothing was asked for or gained, but perhaps a response was taken up or judged
-pub record IsUnderWay (c : Client) (mid : Protocol) : Type 0 where
+pub record IsUnderWay (c : Client) (came : List (List ℕ)) (mid : Protocol) : Type 0 where
   pub adds : Adds [] (parts_of c.core) (parts_of mid)
   pub orderly : IsOrderly (parts_of mid)
   pub can_ask : CanAsk (moved c c.drawn mid)
   pub told : notices mid.events ≡ notices c.core.events
   pub rng : mid.rng ≡ c.core.rng
+  pub realms : TakesRealm came c.core mid
 
-pub at_first : (c : Client) → IsOrderly (parts_of c.core) → CanAsk c → IsUnderWay c c.core
-at_first c orderly can = record {
+pub at_first : (c : Client) (came : List (List ℕ)) → IsOrderly (parts_of c.core) → CanAsk c → IsUnderWay c came c.core
+at_first c came orderly can = record {
   adds = adds_none [] (parts_of c.core);
   orderly = orderly;
   can_ask = record { account = can.account; texts = can.texts; families = can.families; words = can.words };
   told = refl;
   rng = refl;
+  realms = λ realm is. inl is;
 }
 
 pub once_judged : (c : Client) (bytes : List ℕ) (verdict : Result LongTermClientValidation LongTermClientAuthError) (signer : signers.Client) → IsOrderly (parts_of c.core) → CanAsk c → IsJudged c.core.auth bytes verdict signer
-    → IsUnderWay c (judged signer c.core)
+    → IsUnderWay c (bytes ∷ []) (judged signer c.core)
 once_judged c bytes verdict signer orderly can is = record {
   adds = adds_none [] (parts_of c.core);
   orderly = orderly;
@@ -70,9 +73,10 @@ once_judged c bytes verdict signer orderly can is = record {
   };
   told = refl;
   rng = refl;
+  realms = judged_realm c.core bytes verdict signer is;
 }
 
-pub once_answered : (c : Client) (mid : Protocol) (bytes : List ℕ) → IsUnderWay c mid → IsUnderWay c (answered bytes mid)
+pub once_answered : {came : List (List ℕ)} (c : Client) (mid : Protocol) (bytes : List ℕ) → IsUnderWay c came mid → IsUnderWay c came (answered bytes mid)
 unfolding answered
 once_answered c mid bytes is = record {
   adds = adds_both [] (parts_of c.core) (parts_of mid) _ is.adds (agent_less [] (parts_of mid) (after_message mid.agent bytes mid.server) (handled_new mid.agent bytes mid.server));
@@ -80,9 +84,10 @@ once_answered c mid bytes is = record {
   can_ask = record { account = is.can_ask.account; texts = is.can_ask.texts; families = is.can_ask.families; words = is.can_ask.words };
   told = is.told;
   rng = is.rng;
+  realms = is.realms;
 }
 
-pub once_accepted : (c : Client) (mid : Protocol) (bytes : List ℕ) → IsUnderWay c mid → IsUnderWay c (accepted bytes mid)
+pub once_accepted : {came : List (List ℕ)} (c : Client) (mid : Protocol) (bytes : List ℕ) → IsUnderWay c came mid → IsUnderWay c came (accepted bytes mid)
 unfolding accepted
 once_accepted c mid bytes is = record {
   adds = adds_both [] (parts_of c.core) (parts_of mid) _ is.adds (agent_less [] (parts_of mid) (after_message mid.agent bytes mid.server) (handled_new mid.agent bytes mid.server));
@@ -90,6 +95,7 @@ once_accepted c mid bytes is = record {
   can_ask = record { account = is.can_ask.account; texts = is.can_ask.texts; families = is.can_ask.families; words = is.can_ask.words };
   told = is.told;
   rng = is.rng;
+  realms = is.realms;
 }
 
 -- ---- what a request tells
@@ -109,7 +115,7 @@ pub record IsMade (mid : Protocol) (request : TurnRequest) (number : ℕ) : Type
   pub number_is : number_at (request_text mid.auth request number) ≡ number
   pub told : told_by (request_text mid.auth request number) ≡ told_request request number
 
-pub made : (c : Client) (mid : Protocol) (request : TurnRequest) (number : ℕ) → IsUnderWay c mid → IsLawfulRequest request → CanBeRead request number → IsNextNumber mid number → IsMade mid request number
+pub made : {came : List (List ℕ)} (c : Client) (mid : Protocol) (request : TurnRequest) (number : ℕ) → IsUnderWay c came mid → IsLawfulRequest request → CanBeRead request number → IsNextNumber mid number → IsMade mid request number
 made c mid request number is lawful read next =
     let texts : HasShortTexts mid.auth = is.can_ask.texts in
     let small = number_small mid number next in
@@ -124,7 +130,7 @@ made c mid request number is lawful read next =
 pub free : (mid : Protocol) (request : TurnRequest) (number : ℕ) → IsMade mid request number → IsFree (parts_of mid) (number_at (request_text mid.auth request number))
 free mid request number is = subst (λ (n : ℕ). IsFree (parts_of mid) n) (sym is.number_is) (free_by mid number is.is_next.free)
 
-module _ (c : Client) (mid : Protocol) (request : TurnRequest) (number : ℕ) (under_way : IsUnderWay c mid) (is : IsMade mid request number) where
+module _ {came : List (List ℕ)} (c : Client) (mid : Protocol) (request : TurnRequest) (number : ℕ) (under_way : IsUnderWay c came mid) (is : IsMade mid request number) where
   abbrev text : List ℕ
   text = request_text mid.auth request number
 
@@ -149,14 +155,15 @@ module _ (c : Client) (mid : Protocol) (request : TurnRequest) (number : ℕ) (u
       (c.drawn, from, below, subst (λ (n : ℕ). IsNumberAt client_words c [] c.drawn n) (sym is.number_is) here, to)
 
   -- the client that has made it
-  pub asks : (came : List (List ℕ)) (drawn : Option (List ℕ)) (core : Protocol) → Adds (told_by text ∷ []) (parts_of mid) (parts_of core) → IsOrderly (parts_of core)
-      → core.auth ≡ mid.auth → length core.families ≤ 2 → core.rng ≡ after_draw mid.rng → notices core.events ≡ notices mid.events
+  pub asks : (drawn : Option (List ℕ)) (core : Protocol) → Adds (told_by text ∷ []) (parts_of mid) (parts_of core) → IsOrderly (parts_of core)
+      → core.auth ≡ mid.auth → ((realm : List ℕ) → realm_in (challenge_of core) ≡ Some realm → realm_in (challenge_of mid) ≡ Some realm) → length core.families ≤ 2 → core.rng ≡ after_draw mid.rng → notices core.events ≡ notices mid.events
       → ((bytes : List ℕ) (m : run.Message) → drawn ≡ Some bytes → stun_wire.shown bytes ≡ Some m → MayDraw client_words c (told_by text ∷ []) m)
       → IsRunStep c came drawn [] core
-  asks came drawn core adds orderly same_auth families rng told draws =
+  asks drawn core adds orderly same_auth same_realm families rng told draws =
       run_step (told_by text ∷ []) came drawn [] c (c.drawn + 1) core (record {
         requests = requests;
         counts = counts_one c core (rng ∙ ap after_draw under_way.rng);
+        realms = λ realm is. under_way.realms realm (same_realm realm is);
         numbered = numbered;
         adds = adds_both (told_by text ∷ []) (parts_of c.core) (parts_of mid) (parts_of core) (widened (told_by text ∷ []) (parts_of c.core) (parts_of mid) under_way.adds) adds;
         draws = draws;

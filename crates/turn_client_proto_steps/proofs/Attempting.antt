@@ -32,7 +32,6 @@ use Rattle.turn_client_proto_steps.specs.RunClient.{Client, moved, parts_of}
 use Rattle.turn_client_proto_steps.specs.RunSteps.{IsRunStep, call_of}
 use Rattle.turn_client_proto_steps.specs.Sound.{IsOrderly, IsReady}
 use Rattle.turn_client_proto_steps.proofs.Adding.{still_queued}
-use Rattle.turn_client_proto_steps.proofs.Agents.{message_shown}
 use Rattle.turn_client_proto_steps.proofs.Asking.{IsUnderWay}
 use Rattle.turn_client_proto_steps.proofs.Hearing.{done}
 use Rattle.turn_client_proto_steps.proofs.Joining.{AreJoining, IsJoining, Learning, first_joining, joining_orderly, kept_joining, none_connects, waited_itself}
@@ -41,6 +40,7 @@ use Rattle.turn_client_proto_steps.proofs.Lists.{both_so, in_either, nothing_beh
 use Rattle.turn_client_proto_steps.proofs.Orderly.{queue_orderly, until_all}
 use Rattle.turn_client_proto_steps.proofs.Plain.{counts_none, held_is_kept, nothing_drawn, notices}
 use Rattle.turn_client_proto_steps.proofs.Polling.{by_test}
+use Rattle.turn_client_proto_steps.proofs.Signed.{signed_arrives}
 
 -- ---- an answer
 
@@ -78,7 +78,7 @@ request_class Indication is = absurd (Prim.cc is)
 request_class Success is = absurd (Prim.cc is)
 request_class Error is = absurd (Prim.cc is)
 
-module _ (c : Client) (signer : signers.Client) (bytes : List ℕ) (message : refusal bytes ≡ None) (own : IsSignedFor c.credentials bytes) (under_way : IsUnderWay c (judged signer c.core)) where
+module _ (c : Client) (signer : signers.Client) (bytes : List ℕ) (message : refusal bytes ≡ None) (own : IsSignedFor c bytes) (under_way : IsUnderWay c (bytes ∷ []) (judged signer c.core)) where
   abbrev mid : Protocol
   mid = judged signer c.core
 
@@ -91,7 +91,7 @@ module _ (c : Client) (signer : signers.Client) (bytes : List ℕ) (message : re
       record {
         bytes = bytes;
         attempt = told_by bytes;
-        arrives = record { handled = inl refl; shows = message_shown bytes message; key = own.key; own = own.own; algorithm = own.algorithm; text = own.text; valid = own.valid };
+        arrives = signed_arrives c bytes (moved c c.drawn core) message own;
         class_is = request_class (class_of (kind_at bytes)) both.0;
         method_is = eqb-true (method_of (kind_at bytes)) connection_attempt_method both.1;
       }
@@ -106,6 +106,7 @@ module _ (c : Client) (signer : signers.Client) (bytes : List ℕ) (message : re
     step = record {
       account = refl;
       seed = refl;
+      realms = under_way.realms;
       counted = (counts_none c core refl).counted;
       few = (counts_none c core refl).few;
       begun = [];

@@ -1,5 +1,5 @@
 -- A new client is sound, and nothing was asked of it.
-use Rattle.std.proofs.Common.{◌≡◌, ℕ, ◌*◌, ◌≤◌, List, length, Some, refl, sym, ap, ◌∙◌, subst}
+use Rattle.std.proofs.Common.{◌≡◌, ℕ, ◌*◌, ◌≤◌, List, length, Some, None, refl, sym, ap, ◌∙◌, subst}
 use Rattle.std.specs.FinMap as map
 use Rattle.std.specs.Ordering.{nat_cmp}
 use Rattle.std.specs.declared.net.socket_addr.SocketAddr.{SocketAddr}
@@ -27,7 +27,7 @@ use Rattle.turn_client_proto_data.specs.Core.Waiting.{Queued}
 use Rattle.turn_client_proto_data.specs.Core.declared.protocol.Phase.{Phase}
 use Rattle.turn_client_proto_data.specs.Core.declared.protocol.Protocol.{Protocol}
 use Rattle.turn_client_proto_steps.specs.Beginning.{first_client}
-use Rattle.turn_client_proto_steps.specs.ClientWords.{IsAttempted, IsWaiting, IsAnswered, IsTaken, Outstanding, Allocating, Pending, run_words}
+use Rattle.turn_client_proto_steps.specs.ClientWords.{IsAttempted, IsWaiting, IsAnswered, IsTaken, Outstanding, Allocating, Pending, challenge_in, challenge_of, realm_in, run_words}
 use Rattle.turn_client_proto_steps.specs.Held.{Allocation}
 use Rattle.turn_client_proto_steps.specs.RunClient.{parts_of}
 use Rattle.turn_client_proto_steps.specs.Sound.{IsOrderly, IsSound, stream_from}
@@ -86,6 +86,11 @@ module _ (transport : TransportType) (here server : SocketAddr) (config : Config
   none_attempted : (n : ℕ) → IsAttempted p.allocations p.queue n → ⊥
   none_attempted n (IsWaiting a listed w has number) = none_listed a listed
   none_attempted n (IsAnswered q listed response number) = none_queued q listed
+
+  pub new_realm : realm_in (challenge_of p) ≡ None
+  new_realm =
+      ap (λ (f : Phase). realm_in (challenge_in f p.auth.challenge)) is.phase
+      ∙ ap (λ (a : signers.Client). realm_in a.challenge) is.auth
 
   pub new_unasked : {D : Type 0} (desk : DeskWords D) → runs.IsNew (run_words desk) (first_client config.credentials seed p)
   new_unasked desk = record {

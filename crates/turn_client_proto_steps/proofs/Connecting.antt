@@ -68,6 +68,7 @@ use Rattle.turn_client_proto_steps.proofs.Orderly.{until_all}
 use Rattle.turn_client_proto_steps.proofs.Plain.{counts_none, held_is_kept, none_told, nothing_drawn, notices, quiet, run_step}
 use Rattle.turn_client_proto_steps.proofs.Refreshing.{allocated, number_drawn}
 use Rattle.turn_client_proto_steps.proofs.Requesting.{authenticated, marks_first}
+use Rattle.turn_client_proto_steps.proofs.Signed.{signed_arrives}
 use Rattle.turn_client_proto_steps.proofs.Taken.{none_outstanding}
 
 -- ---- what a CONNECT asks for
@@ -101,7 +102,7 @@ module _ (c : Client) (peer : SocketAddr) (now : ℕ) (whole : IsWhole peer) whe
   abbrev passes : Allocation → Bool
   passes = is_of Tcp (family_of_socket peer)
 
-  asks_for : (number : ℕ) → IsOrderly (parts_of c.core) → c.core.phase ≡ Authenticated → IsUnderWay c c.core → IsMade c.core (Connect peer) number → IsRunStep c [] None [] (after_connecting peer number now c.core)
+  asks_for : (number : ℕ) → IsOrderly (parts_of c.core) → c.core.phase ≡ Authenticated → IsUnderWay c [] c.core → IsMade c.core (Connect peer) number → IsRunStep c [] None [] (after_connecting peer number now c.core)
   unfolding after_connecting asked
   asks_for number orderly stands under_way is =
       let text = request_text c.core.auth (Connect peer) number in
@@ -115,7 +116,7 @@ module _ (c : Client) (peer : SocketAddr) (now : ℕ) (whole : IsWhole peer) whe
       let kept = joining_orderly (asks_to peer number) none_learnt mid left are (asks_connect c.core peer number now is) (whole_to peer number whole)
       (same_first_distinct passes change (λ a. (refl, refl)) c.core.allocations orderly.distinct)
       (asked_orderly c.core (Connect peer) number now is (allocated _ c.core.phase stands) orderly) in
-      asks c c.core (Connect peer) number under_way is [] None (after_connecting peer number now c.core) adds kept refl under_way.can_ask.families refl refl (nothing_drawn (told_by text ∷ []) c)
+      asks c c.core (Connect peer) number under_way is None (after_connecting peer number now c.core) adds kept refl (λ realm h. h) under_way.can_ask.families refl refl (nothing_drawn (told_by text ∷ []) c)
 
   refused : (found : Option Allocation) (new : Protocol) → IsSound c → new ≡ connect_refused_in found peer now c.core → IsRunStep c [] None [] new
   refused None new sound is = still c [] new sound is
@@ -129,7 +130,7 @@ module _ (c : Client) (peer : SocketAddr) (now : ℕ) (whole : IsWhole peer) whe
   answered : (answer : Result (Unit {0}) TcpConnectError) (new : Protocol) → IsSound c → c.core.phase ≡ Authenticated → CanAsk c
       → MatchResult answer (λ _. IsConnectionAsked c.core peer now new) (λ error. (error ≡ NoMemory) × (new ≡ after_number c.core)) → IsRunStep c [] None [] new
   answered (Ok x) new sound stands can is =
-      let under_way = at_first c sound.orderly can in
+      let under_way = at_first c [] sound.orderly can in
       subst (λ (p : Protocol). IsRunStep c [] None [] p) (sym is.after)
       (asks_for is.number sound.orderly stands under_way (made c c.core (Connect peer) is.number under_way tt (peer_read is.number peer whole.own whole.flow whole.scope) is.is_next))
   answered (Err e) new sound stands can is = subst (λ (p : Protocol). IsRunStep c [] None [] p) (sym is.1) (number_drawn c sound)
@@ -223,9 +224,9 @@ number_told bytes connection told = by (find (λ (a : Attr). eqb a.kind connecti
         same_kind connection_id_kind connection a _ kind is
 
 module _ (c : Client) (signer : signers.Client) (bytes : List ℕ) (message : refusal bytes ≡ None) (response : is_response_class (class_of (kind_at bytes)) ≡ true)
-    (own : IsSignedFor c.credentials bytes) (peer : SocketAddr) (connection : ℕ) (told : connection_told bytes ≡ Some connection)
+    (own : IsSignedFor c bytes) (peer : SocketAddr) (connection : ℕ) (told : connection_told bytes ≡ Some connection)
     (is : IsConnectFound (number_at bytes) peer c.core.allocations) (t : Transaction) (there : finite.get c.core.agent.outstanding (number_at bytes) ≡ Some t)
-    (orderly : IsOrderly (parts_of c.core)) (under_way : IsUnderWay c (accepted bytes (judged signer c.core))) where
+    (orderly : IsOrderly (parts_of c.core)) (under_way : IsUnderWay c (bytes ∷ []) (accepted bytes (judged signer c.core))) where
   abbrev number : ℕ
   number = number_at bytes
 
@@ -255,7 +256,7 @@ module _ (c : Client) (signer : signers.Client) (bytes : List ℕ) (message : re
       (subst (λ (x : SocketAddr). IsAnswered client_words (call_of c (bytes ∷ []) None [] (moved c c.drawn core)) [] (run.Knows connection x) number) alike (record {
         bytes = bytes;
         response = told_by bytes;
-        arrives = record { handled = inl refl; shows = message_shown bytes message; key = own.key; own = own.own; algorithm = own.algorithm; text = own.text; valid = own.valid };
+        arrives = signed_arrives c bytes (moved c c.drawn core) message own;
         number_is = refl;
         request = told_by t.bytes;
         waited = inl (record { number = number; transaction = t; there = there; shows = message_shown t.bytes (orderly.messages number t there) });
@@ -269,6 +270,7 @@ module _ (c : Client) (signer : signers.Client) (bytes : List ℕ) (message : re
   step = record {
     account = refl;
     seed = refl;
+    realms = under_way.realms;
     counted = (counts_none c core refl).counted;
     few = (counts_none c core refl).few;
     begun = [];
@@ -320,7 +322,7 @@ module _ (c : Client) (signer : signers.Client) (bytes : List ℕ) (message : re
 
 -- ---- by what the request asks for
 
-module _ (c : Client) (mid : Protocol) (bytes : List ℕ) (under_way : IsUnderWay c mid) where
+module _ (c : Client) (mid : Protocol) (bytes : List ℕ) (under_way : IsUnderWay c (bytes ∷ []) mid) where
   -- the client with these allocations and events
   abbrev with_answer : Option Asked → Option ℕ → Protocol
   with_answer what told = record mid {
@@ -339,7 +341,7 @@ module _ (c : Client) (mid : Protocol) (bytes : List ℕ) (under_way : IsUnderWa
       let after : Protocol = record mid { allocations = left; events = core.events } in
       subst (λ (p : Protocol). IsRunStep c (bytes ∷ []) None [] p) (sym is)
       (run_step [] (bytes ∷ []) None [] c c.drawn after
-      (quiet None [] c c.drawn after (counts_none c after under_way.rng)
+      (quiet None [] c c.drawn after (counts_none c after under_way.rng) under_way.realms
       (adds_both [] (parts_of c.core) (parts_of mid) (record (parts_of mid) { allocations = left }) under_way.adds (allocations_joining [] none_connects (parts_of mid) left are (λ k h. absurd h)))
       (nothing_drawn [] c) (told ∙ under_way.told))
       (joining_orderly none_connects none_learnt (parts_of mid) left are (λ k h. absurd h) (λ k h. absurd h) distinct under_way.orderly) (until_all mid.phase (record {

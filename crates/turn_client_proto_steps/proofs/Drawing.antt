@@ -54,6 +54,7 @@ use Rattle.turn_client_proto_steps.proofs.Fitting.{AreFit, permitting_orderly}
 use Rattle.turn_client_proto_steps.proofs.Permitting.{ArePermitting, allocations_permitting, none_gained}
 use Rattle.turn_client_proto_steps.proofs.Plain.{counts_none, quiet, run_step}
 use Rattle.turn_client_proto_steps.proofs.Polling.{by_test}
+use Rattle.turn_client_proto_steps.proofs.Realms.{going_at, realm_going}
 use Rattle.turn_client_proto_steps.proofs.Refreshing.{allocated, refresh_made, refresh_of, refresh_short}
 use Rattle.turn_client_proto_steps.proofs.Wanting.{IsToRenew, first_to_renew, renewal_whole}
 
@@ -78,7 +79,7 @@ repeats c now sent new sound is =
     let own : sent.bytes ≡ is.transaction.bytes = ap (λ (s : Sent). s.bytes) is.is_sent in
     subst (λ (p : Protocol). IsRunStep c [] (Some sent.bytes) [] p) (sym is.after)
     (run_step [] [] (Some sent.bytes) [] c c.drawn core
-    (quiet (Some sent.bytes) [] c c.drawn core (counts_none c core refl) (agent_less [] (parts_of c.core) agent none)
+    (quiet (Some sent.bytes) [] c c.drawn core (counts_none c core refl) (λ realm h. inl h) (agent_less [] (parts_of c.core) agent none)
     (λ bytes m same shows. inl (inr (inl (record {
       number = is.number;
       transaction = is.transaction;
@@ -110,7 +111,7 @@ waits_sent c q rest sent core sound listed within own is =
     let after : Protocol = record c.core { queue = rest; last_send = core.last_send } in
     subst (λ (p : Protocol). IsRunStep c [] (Some sent) [] p) (sym is)
     (run_step [] [] (Some sent) [] c c.drawn after
-    (quiet (Some sent) [] c c.drawn after (counts_none c after refl) (queue_less (parts_of c.core) rest within)
+    (quiet (Some sent) [] c c.drawn after (counts_none c after refl) (λ realm h. inl h) (queue_less (parts_of c.core) rest within)
     (λ bytes m same shows. waits_drawn c q (sound.orderly.queued q listed) listed sent bytes m own same shows) refl)
     (drawn_orderly (parts_of c.core) rest within sound.orderly) (until_map c.core.phase (still_can c after refl refl refl) sound.can_ask))
 
@@ -147,7 +148,7 @@ unfolding first_allocated sent_at_once
 first_sent c now sent new sound at is =
     let can : CanAsk c = subst (λ (f : Phase). UntilEnded f (CanAsk c)) at sound.can_ask in
     let request : TurnRequest = FirstAllocate c.core.allocates c.core.families in
-    let under_way = at_first c sound.orderly can in
+    let under_way = at_first c [] sound.orderly can in
     let written = made c c.core request is.number under_way can.families tt is.made.is_next in
     let text = request_text c.core.auth request is.number in
     let own : sent.bytes ≡ text = ap (λ (s : Sent). s.bytes) is.made.is_sent in
@@ -159,14 +160,15 @@ first_sent c now sent new sound at is =
     let adds = adds_both (told_by text ∷ []) (parts_of c.core) mid (parts_of core) (sent_adds c.core request is.number now)
     (phase_moved (told_by text ∷ []) mid (InitialSent (is.number ∷ [])) (λ n h. inr (one_number n is.number (told_by text) written.number_is h))) in
     subst (λ (p : Protocol). IsRunStep c [] (Some sent.bytes) [] p) (sym is.after)
-    (asks c c.core request is.number under_way written [] (Some sent.bytes) core adds
-    (phase_orderly mid (InitialSent (is.number ∷ [])) alone orderly) refl can.families refl refl (draws_own c text sent.bytes own))
+    (asks c c.core request is.number under_way written (Some sent.bytes) core adds
+    (phase_orderly mid (InitialSent (is.number ∷ [])) alone orderly) refl
+    (λ realm h. realm_going c.core.phase c.core.auth.challenge realm (going_at c.core.phase Initial at (λ kept. refl)) h) can.families refl refl (draws_own c text sent.bytes own))
 
 refresh_sent : (c : Client) (now : ℕ) (sent : Sent) (new : Protocol) → IsSound c → c.core.phase ≡ Authenticated → IsRefreshSent c.core now sent new → IsRunStep c [] (Some sent.bytes) [] new
 unfolding first_refreshed sent_at_once
 refresh_sent c now sent new sound at is =
     let can : CanAsk c = subst (λ (f : Phase). UntilEnded f (CanAsk c)) at sound.can_ask in
-    let under_way = at_first c sound.orderly can in
+    let under_way = at_first c [] sound.orderly can in
     let written = made c c.core (Refresh allocation_lifetime) is.number under_way (omega arith) tt is.made.is_next in
     let text = request_text c.core.auth (Refresh allocation_lifetime) is.number in
     let own : sent.bytes ≡ text = ap (λ (s : Sent). s.bytes) is.made.is_sent in
@@ -181,10 +183,10 @@ refresh_sent c now sent new sound at is =
     (same_first_distinct (wants now) (refreshing refresh) (λ a. (refl, refl)) c.core.allocations sound.orderly.distinct)
     (sent_orderly c.core (Refresh allocation_lifetime) is.number now written (allocated _ c.core.phase at) sound.orderly) in
     subst (λ (p : Protocol). IsRunStep c [] (Some sent.bytes) [] p) (sym is.after)
-    (asks c c.core (Refresh allocation_lifetime) is.number under_way written [] (Some sent.bytes) core adds orderly refl can.families refl refl (draws_own c text sent.bytes own))
+    (asks c c.core (Refresh allocation_lifetime) is.number under_way written (Some sent.bytes) core adds orderly refl (λ realm h. h) can.families refl refl (draws_own c text sent.bytes own))
 
 -- a request that renews something
-module _ (c : Client) (request : TurnRequest) (number now : ℕ) (left : List Allocation) (sound : IsSound c) (at : c.core.phase ≡ Authenticated) (under_way : IsUnderWay c c.core) (is : written.IsMade c.core request number) where
+module _ (c : Client) (request : TurnRequest) (number now : ℕ) (left : List Allocation) (sound : IsSound c) (at : c.core.phase ≡ Authenticated) (under_way : IsUnderWay c [] c.core) (is : written.IsMade c.core request number) where
   abbrev text_of : List ℕ
   text_of = request_text c.core.auth request number
 
@@ -201,12 +203,12 @@ module _ (c : Client) (request : TurnRequest) (number now : ℕ) (left : List Al
       (allocations_permitting (told_by text_of ∷ []) (asks_by request number) mid left are (made_number c.core request number now is)) in
       let orderly = permitting_orderly none_gained (asks_by request number) mid left are fit
       (sent_orderly c.core request number now is (allocated _ c.core.phase at) sound.orderly) distinct in
-      asks c c.core request number under_way is [] (Some sent) renewed_with adds orderly refl under_way.can_ask.families refl refl (draws_own c text_of sent own)
+      asks c c.core request number under_way is (Some sent) renewed_with adds orderly refl (λ realm h. h) under_way.can_ask.families refl refl (draws_own c text_of sent own)
 
 renewal_sent : (c : Client) (ip : IpAddr) (now : ℕ) (sent : Sent) (new : Protocol) → IsSound c → c.core.phase ≡ Authenticated → IsRenewalSent c.core ip now sent new → IsRunStep c [] (Some sent.bytes) [] new
 unfolding first_permitted
 renewal_sent c ip now sent new sound at is =
-    let under_way = at_first c sound.orderly (subst (λ (f : Phase). UntilEnded f (CanAsk c)) at sound.can_ask) in
+    let under_way = at_first c [] sound.orderly (subst (λ (f : Phase). UntilEnded f (CanAsk c)) at sound.can_ask) in
     let number = is.number in
     let made_it = made c c.core (CreatePermission ip) number under_way is.lawful tt is.made.is_next in
     let are : ArePermitting none_gained (asks_by (CreatePermission ip) number) c.core.allocations (renewal_first now number c.core.allocations) =
@@ -219,7 +221,7 @@ channel_sent : (c : Client) (channel : ℕ) (peer : SocketAddr) (now : ℕ) (sen
     → IsChannelRenewalSent c.core channel peer now sent new → IsRunStep c [] (Some sent.bytes) [] new
 unfolding first_bound
 channel_sent c channel peer now sent new sound at wants_it is =
-    let under_way = at_first c sound.orderly (subst (λ (f : Phase). UntilEnded f (CanAsk c)) at sound.can_ask) in
+    let under_way = at_first c [] sound.orderly (subst (λ (f : Phase). UntilEnded f (CanAsk c)) at sound.can_ask) in
     let number = is.number in
     let whole = renewal_whole now channel peer (parts_of c.core) wants_it sound.orderly in
     let made_it = made c c.core (ChannelBind channel peer) number under_way is.lawful (peer_read number peer whole.own whole.flow whole.scope) is.made.is_next in

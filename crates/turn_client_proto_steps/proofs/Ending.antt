@@ -27,6 +27,7 @@ use Rattle.turn_client_proto_data.specs.Channel.Numbers.{AreDistinct}
 use Rattle.turn_client_proto_steps.proofs.Lessening.{none_distinct}
 use Rattle.turn_client_proto_steps.proofs.Orderly.{phase_orderly, until_map}
 use Rattle.turn_client_proto_steps.proofs.Plain.{IsCounted, counts_none, counts_one, failures_tell_nothing, joined, none_told, nothing_drawn, notices, quiet, run_step}
+use Rattle.turn_client_proto_steps.proofs.Realms.{ended_realm}
 
 -- ---- nothing changes that a run tells of
 
@@ -43,7 +44,7 @@ pub still : (c : Client) (came : List (List ℕ)) (new : Protocol) → IsSound c
 still c came new sound is =
     subst (λ (p : Protocol). IsRunStep c came None [] p) (sym is)
     (run_step [] came None [] c c.drawn c.core
-    (quiet None [] c c.drawn c.core (counts_none c c.core refl) (adds_none [] (parts_of c.core)) (nothing_drawn [] c) refl)
+    (quiet None [] c c.drawn c.core (counts_none c c.core refl) (λ realm is. inl is) (adds_none [] (parts_of c.core)) (nothing_drawn [] c) refl)
     sound.orderly (until_map c.core.phase (still_can c c.core refl refl refl) sound.can_ask))
 
 -- ---- an end
@@ -54,7 +55,7 @@ unfolding ended
 ends c came mid adds orderly told same =
     let over = phase_moved [] (parts_of mid) Ended (λ n h. absurd h) in
     run_step [] came None [] c c.drawn _
-    (quiet None [] c c.drawn _ (counts_none c (ended mid) same) (adds_both [] (parts_of c.core) (parts_of mid) _ adds over) (nothing_drawn [] c)
+    (quiet None [] c c.drawn _ (counts_none c (ended mid) same) (ended_realm came c.core (ended mid) refl) (adds_both [] (parts_of c.core) (parts_of mid) _ adds over) (nothing_drawn [] c)
     (none_told mid.events (map AllocationCreateFailed mid.families) (failures_tell_nothing mid.families) ∙ told))
     (phase_orderly (parts_of mid) Ended tt orderly) tt
 
@@ -112,7 +113,7 @@ module _ (c : Client) (new : Protocol) (is : HasFailed c.core new) where
   failed_at : (came : List (List ℕ)) (count : ℕ) → IsCounted c count new → IsRunStep c came None [] new
   failed_at came count counts =
       run_step [] came None [] c count new
-      (quiet None [] c count new counts failed_adds (nothing_drawn [] c) (ap notices is.events))
+      (quiet None [] c count new counts (ended_realm came c.core new is.phase) failed_adds (nothing_drawn [] c) (ap notices is.events))
       failed_orderly (subst (λ (f : Phase). UntilEnded f (CanAsk (moved c count new))) (sym is.phase) tt)
 
   pub failed_step : (came : List (List ℕ)) → IsRunStep c came None [] new
@@ -132,6 +133,6 @@ event_step c event new sound told others = by new.events told others
         let left : Protocol = record c.core { events = events } in
         subst (λ (p : Protocol). IsRunStep c [] None (notices (option_to_list event)) p) (sym is)
         (run_step [] [] None (notices (option_to_list event)) c c.drawn left
-        (quiet None (notices (option_to_list event)) c c.drawn left (counts_none c left refl) (adds_none [] (parts_of c.core)) (nothing_drawn [] c)
+        (quiet None (notices (option_to_list event)) c c.drawn left (counts_none c left refl) (λ realm is. inl is) (adds_none [] (parts_of c.core)) (nothing_drawn [] c)
         (sym (joined (option_to_list event) events) ∙ ap notices (sym before)))
         sound.orderly (until_map c.core.phase (still_can c left refl refl refl) sound.can_ask))

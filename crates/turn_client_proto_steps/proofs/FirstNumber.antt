@@ -1,5 +1,5 @@
 -- The first message that a new client sends has the number at the first place of its seed's stream.
-use Rattle.std.proofs.Common.{◌≡◌, ℕ, ◌≤◌, true, false, List, length, Option, Some, ap, sym, ◌∙◌, subst, inl, inr}
+use Rattle.std.proofs.Common.{◌≡◌, ℕ, ◌≤◌, true, false, List, [], length, Option, Some, ap, sym, ◌∙◌, subst, inl, inr}
 use Rattle.std.specs.List.{find}
 use Rattle.std.specs.declared.net.socket_addr.SocketAddr.{SocketAddr}
 use Rattle.rand_chacha.specs.ChaCha.{of_seed}
@@ -43,7 +43,7 @@ module _ (transport : TransportType) (here server : SocketAddr) (config : Config
 
   first : IsFirstSent p now sent new → IsFirst
   first h =
-      let written = made c p (FirstAllocate p.allocates p.families) h.number (at_first c sound.orderly can) can.families tt h.made.is_next in
+      let written = made c p (FirstAllocate p.allocates p.families) h.number (at_first c [] sound.orderly can) can.families tt h.made.is_next in
       ap (λ (s : Sent). number_at s.bytes) h.made.is_sent ∙ written.number_is ∙ free h.number (number_at_place p c.seed c.drawn h.number can.words h.made.is_next)
 
   next : IsNextSent p.queue p now (Some sent) new → IsFirst

@@ -42,6 +42,7 @@ module _ (call : Call Client) (came before after : List (List ℕ)) where
   framed_step handles buffers is = record {
     account = is.account;
     seed = is.seed;
+    realms = is.realms;
     counted = is.counted;
     few = is.few;
     begun = is.begun;
@@ -51,14 +52,14 @@ module _ (call : Call Client) (came before after : List (List ℕ)) where
     queued = is.queued;
     taken = λ n h. elim (is.taken n h) [
       | inl was ↦ inl was
-      | inr now ↦ elim now [ inl made ↦ inr (inl made) | inr attempt ↦ inr (inr (tried client_words call other refl refl (λ m is. is) attempt)) ]
+      | inr now ↦ elim now [ inl made ↦ inr (inl made) | inr attempt ↦ inr (inr (tried client_words call other refl refl refl refl (λ m is. is) attempt)) ]
     ];
     draws = is.draws;
     handles = handles;
     buffers = buffers;
     gained = is.gained;
     gains = is.gains;
-    answers = λ t h. answered client_words call other refl refl (λ m is. is) is.begun (Holds t.held) t.number (is.answers t h);
+    answers = λ t h. answered client_words call other refl refl refl refl (λ m is. is) is.begun (Holds t.held) t.number (is.answers t h);
     once = is.once;
     spent = is.spent;
     known = is.known;
@@ -69,11 +70,11 @@ module _ (call : Call Client) (came before after : List (List ℕ)) where
     waits = λ n peer h. elim (is.waits n peer h) [
       | inl was ↦ inl was
       | inr now ↦ elim now [
-        | inl known ↦ inr (inl (known.0, answered client_words call other refl refl (λ m is. is) is.begun (Knows n peer) known.0 known.1))
-        | inr attempt ↦ inr (inr (tried client_words call other refl refl (λ m is. is) attempt))
+        | inl known ↦ inr (inl (known.0, answered client_words call other refl refl refl refl (λ m is. is) is.begun (Knows n peer) known.0 known.1))
+        | inr attempt ↦ inr (inr (tried client_words call other refl refl refl refl (λ m is. is) attempt))
       ]
     ];
-    attempted = λ n h. elim (is.attempted n h) [ inl was ↦ inl was | inr attempt ↦ inr (tried client_words call other refl refl (λ m is. is) attempt) ];
+    attempted = λ n h. elim (is.attempted n h) [ inl was ↦ inl was | inr attempt ↦ inr (tried client_words call other refl refl refl refl (λ m is. is) attempt) ];
     delivers = λ p i. delivered client_words call other refl p (is.delivers p i);
     names = is.names;
   }

@@ -46,6 +46,7 @@ use Rattle.turn_client_proto_steps.proofs.Awaited.{IsAskedOf, IsFoundBy, OfAsked
 use Rattle.turn_client_proto_steps.proofs.Lists.{found_in, found_passes, inside}
 use Rattle.turn_client_proto_steps.proofs.Orderly.{until_all}
 use Rattle.turn_client_proto_steps.proofs.Plain.{counts_none, held_is_kept, joined, notices}
+use Rattle.turn_client_proto_steps.proofs.Signed.{signed_arrives}
 use Rattle.turn_client_proto_steps.proofs.Taken.{among}
 
 -- ---- the one that was found
@@ -98,8 +99,8 @@ pub record AreGranted (c : Client) (bytes asked : List ℕ) (gained : List Told)
   pub once : NoneTwice told_for gained
 
 module _ (c : Client) (signer : signers.Client) (bytes : List ℕ) (message : refusal bytes ≡ None) (ends : ends_one c.core.agent bytes ≡ true)
-    (own : IsSignedFor c.credentials bytes) (t : Transaction) (there : finite.get c.core.agent.outstanding (number_at bytes) ≡ Some t)
-    (orderly : IsOrderly (parts_of c.core)) (under_way : IsUnderWay c (accepted bytes (judged signer c.core))) where
+    (own : IsSignedFor c bytes) (t : Transaction) (there : finite.get c.core.agent.outstanding (number_at bytes) ≡ Some t)
+    (orderly : IsOrderly (parts_of c.core)) (under_way : IsUnderWay c (bytes ∷ []) (accepted bytes (judged signer c.core))) where
   abbrev agent : Agent
   agent = after_message c.core.agent bytes c.core.server
 
@@ -127,7 +128,7 @@ module _ (c : Client) (signer : signers.Client) (bytes : List ℕ) (message : re
     answers x listed = record {
       bytes = bytes;
       response = told_by bytes;
-      arrives = record { handled = inl refl; shows = message_shown bytes message; key = own.key; own = own.own; algorithm = own.algorithm; text = own.text; valid = own.valid };
+      arrives = signed_arrives c bytes (moved c c.drawn core) message own;
       number_is = sym (is.numbers x listed);
       request = told_by t.bytes;
       waited = inl (record { number = number_at bytes; transaction = t; there = there; shows = message_shown t.bytes (orderly.messages (number_at bytes) t there) });
@@ -141,6 +142,7 @@ module _ (c : Client) (signer : signers.Client) (bytes : List ℕ) (message : re
     step = record {
       account = refl;
       seed = refl;
+      realms = under_way.realms;
       counted = (counts_none c core refl).counted;
       few = (counts_none c core refl).few;
       begun = [];
@@ -191,8 +193,8 @@ module _ (c : Client) (signer : signers.Client) (bytes : List ℕ) (message : re
 -- ---- a permission
 
 module _ (c : Client) (signer : signers.Client) (bytes : List ℕ) (now : ℕ) (message : refusal bytes ≡ None) (success : class_of (kind_at bytes) ≡ Success) (ends : ends_one c.core.agent bytes ≡ true)
-    (own : IsSignedFor c.credentials bytes) (transport : TransportType) (ip : IpAddr) (is : IsAskedIn (number_at bytes) transport ip c.core.allocations) (t : Transaction) (there : finite.get c.core.agent.outstanding (number_at bytes) ≡ Some t)
-    (orderly : IsOrderly (parts_of c.core)) (under_way : IsUnderWay c (accepted bytes (judged signer c.core))) where
+    (own : IsSignedFor c bytes) (transport : TransportType) (ip : IpAddr) (is : IsAskedIn (number_at bytes) transport ip c.core.allocations) (t : Transaction) (there : finite.get c.core.agent.outstanding (number_at bytes) ≡ Some t)
+    (orderly : IsOrderly (parts_of c.core)) (under_way : IsUnderWay c (bytes ∷ []) (accepted bytes (judged signer c.core))) where
   abbrev told : Told
   told = record { notice = run.PermissionCreated transport ip; held = run.Permission transport ip; number = number_at bytes }
 

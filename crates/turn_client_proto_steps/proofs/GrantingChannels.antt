@@ -124,8 +124,8 @@ beside number all a ip found is = by (find (asks_for_permission number) a.pendin
 -- ---- the step
 
 module _ (c : Client) (signer : signers.Client) (bytes : List ℕ) (now : ℕ) (message : refusal bytes ≡ None) (success : class_of (kind_at bytes) ≡ Success) (ends : ends_one c.core.agent bytes ≡ true)
-    (own : IsSignedFor c.credentials bytes) (transport : TransportType) (channel : ℕ) (peer : SocketAddr) (asked : asked_by (number_at bytes) c.core.allocations ≡ Some (NewChannel transport channel peer))
-    (t : Transaction) (there : finite.get c.core.agent.outstanding (number_at bytes) ≡ Some t) (orderly : IsOrderly (parts_of c.core)) (under_way : IsUnderWay c (accepted bytes (judged signer c.core))) where
+    (own : IsSignedFor c bytes) (transport : TransportType) (channel : ℕ) (peer : SocketAddr) (asked : asked_by (number_at bytes) c.core.allocations ≡ Some (NewChannel transport channel peer))
+    (t : Transaction) (there : finite.get c.core.agent.outstanding (number_at bytes) ≡ Some t) (orderly : IsOrderly (parts_of c.core)) (under_way : IsUnderWay c (bytes ∷ []) (accepted bytes (judged signer c.core))) where
   abbrev number : ℕ
   number = number_at bytes
 

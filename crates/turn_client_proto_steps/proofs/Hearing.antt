@@ -33,13 +33,14 @@ use Rattle.turn_client_proto_data.specs.Core.Ending.{ended}
 use Rattle.turn_client_proto_data.specs.Core.Numbering.{after_number}
 use Rattle.turn_client_proto_data.specs.Core.Responding.{accepted, answered, challenged, is_tired, judged}
 use Rattle.turn_client_proto_data.specs.Core.declared.protocol.Phase.{Phase}
-use Rattle.turn_client_proto_data.specs.Core.declared.protocol.Phase.TheVariants.{Authenticating}
+use Rattle.turn_client_proto_data.specs.Core.declared.protocol.Phase.TheVariants.{Initial, InitialSent, Authenticating, Authenticated, Ended}
 use Rattle.turn_client_proto_data.specs.Core.declared.protocol.Protocol.{Protocol}
+use Rattle.turn_client_proto_steps.specs.ClientWords.{challenge_of, realm_in}
 use Rattle.turn_client_proto_steps.specs.RunClient.{Client, Parts, parts_of}
 use Rattle.turn_client_proto_steps.specs.RunSteps.{IsRunStep}
 use Rattle.turn_client_proto_steps.specs.Sound.{AreAllocates, BeforeAllocated, CanAsk, IsOrderly}
 use Rattle.turn_client_proto_steps.proofs.Adding.{HasNumber, adds_both, agent_less, phase_moved}
-use Rattle.turn_client_proto_steps.proofs.Allocating.{allocate_sent, allocated_step, validated_own}
+use Rattle.turn_client_proto_steps.proofs.Allocating.{allocate_sent, allocated_step}
 use Rattle.turn_client_proto_steps.proofs.Asking.{IsMade, IsUnderWay, asked_adds, asked_orderly, asks, made, once_accepted, once_answered, once_judged}
 use Rattle.turn_client_proto_steps.proofs.Drawing.{one_number}
 use Rattle.turn_client_proto_steps.proofs.Ending.{ends}
@@ -47,19 +48,21 @@ use Rattle.turn_client_proto_steps.proofs.Lists.{in_either}
 use Rattle.turn_client_proto_steps.proofs.Orderly.{IsAllocate, agent_orderly, before_all, phase_orderly, until_all}
 use Rattle.turn_client_proto_steps.proofs.Plain.{counts_none, none_told, nothing_drawn, quiet, run_step}
 use Rattle.turn_client_proto_steps.proofs.Polling.{by_test}
+use Rattle.turn_client_proto_steps.proofs.Realms.{IsGoing, realm_going}
+use Rattle.turn_client_proto_steps.proofs.Signed.{validated_own}
 
 -- ---- nothing is asked for
 
 -- a client that asked for nothing in a call
-pub done : (c : Client) (came : List (List ℕ)) (mid new : Protocol) → IsUnderWay c mid → new ≡ mid → IsRunStep c came None [] new
+pub done : (c : Client) (came : List (List ℕ)) (mid new : Protocol) → IsUnderWay c came mid → new ≡ mid → IsRunStep c came None [] new
 done c came mid new is same =
     subst (λ (p : Protocol). IsRunStep c came None [] p) (sym same)
     (run_step [] came None [] c c.drawn mid
-    (quiet None [] c c.drawn mid (counts_none c mid is.rng) is.adds (nothing_drawn [] c) is.told)
+    (quiet None [] c c.drawn mid (counts_none c mid is.rng) is.realms is.adds (nothing_drawn [] c) is.told)
     is.orderly (until_all mid.phase is.can_ask))
 
 -- a client that has ended
-pub over : (c : Client) (came : List (List ℕ)) (mid new : Protocol) → IsUnderWay c mid → new ≡ ended mid → IsRunStep c came None [] new
+pub over : (c : Client) (came : List (List ℕ)) (mid new : Protocol) → IsUnderWay c came mid → new ≡ ended mid → IsRunStep c came None [] new
 over c came mid new is same =
     subst (λ (p : Protocol). IsRunStep c came None [] p) (sym same) (ends c came mid is.adds is.orderly is.told is.rng)
 
@@ -69,13 +72,25 @@ over c came mid new is same =
 abbrev pub IsAllocating : Phase → Type 1
 IsAllocating phase = (A : Type 0) → BeforeAllocated phase A → A
 
-module _ (c : Client) (mid : Protocol) (bytes : List ℕ) (now : ℕ) (under_way : IsUnderWay c mid) (allocating : IsAllocating mid.phase) where
+-- so far it has not ended
+going_first : (phase : Phase) → IsAllocating phase → IsGoing phase
+going_first Initial allocating kept = refl
+going_first (InitialSent numbers) allocating kept = refl
+going_first (Authenticating numbers) allocating kept = refl
+going_first Authenticated allocating kept = refl
+going_first Ended allocating kept = absurd (allocating ⊥ tt)
+
+module _ (c : Client) (mid : Protocol) (bytes : List ℕ) (now : ℕ) (under_way : IsUnderWay c (bytes ∷ []) mid) (allocating : IsAllocating mid.phase) where
   abbrev text_of : TurnRequest → ℕ → List ℕ
   text_of request number = request_text mid.auth request number
 
   is_allocate : (request : TurnRequest) (number : ℕ) → IsMade mid request number → (told_request request number).method ≡ allocate_method → (told_request request number).transport ≡ Some mid.allocates
       → IsAllocate (parts_of mid) (text_of request number)
   is_allocate request number is method transport = (ap (λ (m : run.Message). m.method) is.told ∙ method, ap (λ (m : run.Message). m.transport) is.told ∙ transport)
+
+  -- the realm of what is kept is the client's still
+  same_realm : (realm : List ℕ) → realm_in mid.auth.challenge ≡ Some realm → realm_in (challenge_of mid) ≡ Some realm
+  same_realm realm h = realm_going mid.phase mid.auth.challenge realm (going_first mid.phase allocating) h
 
   again : (number : ℕ) → IsMade mid (Allocate mid.allocates mid.families) number → IsRunStep c (bytes ∷ []) None [] (challenged bytes (allocates_again number now mid))
   unfolding challenged allocates_again asked
@@ -94,8 +109,8 @@ module _ (c : Client) (mid : Protocol) (bytes : List ℕ) (now : ℕ) (under_way
       (adds_both begun made_it moved (parts_of core)
       (phase_moved begun made_it phase (numbers_again number (told_by (text_of request number)) is.number_is))
       (agent_less begun moved agent none)) in
-      asks c mid request number under_way is (bytes ∷ []) None core adds
-      (agent_orderly moved agent none (phase_orderly made_it phase alone orderly)) refl under_way.can_ask.families refl refl (nothing_drawn begun c)
+      asks c mid request number under_way is None core adds
+      (agent_orderly moved agent none (phase_orderly made_it phase alone orderly)) refl same_realm under_way.can_ask.families refl refl (nothing_drawn begun c)
     where
       numbers_again : (number : ℕ) (m : run.Message) → m.number ≡ number → (n : ℕ) → IsIn n (numbers_sent mid.phase ++ number ∷ []) → IsIn n (numbers_sent mid.phase) ⊎ HasNumber n (m ∷ [])
       numbers_again number m same n h = elim (in_either n (numbers_sent mid.phase) (number ∷ []) h) [ inl was ↦ inl was | inr now ↦ inr (one_number n number m same now) ]
@@ -112,8 +127,8 @@ module _ (c : Client) (mid : Protocol) (bytes : List ℕ) (now : ℕ) (under_way
       let alone : AreAllocates mid.allocates made_it.agent = allocating (AreAllocates mid.allocates made_it.agent) orderly.allocates in
       let adds = adds_both begun (parts_of mid) made_it (parts_of core) (asked_adds mid request number now)
       (phase_moved begun made_it phase (λ n h. inr (one_number n number (told_by (text_of request number)) is.number_is h))) in
-      asks c mid request number under_way is (bytes ∷ []) None core adds
-      (phase_orderly made_it phase alone orderly) refl (omega arith) refl
+      asks c mid request number under_way is None core adds
+      (phase_orderly made_it phase alone orderly) refl same_realm (omega arith) refl
       (none_told mid.events (AllocationCreateFailed IPV4 ∷ []) refl) (nothing_drawn begun c)
 
   pub challenge : (handled : Bool) (new : Protocol) → IsChallenged mid bytes now handled new → IsRunStep c (bytes ∷ []) None [] new
@@ -162,9 +177,9 @@ module _ (c : Client) (bytes : List ℕ) (now : ℕ) (orderly : IsOrderly (parts
         let ends_it : ends_one c.core.agent bytes ≡ true = (rw (response, awaited) refl) in
         subst (λ (p : Protocol). IsRunStep c (bytes ∷ []) None [] p) (sym h.1)
         (allocated_step c signer bytes lifetime now message class ends_it
-        (validated_own c.core.auth signer bytes algorithm c.credentials are_bytes can.account is)
+        (validated_own c signer bytes algorithm are_bytes can (going_first c.core.phase allocating) is)
         (allocate_sent c bytes (allocating (AreAllocates c.core.allocates c.core.agent) orderly.allocates) awaited)
-        orderly (once_accepted c (judged signer c.core) bytes (once_judged c bytes (Ok (Validated algorithm)) signer orderly can is)))
+        orderly (going_first c.core.phase allocating) (once_accepted c (judged signer c.core) bytes (once_judged c bytes (Ok (Validated algorithm)) signer orderly can is)))
 
     still_allocating : (signer : signers.Client) → IsAllocating (accepted bytes (judged signer c.core)).phase
     unfolding accepted

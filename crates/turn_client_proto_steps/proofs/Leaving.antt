@@ -13,13 +13,13 @@ use Rattle.turn_client_proto_steps.proofs.Permitting.{ArePermitting, allocations
 use Rattle.turn_client_proto_steps.proofs.Plain.{counts_none, nothing_drawn, notices, quiet, run_step}
 
 -- the client is left with these allocations, and with events that tell of nothing more that was created
-pub left_step : (c : Client) (mid : Protocol) (bytes : List ℕ) → IsUnderWay c mid → (core : Protocol) (left : List Allocation) → ArePermitting none_gained none_asks mid.allocations left → AreDistinct left
+pub left_step : (c : Client) (mid : Protocol) (bytes : List ℕ) → IsUnderWay c (bytes ∷ []) mid → (core : Protocol) (left : List Allocation) → ArePermitting none_gained none_asks mid.allocations left → AreDistinct left
     → core ≡ record mid { allocations = left; events = core.events } → notices core.events ≡ notices mid.events → IsRunStep c (bytes ∷ []) None [] core
 left_step c mid bytes under_way core left are distinct is told =
     let after : Protocol = record mid { allocations = left; events = core.events } in
     subst (λ (p : Protocol). IsRunStep c (bytes ∷ []) None [] p) (sym is)
     (run_step [] (bytes ∷ []) None [] c c.drawn after
-    (quiet None [] c c.drawn after (counts_none c after under_way.rng)
+    (quiet None [] c c.drawn after (counts_none c after under_way.rng) under_way.realms
     (adds_both [] (parts_of c.core) (parts_of mid) (record (parts_of mid) { allocations = left }) under_way.adds (allocations_permitting [] none_asks (parts_of mid) left are (λ held n h. absurd h)))
     (nothing_drawn [] c) (told ∙ under_way.told))
     (permitting_orderly none_gained none_asks (parts_of mid) left are (none_fit mid.agent) under_way.orderly distinct) (until_all mid.phase (record {

@@ -43,6 +43,7 @@ pub mod Permitting
 pub mod Placing
 pub mod Plain
 pub mod Polling
+pub mod Realms
 pub mod Receiving
 pub mod Rechallenging
 pub mod Refreshing
@@ -54,6 +55,7 @@ pub mod Showing
 pub mod Shown
 pub mod ShownChannels
 pub mod ShownConnections
+pub mod Signed
 pub mod Socketing
 pub mod SocketsLeft
 pub mod Standing

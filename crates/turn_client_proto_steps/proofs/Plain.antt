@@ -20,6 +20,7 @@ use Rattle.turn_client_proto_steps.specs.RunSteps.{IsRunStep, call_of}
 use Rattle.turn_client_proto_steps.specs.Sound.{CanAsk, IsOrderly, UntilEnded}
 use Rattle.turn_client_proto_steps.proofs.Adding.{Adds}
 use Rattle.turn_client_proto_steps.proofs.Lists.{nothing_behind}
+use Rattle.turn_client_proto_steps.proofs.Realms.{TakesRealm}
 
 -- ---- what is told
 
@@ -71,20 +72,23 @@ counts_none c core same = counts c c.drawn 0 core (omega arith) (omega arith) (a
 pub counts_one : (c : Client) (core : Protocol) → core.rng ≡ after_draw c.core.rng → IsCounted c (c.drawn + 1) core
 counts_one c core same = counts c (c.drawn + 1) 1 core (omega arith) (omega arith) (ap (λ (r : ChaCha). numbers_between c.core.rng r) same ∙ one_between c.core.rng)
 
--- these requests were made, so many numbers are drawn then, and nothing is gained
-pub record IsPlain (begun : List run.Message) (drawn : Option (List ℕ)) (answered : List run.Notice) (c : Client) (count : ℕ) (core : Protocol) : Type 0 where
+-- these requests were made, so many numbers are drawn then, and nothing is gained; a realm that is kept newly was told by
+-- what came
+pub record IsPlain (begun : List run.Message) (came : List (List ℕ)) (drawn : Option (List ℕ)) (answered : List run.Notice) (c : Client) (count : ℕ) (core : Protocol) : Type 0 where
   pub requests : (m : run.Message) → IsIn m begun → (m.class ≡ Request) × (m.method ≢ connection_attempt_method)
   pub counts : IsCounted c count core
+  pub realms : TakesRealm came c.core core
   pub numbered : AreNumbered client_words c [] c.drawn count begun
   pub adds : Adds begun (parts_of c.core) (parts_of core)
   pub draws : (bytes : List ℕ) (m : run.Message) → drawn ≡ Some bytes → stun_wire.shown bytes ≡ Some m → MayDraw client_words c begun m
   pub told : answered ++ notices core.events ≡ notices c.core.events
 
-plain_step : (begun : List run.Message) (came : List (List ℕ)) (drawn : Option (List ℕ)) (answered : List run.Notice) (c : Client) (count : ℕ) (core : Protocol) → IsPlain begun drawn answered c count core
+plain_step : (begun : List run.Message) (came : List (List ℕ)) (drawn : Option (List ℕ)) (answered : List run.Notice) (c : Client) (count : ℕ) (core : Protocol) → IsPlain begun came drawn answered c count core
     → ClientStep client_words (call_of c came drawn answered (moved c count core))
 plain_step begun came drawn answered c count core is = record {
   account = refl;
   seed = refl;
+  realms = is.realms;
   counted = is.counts.counted;
   few = is.counts.few;
   begun = begun;
@@ -112,7 +116,7 @@ plain_step begun came drawn answered c count core is = record {
   names = λ p h. absurd h;
 }
 
-pub run_step : (begun : List run.Message) (came : List (List ℕ)) (drawn : Option (List ℕ)) (answered : List run.Notice) (c : Client) (count : ℕ) (core : Protocol) → IsPlain begun drawn answered c count core
+pub run_step : (begun : List run.Message) (came : List (List ℕ)) (drawn : Option (List ℕ)) (answered : List run.Notice) (c : Client) (count : ℕ) (core : Protocol) → IsPlain begun came drawn answered c count core
     → IsOrderly (parts_of core) → UntilEnded core.phase (CanAsk (moved c count core)) → IsRunStep c came drawn answered core
 run_step begun came drawn answered c count core plain orderly can_ask = record {
   after = moved c count core;
@@ -130,12 +134,13 @@ nothing_drawn begun c bytes m h shows = absurd (Prim.cc h)
 growing : (c : Client) (count : ℕ) (core : Protocol) → IsCounted c count core → c.drawn ≤ count
 growing c count core is = omega (arith, is.counted)
 
-pub quiet : (drawn : Option (List ℕ)) (answered : List run.Notice) (c : Client) (count : ℕ) (core : Protocol) → IsCounted c count core → Adds [] (parts_of c.core) (parts_of core)
+pub quiet : {came : List (List ℕ)} (drawn : Option (List ℕ)) (answered : List run.Notice) (c : Client) (count : ℕ) (core : Protocol) → IsCounted c count core → TakesRealm came c.core core → Adds [] (parts_of c.core) (parts_of core)
     → ((bytes : List ℕ) (m : run.Message) → drawn ≡ Some bytes → stun_wire.shown bytes ≡ Some m → MayDraw client_words c [] m)
-    → answered ++ notices core.events ≡ notices c.core.events → IsPlain [] drawn answered c count core
-quiet drawn answered c count core more adds draws told = record {
+    → answered ++ notices core.events ≡ notices c.core.events → IsPlain [] came drawn answered c count core
+quiet drawn answered c count core more realms adds draws told = record {
   requests = λ m h. absurd h;
   counts = more;
+  realms = realms;
   numbered = growing c count core more;
   adds = adds;
   draws = draws;

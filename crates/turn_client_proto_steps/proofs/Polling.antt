@@ -1,5 +1,5 @@
 -- A poll is a step of a run.
-use Rattle.std.proofs.Common.{◌≡◌, ℕ, Bool, true, false, List, [], ◌∷◌, ◌++◌, map, Option, Some, None, MatchOption, refl, sym, ap, ◌∙◌, subst, arith}
+use Rattle.std.proofs.Common.{◌≡◌, ℕ, Bool, true, false, List, [], ◌∷◌, ◌++◌, map, Option, Some, None, MatchOption, refl, sym, ap, ◌∙◌, subst, arith, inl}
 use Rattle.std.specs.Bool.{MatchBool}
 use Rattle.std.specs.List.{list_any}
 use Rattle.stun_proto.specs.AgentPolls.{StunAgentPollRet}
@@ -141,7 +141,7 @@ module _ (c : Client) (sound : IsSound c) (now : ℕ) (ticked : StunAgentPollRet
   ticks new same =
       subst (λ (p : Protocol). IsRunStep c [] None [] p) (sym same)
       (run_step [] [] None [] c c.drawn mid
-      (quiet None [] c c.drawn mid (counts_none c mid refl) mid_adds (nothing_drawn [] c) refl)
+      (quiet None [] c c.drawn mid (counts_none c mid refl) (λ realm h. inl h) mid_adds (nothing_drawn [] c) refl)
       mid_orderly (until_map c.core.phase (still_can c mid refl refl refl) sound.can_ask))
 
   sent_ticks : (numbers : List ℕ) (over : Option ℕ) (wait : ℕ) (ret : TurnPollRet) (new : Protocol) → IsPolledSent numbers over wait mid now ret new → IsRunStep c [] None [] new
@@ -170,7 +170,7 @@ module _ (c : Client) (sound : IsSound c) (now : ℕ) (ticked : StunAgentPollRet
       (allocations_less [] [] behind last fewer (λ r h. absurd h)))) in
       subst (λ (p : Protocol). IsRunStep c [] None [] p) (sym same)
       (run_step [] [] None [] c c.drawn core
-      (quiet None [] c c.drawn core (counts_none c core refl) adds (nothing_drawn [] c) (none_told c.core.events (telling.all_failures over now renewed) (ends_tell_nothing over now renewed)))
+      (quiet None [] c c.drawn core (counts_none c core refl) (λ realm h. inl h) adds (nothing_drawn [] c) (none_told c.core.events (telling.all_failures over now renewed) (ends_tell_nothing over now renewed)))
       (allocations_orderly [] behind last fewer (λ r h. absurd h)
       (subst AreDistinct (one_after_another over now renewed) (same_distinct (parted.polled over now) (parted_alike over now) relays (both_distinct over now renewed kept)))
       (permitting_orderly none_gained none_asks between relays are (none_fit agent)
@@ -191,7 +191,7 @@ module _ (c : Client) (sound : IsSound c) (now : ℕ) (ticked : StunAgentPollRet
       let are = first_joining none_connects none_learnt has_unasked asked_in c.core.allocations (λ a found. asked_joining a) in
       subst (λ (p : Protocol). IsRunStep c [] None [] p) (sym same)
       (run_step [] [] None [] c c.drawn core
-      (quiet None [] c c.drawn core (counts_none c core refl)
+      (quiet None [] c c.drawn core (counts_none c core refl) (λ realm h. inl h)
       (adds_both [] (parts_of c.core) (parts_of mid) (parts_of core) mid_adds (allocations_joining [] none_connects (parts_of mid) core.allocations are (λ k h. absurd h)))
       (nothing_drawn [] c) refl)
       (joining_orderly none_connects none_learnt (parts_of mid) core.allocations are (λ k h. absurd h) (λ k h. absurd h)

@@ -66,7 +66,7 @@ lifetime_small refreshes lifetime (Some r) short there h = subst (λ (n : ℕ). 
 
 -- ---- a challenge
 
-module _ (c : Client) (mid : Protocol) (bytes : List ℕ) (now : ℕ) (under_way : IsUnderWay c mid) (stands : mid.phase ≡ Authenticated) where
+module _ (c : Client) (mid : Protocol) (bytes : List ℕ) (now : ℕ) (under_way : IsUnderWay c (bytes ∷ []) mid) (stands : mid.phase ≡ Authenticated) where
   -- what a client is that asks for something again
   abbrev again : Asked → ℕ → Protocol
   again what number = challenged bytes (asks_again what (number_at bytes) number now mid)
@@ -91,7 +91,7 @@ module _ (c : Client) (mid : Protocol) (bytes : List ℕ) (now : ℕ) (under_way
       let orderly = agent_orderly listed agent none (allocations_orderly (refresh ∷ []) made_it left less (refresh_short number lifetime small)
       (same_first_distinct (awaits_reply (number_at bytes)) (asked_too (Lifetime lifetime) (number_at bytes) number) (λ a. (refl, refl)) mid.allocations under_way.orderly.distinct)
       (asked_orderly mid (Refresh lifetime) number now is (allocated _ mid.phase stands) under_way.orderly)) in
-      asks c mid (Refresh lifetime) number under_way is (bytes ∷ []) None core adds orderly refl under_way.can_ask.families refl refl (nothing_drawn begun c)
+      asks c mid (Refresh lifetime) number under_way is None core adds orderly refl (λ realm h. h) under_way.can_ask.families refl refl (nothing_drawn begun c)
 
   -- another request once more, that is no REFRESH
   anew : (what : Asked) (number : ℕ) → IsMade mid (request_for what) number
@@ -112,7 +112,7 @@ module _ (c : Client) (mid : Protocol) (bytes : List ℕ) (now : ℕ) (under_way
       (adds_both begun made_it listed (parts_of core) (allocations_permitting begun (asks_by request number) made_it left are (made_number mid request number now is)) (agent_less begun listed agent none)) in
       let orderly = agent_orderly listed agent none (permitting_orderly none_gained (asks_by request number) made_it left are fit
       (asked_orderly mid request number now is (allocated _ mid.phase stands) under_way.orderly) distinct) in
-      asks c mid request number under_way is (bytes ∷ []) None core adds orderly refl under_way.can_ask.families refl refl (nothing_drawn begun c)
+      asks c mid request number under_way is None core adds orderly refl (λ realm h. h) under_way.can_ask.families refl refl (nothing_drawn begun c)
 
   -- a CONNECT once more
   connects : (number : ℕ) (peer : SocketAddr) → IsWhole peer → IsMade mid (Connect peer) number
@@ -131,7 +131,7 @@ module _ (c : Client) (mid : Protocol) (bytes : List ℕ) (now : ℕ) (under_way
       (adds_both begun made_it listed (parts_of core) (allocations_joining begun (asks_to peer number) made_it left are (connect_number mid peer number now is)) (agent_less begun listed agent none)) in
       let orderly = agent_orderly listed agent none (joining_orderly (asks_to peer number) none_learnt made_it left are (asks_connect mid peer number now is) (whole_to peer number whole) distinct
       (asked_orderly mid (Connect peer) number now is (allocated _ mid.phase stands) under_way.orderly)) in
-      asks c mid (Connect peer) number under_way is (bytes ∷ []) None core adds orderly refl under_way.can_ask.families refl refl (nothing_drawn begun c)
+      asks c mid (Connect peer) number under_way is None core adds orderly refl (λ realm h. h) under_way.can_ask.families refl refl (nothing_drawn begun c)
 
   -- the first allocation that awaits the response asks by it in place of the old one
   connects_first : (number : ℕ) (peer : SocketAddr) → IsConnectFound (number_at bytes) peer mid.allocations

@@ -55,7 +55,7 @@ refresh_made mid number lifetime is r h = elim h [
 
 -- ---- an end that is asked for
 
-module _ (c : Client) (number now : ℕ) (sound : IsOrderly (parts_of c.core)) (stands : c.core.phase ≡ Authenticated) (under_way : IsUnderWay c c.core) (is : IsMade c.core (Refresh 0) number) where
+module _ (c : Client) (number now : ℕ) (sound : IsOrderly (parts_of c.core)) (stands : c.core.phase ≡ Authenticated) (under_way : IsUnderWay c [] c.core) (is : IsMade c.core (Refresh 0) number) where
   deletes : IsRunStep c [] None [] (after_delete number now c.core)
   unfolding after_delete asked
   deletes =
@@ -68,7 +68,7 @@ module _ (c : Client) (number now : ℕ) (sound : IsOrderly (parts_of c.core)) (
       (allocations_less (told_by text ∷ []) (refresh_of number 0 ∷ []) mid (map (deleted number now) c.core.allocations) less (refresh_made c.core number 0 is)) in
       let orderly = allocations_orderly (refresh_of number 0 ∷ []) mid (map (deleted number now) c.core.allocations) less (refresh_short number 0 (omega arith)) (deleted_distinct number now c.core.allocations sound.distinct)
       (asked_orderly c.core (Refresh 0) number now is (allocated _ c.core.phase stands) sound) in
-      asks c c.core (Refresh 0) number under_way is [] None (after_delete number now c.core) adds orderly refl under_way.can_ask.families refl refl (nothing_drawn (told_by text ∷ []) c)
+      asks c c.core (Refresh 0) number under_way is None (after_delete number now c.core) adds orderly refl (λ realm h. h) under_way.can_ask.families refl refl (nothing_drawn (told_by text ∷ []) c)
 
 -- a client that could ask for something can, a number later
 can_still : (c : Client) → CanAsk c → CanAsk (moved c (c.drawn + 1) (after_number c.core))
@@ -83,7 +83,7 @@ can_still c can = record {
 pub number_drawn : (c : Client) → IsSound c → IsRunStep c [] None [] (after_number c.core)
 number_drawn c sound =
     run_step [] [] None [] c (c.drawn + 1) (after_number c.core)
-    (quiet None [] c (c.drawn + 1) (after_number c.core) (counts_one c (after_number c.core) refl) (adds_none [] (parts_of c.core)) (nothing_drawn [] c) refl)
+    (quiet None [] c (c.drawn + 1) (after_number c.core) (counts_one c (after_number c.core) refl) (λ realm h. inl h) (adds_none [] (parts_of c.core)) (nothing_drawn [] c) refl)
     sound.orderly (until_map c.core.phase (can_still c) sound.can_ask)
 
 -- refused, and nothing changes
@@ -95,7 +95,7 @@ turned_down c error (Some e) answer new sound is h = still c [] new sound h.1
 answered_by : (c : Client) (now : ℕ) (answer : Result (Unit {0}) DeleteError) (new : Protocol) → IsSound c → c.core.phase ≡ Authenticated → CanAsk c
     → MatchResult answer (λ _. IsDeleted c.core now new) (λ error. (error ≡ NoMemory) × (new ≡ after_number c.core)) → IsRunStep c [] None [] new
 answered_by c now (Ok x) new sound stands can is =
-    let under_way = at_first c sound.orderly can in
+    let under_way = at_first c [] sound.orderly can in
     subst (λ (p : Protocol). IsRunStep c [] None [] p) (sym is.after)
     (deletes c is.number now sound.orderly stands under_way (made c c.core (Refresh 0) is.number under_way (omega arith) tt is.is_next))
 answered_by c now (Err e) new sound stands can is = subst (λ (p : Protocol). IsRunStep c [] None [] p) (sym is.1) (number_drawn c sound)

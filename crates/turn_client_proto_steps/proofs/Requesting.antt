@@ -1,5 +1,5 @@
 -- A permission that a caller asks for is a step of a run.
-use Rattle.std.proofs.Common.{◌≡◌, ℕ, Bool, true, false, if◌then◌else◌, List, [], ◌∷◌, Option, Some, None, Result, Ok, Err, refl, sym, subst}
+use Rattle.std.proofs.Common.{◌≡◌, ℕ, Bool, true, false, if◌then◌else◌, List, [], ◌∷◌, Option, Some, None, Result, Ok, Err, refl, sym, subst, inl}
 use Rattle.std.specs.Prelude.{IfNone, IfSome, MatchResult}
 use Rattle.std.specs.declared.net.ip_addr.IpAddr.{IpAddr}
 use Rattle.stun_types.specs.declared.transport.TransportType.{TransportType}
@@ -40,7 +40,7 @@ marks_first c passes sound =
     let less : AreLess [] c.core.allocations left = first_less [] marked marked_less passes c.core.allocations in
     let core : Protocol = record c.core { allocations = left } in
     run_step [] [] None [] c c.drawn core
-    (quiet None [] c c.drawn core (counts_none c core refl) (allocations_less [] [] (parts_of c.core) left less (λ r h. absurd h)) (nothing_drawn [] c) refl)
+    (quiet None [] c c.drawn core (counts_none c core refl) (λ realm h. inl h) (allocations_less [] [] (parts_of c.core) left less (λ r h. absurd h)) (nothing_drawn [] c) refl)
     (allocations_orderly [] (parts_of c.core) left less (λ r h. absurd h)
     (same_first_distinct passes marked (λ a. (refl, refl)) c.core.allocations sound.orderly.distinct) sound.orderly) (until_map c.core.phase (still_can c core refl refl refl) sound.can_ask)
 
@@ -53,7 +53,7 @@ authenticated Ended h = absurd (Prim.cc h)
 
 module _ (c : Client) (transport : TransportType) (ip : IpAddr) (now : ℕ) where
   -- asked for
-  asks_for : (number : ℕ) → IsOrderly (parts_of c.core) → c.core.phase ≡ Authenticated → IsUnderWay c c.core → IsMade c.core (CreatePermission ip) number → IsRunStep c [] None [] (after_asking transport ip number now c.core)
+  asks_for : (number : ℕ) → IsOrderly (parts_of c.core) → c.core.phase ≡ Authenticated → IsUnderWay c [] c.core → IsMade c.core (CreatePermission ip) number → IsRunStep c [] None [] (after_asking transport ip number now c.core)
   unfolding after_asking asked
   asks_for number orderly stands under_way is =
       let text = request_text c.core.auth (CreatePermission ip) number in
@@ -66,7 +66,7 @@ module _ (c : Client) (transport : TransportType) (ip : IpAddr) (now : ℕ) wher
       let kept = permitting_orderly none_gained (asks_by (CreatePermission ip) number) mid left are (permission_fit c.core ip number now is)
       (asked_orderly c.core (CreatePermission ip) number now is (allocated _ c.core.phase stands) orderly)
       (same_first_distinct (is_of transport (family_of_ip ip)) (asking (record { ip = ip; numbers = number ∷ [] })) (λ a. (refl, refl)) c.core.allocations orderly.distinct) in
-      asks c c.core (CreatePermission ip) number under_way is [] None (after_asking transport ip number now c.core) adds kept refl under_way.can_ask.families refl refl (nothing_drawn (told_by text ∷ []) c)
+      asks c c.core (CreatePermission ip) number under_way is None (after_asking transport ip number now c.core) adds kept refl (λ realm h. h) under_way.can_ask.families refl refl (nothing_drawn (told_by text ∷ []) c)
 
   refused : (found : Option Allocation) (new : Protocol) → IsSound c → new ≡ refused_in found transport ip now c.core → IsRunStep c [] None [] new
   refused None new sound is = still c [] new sound is
@@ -80,7 +80,7 @@ module _ (c : Client) (transport : TransportType) (ip : IpAddr) (now : ℕ) wher
   answered : (answer : Result (Unit {0}) CreatePermissionError) (new : Protocol) → IsSound c → c.core.phase ≡ Authenticated → CanAsk c
       → MatchResult answer (λ _. IsPermissionAsked c.core transport ip now new) (λ error. (error ≡ NoMemory) × (new ≡ after_number c.core)) → IsRunStep c [] None [] new
   answered (Ok x) new sound stands can is =
-      let under_way = at_first c sound.orderly can in
+      let under_way = at_first c [] sound.orderly can in
       subst (λ (p : Protocol). IsRunStep c [] None [] p) (sym is.after)
       (asks_for is.number sound.orderly stands under_way (made c c.core (CreatePermission ip) is.number under_way is.lawful tt is.is_next))
   answered (Err e) new sound stands can is = subst (λ (p : Protocol). IsRunStep c [] None [] p) (sym is.1) (number_drawn c sound)

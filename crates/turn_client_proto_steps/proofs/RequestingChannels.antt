@@ -54,7 +54,7 @@ module _ (c : Client) (transport : TransportType) (peer : SocketAddr) (now : ℕ
   passes = is_of transport (family_of_socket peer)
 
   -- asked for
-  asks_for : (channel number : ℕ) → IsOrderly (parts_of c.core) → c.core.phase ≡ Authenticated → IsUnderWay c c.core → IsLeastFree c.core.allocations now (Some channel) → IsMade c.core (ChannelBind channel peer) number
+  asks_for : (channel number : ℕ) → IsOrderly (parts_of c.core) → c.core.phase ≡ Authenticated → IsUnderWay c [] c.core → IsLeastFree c.core.allocations now (Some channel) → IsMade c.core (ChannelBind channel peer) number
       → IsRunStep c [] None [] (after_binding transport peer channel number now c.core)
   unfolding after_binding asked
   asks_for channel number orderly stands under_way free is =
@@ -70,7 +70,7 @@ module _ (c : Client) (transport : TransportType) (peer : SocketAddr) (now : ℕ
       (allocations_permitting (told_by text ∷ []) (asks_by (ChannelBind channel peer) number) mid left are (made_number c.core (ChannelBind channel peer) number now is)) in
       let kept = permitting_orderly none_gained (asks_by (ChannelBind channel peer) number) mid left are (channel_fit c.core channel peer number now whole is)
       (asked_orderly c.core (ChannelBind channel peer) number now is (allocated _ c.core.phase stands) orderly) distinct in
-      asks c c.core (ChannelBind channel peer) number under_way is [] None (after_binding transport peer channel number now c.core) adds kept refl under_way.can_ask.families refl refl (nothing_drawn (told_by text ∷ []) c)
+      asks c c.core (ChannelBind channel peer) number under_way is None (after_binding transport peer channel number now c.core) adds kept refl (λ realm h. h) under_way.can_ask.families refl refl (nothing_drawn (told_by text ∷ []) c)
 
   refused : (found : Option Allocation) (new : Protocol) → IsSound c → new ≡ bind_refused_in found transport peer now c.core → IsRunStep c [] None [] new
   refused None new sound is = still c [] new sound is
@@ -87,7 +87,7 @@ module _ (c : Client) (transport : TransportType) (peer : SocketAddr) (now : ℕ
   tried_by None answer new sound stands can least is = still c [] new sound is.1
   tried_by (Some channel) (Err e) new sound stands can least is = subst (λ (p : Protocol). IsRunStep c [] None [] p) (sym is.1) (number_drawn c sound)
   tried_by (Some channel) (Ok _) new sound stands can least is =
-      let under_way = at_first c sound.orderly can in
+      let under_way = at_first c [] sound.orderly can in
       subst (λ (p : Protocol). IsRunStep c [] None [] p) (sym is.after)
       (asks_for channel is.number sound.orderly stands under_way least
       (made c c.core (ChannelBind channel peer) is.number under_way is.lawful (peer_read is.number peer whole.own whole.flow whole.scope) is.is_next))

@@ -1,21 +1,22 @@
 -- A call that answers things as held is a step, too, where they are held; and so is one that hands over payloads, where
 -- each was delivered and names something kept.
-use Rattle.std.proofs.Common.{◌≡◌, ℕ, List, refl, subst, inl, inr}
+use Rattle.std.proofs.Common.{◌≡◌, ℕ, List, refl, sym, ap, ◌∙◌, subst, inl, inr}
 use Rattle.turn_client_proto_data.specs.Members.{IsIn}
 use Rattle.turn_client_proto_data.specs.Messages.{Message, Held, Gain, Holds, Knows, NamesHeld, Payload, FromPeer, Reported, FromChannel, FromConnection}
 use Rattle.turn_client_proto_data.specs.Words.{Wire, ClientWords}
-use Rattle.turn_client_proto_data.specs.Steps.{Arrives, Call, ClientStep, IsAnswered, IsDelivered, IsOwnKey, IsTried}
+use Rattle.turn_client_proto_data.specs.Steps.{Arrives, Call, ClientStep, IsAnswered, IsDelivered, IsTried}
 
--- a call that takes up the same, of the same account, where as much is outstanding
+-- a call that takes up the same, of the same account, realm and algorithm, where as much is outstanding
 module _ {V : Wire} {C : Type 0} (K : ClientWords V C) (call other : Call C) (same : call.handled ≡ other.handled) (account : K.account call.before ≡ K.account other.before)
+    (realm : K.realm call.before ≡ K.realm other.before) (algorithm : K.algorithm call.before ≡ K.algorithm other.before)
     (outstanding : (m : Message) → K.IsOutstanding call.before m → K.IsOutstanding other.before m) where
   pub arrives : (bytes : List ℕ) (m : Message) → Arrives K call bytes m → Arrives K other bytes m
   arrives bytes m is = record {
     handled = subst (IsIn bytes) same is.handled;
     shows = is.shows;
     key = is.key;
-    own = subst (λ (a : V.Account). IsOwnKey V a is.key) account is.own;
     algorithm = is.algorithm;
+    own = (is.own.0, sym realm ∙ is.own.1, sym algorithm ∙ is.own.2, is.own.3 ∙ ap (λ (a : V.Account). V.key a is.own.0 is.algorithm) account);
     text = is.text;
     valid = is.valid;
   }
@@ -45,6 +46,7 @@ module _ {V : Wire} {C : Type 0} (K : ClientWords V C) (call : Call C) (held : L
   tells_step are delivers names is = record {
     account = is.account;
     seed = is.seed;
+    realms = is.realms;
     counted = is.counted;
     few = is.few;
     begun = is.begun;
@@ -54,14 +56,14 @@ module _ {V : Wire} {C : Type 0} (K : ClientWords V C) (call : Call C) (held : L
     queued = is.queued;
     taken = λ n h. elim (is.taken n h) [
       | inl was ↦ inl was
-      | inr now ↦ elim now [ inl made ↦ inr (inl made) | inr came ↦ inr (inr (tried K call telling refl refl (λ m is. is) came)) ]
+      | inr now ↦ elim now [ inl made ↦ inr (inl made) | inr came ↦ inr (inr (tried K call telling refl refl refl refl (λ m is. is) came)) ]
     ];
     draws = is.draws;
     handles = is.handles;
     buffers = is.buffers;
     gained = is.gained;
     gains = is.gains;
-    answers = λ t h. answered K call telling refl refl (λ m is. is) is.begun (Holds t.held) t.number (is.answers t h);
+    answers = λ t h. answered K call telling refl refl refl refl (λ m is. is) is.begun (Holds t.held) t.number (is.answers t h);
     once = is.once;
     spent = is.spent;
     known = is.known;
@@ -72,11 +74,11 @@ module _ {V : Wire} {C : Type 0} (K : ClientWords V C) (call : Call C) (held : L
     waits = λ n peer h. elim (is.waits n peer h) [
       | inl was ↦ inl was
       | inr now ↦ elim now [
-        | inl known ↦ inr (inl (known.0, answered K call telling refl refl (λ m is. is) is.begun (Knows n peer) known.0 known.1))
-        | inr came ↦ inr (inr (tried K call telling refl refl (λ m is. is) came))
+        | inl known ↦ inr (inl (known.0, answered K call telling refl refl refl refl (λ m is. is) is.begun (Knows n peer) known.0 known.1))
+        | inr came ↦ inr (inr (tried K call telling refl refl refl refl (λ m is. is) came))
       ]
     ];
-    attempted = λ n h. elim (is.attempted n h) [ inl was ↦ inl was | inr came ↦ inr (tried K call telling refl refl (λ m is. is) came) ];
+    attempted = λ n h. elim (is.attempted n h) [ inl was ↦ inl was | inr came ↦ inr (tried K call telling refl refl refl refl (λ m is. is) came) ];
     delivers = delivers;
     names = names;
   }

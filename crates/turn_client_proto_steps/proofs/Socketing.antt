@@ -63,7 +63,7 @@ goes c f queue core less alike adds orderly is sound =
     let fewer = each_less [] f less c.core.allocations in
     subst (λ (p : Protocol). IsRunStep c [] None [] p) (sym is)
     (run_step [] [] None [] c c.drawn after
-    (quiet None [] c c.drawn after (counts_none c after refl)
+    (quiet None [] c c.drawn after (counts_none c after refl) (λ realm h. inl h)
     (adds_both [] (parts_of c.core) between (parts_of after) adds (allocations_less [] [] between left fewer (λ r h. absurd h))) (nothing_drawn [] c) refl)
     (allocations_orderly [] between left fewer (λ r h. absurd h) (same_distinct f alike c.core.allocations sound.orderly.distinct) orderly)
     (until_map c.core.phase (still_can c after refl refl refl) sound.can_ask))
@@ -120,7 +120,7 @@ module _ (c : Client) (answer : AttemptAnswer) (number : ℕ) (is_number : IsNum
   answered_orderly : IsOrderly (parts_of c.core) → IsOrderly (record (parts_of c.core) { queue = c.core.queue ++ reply ∷ [] })
   answered_orderly orderly = queue_orderly (parts_of c.core) reply (answer_ready c.core.auth answer number c.core.agent.here) orderly
 
-  once_answered : IsUnderWay c c.core → IsUnderWay c (answering answer number c.core)
+  once_answered : IsUnderWay c [] c.core → IsUnderWay c [] (answering answer number c.core)
   unfolding answering
   once_answered is = record {
     adds = answered_adds;
@@ -128,6 +128,7 @@ module _ (c : Client) (answer : AttemptAnswer) (number : ℕ) (is_number : IsNum
     can_ask = record { account = is.can_ask.account; texts = is.can_ask.texts; families = is.can_ask.families; words = is.can_ask.words };
     told = is.told;
     rng = is.rng;
+    realms = is.realms;
   }
 
 module _ (c : Client) (here peer : SocketAddr) (connection now : ℕ) where
@@ -144,7 +145,7 @@ module _ (c : Client) (here peer : SocketAddr) (connection now : ℕ) where
   abbrev bound_with : ℕ → Protocol → Protocol
   bound_with number mid = record (asked_from here (after_number mid) (ConnectionBind connection) number now) { allocations = map (let_go connection peer) (tied_with number mid) }
 
-  asks_binding : (mid : Protocol) (number : ℕ) → mid.phase ≡ Authenticated → IsUnderWay c mid → IsMade mid (ConnectionBind connection) number → IsRunStep c [] None [] (bound_with number mid)
+  asks_binding : (mid : Protocol) (number : ℕ) → mid.phase ≡ Authenticated → IsUnderWay c [] mid → IsMade mid (ConnectionBind connection) number → IsRunStep c [] None [] (bound_with number mid)
   asks_binding mid number stands under_way is =
       let orderly : IsOrderly (parts_of mid) = under_way.orderly in
       let text = request_text mid.auth (ConnectionBind connection) number in
@@ -163,10 +164,10 @@ module _ (c : Client) (here peer : SocketAddr) (connection now : ℕ) where
       let kept = allocations_orderly [] between left fewer (λ r h. absurd h) (same_distinct (let_go connection peer) (let_go_alike connection peer) tied distinct)
       (tying_orderly here peer connection (awaited number) passes asking knew (asks_bind mid here peer connection number now is) distinct
       (asked_from_orderly here mid (ConnectionBind connection) number now is (allocated _ mid.phase stands) orderly)) in
-      asks c mid (ConnectionBind connection) number under_way is [] None (bound_with number mid) adds kept refl under_way.can_ask.families refl refl (nothing_drawn (told_by text ∷ []) c)
+      asks c mid (ConnectionBind connection) number under_way is None (bound_with number mid) adds kept refl (λ realm h. h) under_way.can_ask.families refl refl (nothing_drawn (told_by text ∷ []) c)
 
   -- where a peer began it, the server is told first that there is a socket
-  opens : (number : ℕ) → c.core.phase ≡ Authenticated → IsUnderWay c c.core → IsMade c.core (ConnectionBind connection) number → IfSome (attempt_at connection peer c.core) IsNumber
+  opens : (number : ℕ) → c.core.phase ≡ Authenticated → IsUnderWay c [] c.core → IsMade c.core (ConnectionBind connection) number → IfSome (attempt_at connection peer c.core) IsNumber
       → IsRunStep c [] None [] (after_socket here peer connection number now c.core)
   unfolding after_socket answering is_taken
   opens number stands under_way is told = by (attempt_at connection peer c.core) refl told
@@ -197,7 +198,7 @@ module _ (c : Client) (peer : SocketAddr) (connection now : ℕ) (sound : IsSoun
   taken None (Ok x) new stands can is = subst (λ (p : Protocol). IsRunStep c [] None [] p) (sym is.after) (none_opened is.attempt)
   taken None (Err e) new stands can is = still c [] new sound is.1
   taken (Some here) (Ok x) new stands can is =
-      let under_way = at_first c sound.orderly can in
+      let under_way = at_first c [] sound.orderly can in
       subst (λ (p : Protocol). IsRunStep c [] None [] p) (sym is.after)
       (opens c here peer connection now is.number stands under_way (made c c.core (ConnectionBind connection) is.number under_way is.lawful tt is.is_next) is.attempt)
   taken (Some here) (Err e) new stands can is = subst (λ (p : Protocol). IsRunStep c [] None [] p) (sym is.1) (number_drawn c sound)

@@ -38,7 +38,6 @@ use Rattle.turn_client_proto_steps.specs.RunClient.{Client, Parts, parts_of}
 use Rattle.turn_client_proto_steps.specs.RunSteps.{IsRunStep}
 use Rattle.turn_client_proto_steps.specs.Sound.{CanAsk, IsOrderly}
 use Rattle.turn_client_proto_steps.proofs.Adding.{AreLess, adds_both, allocations_less, phase_moved}
-use Rattle.turn_client_proto_steps.proofs.Allocating.{validated_own}
 use Rattle.turn_client_proto_steps.proofs.Asking.{IsUnderWay, once_accepted, once_judged}
 use Rattle.turn_client_proto_steps.proofs.Attempting.{attempt_step}
 use Rattle.turn_client_proto_steps.proofs.Awaited.{found_by}
@@ -54,12 +53,14 @@ use Rattle.turn_client_proto_steps.proofs.Permitting.{each_permitting, none_asks
 use Rattle.turn_client_proto_steps.proofs.Orderly.{allocations_orderly, phase_orderly, until_all}
 use Rattle.turn_client_proto_steps.proofs.Plain.{counts_none, none_told, nothing_drawn, quiet, run_step}
 use Rattle.turn_client_proto_steps.proofs.Polling.{by_test}
+use Rattle.turn_client_proto_steps.proofs.Realms.{IsGoing, ended_realm, going_at}
 use Rattle.turn_client_proto_steps.proofs.Rechallenging.{rechallenged}
+use Rattle.turn_client_proto_steps.proofs.Signed.{validated_own}
 use Rattle.turn_client_proto_steps.proofs.StandingChannels.{BindsOne, bind_responded}
 
 -- ---- a response to a REFRESH
 
-module _ (c : Client) (mid : Protocol) (bytes : List ℕ) (now : ℕ) (under_way : IsUnderWay c mid) where
+module _ (c : Client) (mid : Protocol) (bytes : List ℕ) (now : ℕ) (under_way : IsUnderWay c (bytes ∷ []) mid) where
   all_gone : IsRunStep c (bytes ∷ []) None [] (deallocated mid)
   unfolding deallocated
   all_gone =
@@ -68,7 +69,7 @@ module _ (c : Client) (mid : Protocol) (bytes : List ℕ) (now : ℕ) (under_way
       let adds = adds_both [] (parts_of c.core) (parts_of mid) (parts_of core) under_way.adds
       (adds_both [] (parts_of mid) gone (parts_of core) (allocations_less [] [] (parts_of mid) [] (none_less mid.allocations) (λ r h. absurd h)) (phase_moved [] gone Ended (λ n h. absurd h))) in
       run_step [] (bytes ∷ []) None [] c c.drawn core
-      (quiet None [] c c.drawn core (counts_none c core under_way.rng) adds (nothing_drawn [] c) under_way.told)
+      (quiet None [] c c.drawn core (counts_none c core under_way.rng) (ended_realm (bytes ∷ []) c.core core refl) adds (nothing_drawn [] c) under_way.told)
       (phase_orderly gone Ended tt (allocations_orderly [] (parts_of mid) [] (none_less mid.allocations) (λ r h. absurd h) none_distinct under_way.orderly)) tt
 
   all_renew : IsRunStep c (bytes ∷ []) None [] (record mid { allocations = map (renewed (number_at bytes) now (lifetime_told bytes)) mid.allocations })
@@ -78,7 +79,7 @@ module _ (c : Client) (mid : Protocol) (bytes : List ℕ) (now : ℕ) (under_way
       let less : AreLess [] mid.allocations left = all_renewed (number_at bytes) now (lifetime_told bytes) mid.allocations in
       let adds = adds_both [] (parts_of c.core) (parts_of mid) (parts_of core) under_way.adds (allocations_less [] [] (parts_of mid) left less (λ r h. absurd h)) in
       run_step [] (bytes ∷ []) None [] c c.drawn core
-      (quiet None [] c c.drawn core (counts_none c core under_way.rng) adds (nothing_drawn [] c) under_way.told)
+      (quiet None [] c c.drawn core (counts_none c core under_way.rng) under_way.realms adds (nothing_drawn [] c) under_way.told)
       (allocations_orderly [] (parts_of mid) left less (λ r h. absurd h)
       (renewed_distinct (number_at bytes) now (lifetime_told bytes) mid.allocations under_way.orderly.distinct) under_way.orderly) (until_all mid.phase (record {
         account = under_way.can_ask.account;
@@ -172,14 +173,17 @@ success_class Request response ok = absurd (Prim.cc response)
 success_class Indication response ok = absurd (Prim.cc response)
 
 module _ (c : Client) (bytes : List ℕ) (now : ℕ) (orderly : IsOrderly (parts_of c.core)) (can : CanAsk c) (stands : c.core.phase ≡ Authenticated) (are_bytes : AreBytes bytes) (message : refusal bytes ≡ None) where
+  going : IsGoing c.core.phase
+  going = going_at c.core.phase Authenticated stands (λ kept. refl)
+
   -- a response that was accepted, to a request that is outstanding
   module _ (algorithm : IntegrityAlgorithm) (signer : signers.Client) (is : IsJudged c.core.auth bytes (Ok (Validated algorithm)) signer) (taken : (is_response bytes && is_awaited c.core.agent bytes) ≡ true)
-      (under_way : IsUnderWay c (accepted bytes (judged signer c.core))) where
+      (under_way : IsUnderWay c (bytes ∷ []) (accepted bytes (judged signer c.core))) where
     succeeds : is_error_class (class_of (kind_at bytes)) ≡ false → class_of (kind_at bytes) ≡ Success
     succeeds ok = success_class (class_of (kind_at bytes)) (both_so (is_response bytes) (is_awaited c.core.agent bytes) taken).0 ok
 
-    own : IsSignedFor c.credentials bytes
-    own = validated_own c.core.auth signer bytes algorithm c.credentials are_bytes can.account is
+    own : IsSignedFor c bytes
+    own = validated_own c signer bytes algorithm are_bytes can going is
 
     grants_one : (found : Option Transaction) → finite.get c.core.agent.outstanding (number_at bytes) ≡ found → is_some found ≡ true → GrantsOne c (accepted bytes (judged signer c.core)) bytes now under_way
     unfolding accepted
@@ -212,7 +216,7 @@ module _ (c : Client) (bytes : List ℕ) (now : ℕ) (orderly : IsOrderly (parts
       request_answered c (accepted bytes (judged signer c.core)) bytes now accepts
       (grants_one algorithm signer is taken accepts found refl some) (binds_one algorithm signer is taken accepts found refl some) (knows_one algorithm signer is taken accepts found refl some) handled new one)
       (λ (_ : (is_response bytes && is_awaited c.core.agent bytes) ≡ false) other.
-      attempt_step c signer bytes message (validated_own c.core.auth signer bytes algorithm c.credentials are_bytes can.account is) under_way handled new other) h
+      attempt_step c signer bytes message (validated_own c signer bytes algorithm are_bytes can going is) under_way handled new other) h
 
   pub standing_judged : (verdict : Result LongTermClientValidation LongTermClientAuthError) (signer : signers.Client) (handled : Bool) (new : Protocol) → IsJudged c.core.auth bytes verdict signer
       → IsJudgedStanding verdict (judged signer c.core) bytes now handled new → IsRunStep c (bytes ∷ []) None [] new

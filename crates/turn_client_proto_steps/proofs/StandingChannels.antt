@@ -31,7 +31,7 @@ use Rattle.turn_client_proto_steps.proofs.Permitting.{ArePermitting, each_permit
 use Rattle.turn_client_proto_steps.proofs.Plain.{none_told, notices}
 use Rattle.turn_client_proto_steps.proofs.Polling.{by_test}
 
-module _ (c : Client) (mid : Protocol) (bytes : List ℕ) (now : ℕ) (under_way : IsUnderWay c mid) where
+module _ (c : Client) (mid : Protocol) (bytes : List ℕ) (now : ℕ) (under_way : IsUnderWay c (bytes ∷ []) mid) where
   abbrev number : ℕ
   number = number_at bytes
 

@@ -47,7 +47,7 @@ module _ (passes : Allocation → Bool) (test : Connection → Bool) (stream : S
       let are : AreChanging none_bound none_rebound c.core.allocations left = keeping_changes c.core.allocations in
       let distinct : AreDistinct left = same_first_distinct passes (keeping test stream) (λ a. (refl, refl)) c.core.allocations sound.orderly.distinct in
       run_step [] [] None [] c c.drawn after
-      (quiet None [] c c.drawn after (counts_none c after refl) (allocations_changing [] none_rebound (parts_of c.core) left are (λ k b h. absurd h)) (nothing_drawn [] c) refl)
+      (quiet None [] c c.drawn after (counts_none c after refl) (λ realm h. inl h) (allocations_changing [] none_rebound (parts_of c.core) left are (λ k b h. absurd h)) (nothing_drawn [] c) refl)
       (changing_orderly none_bound none_rebound (parts_of c.core) left are (λ k b h. absurd h) distinct sound.orderly)
       (until_map c.core.phase (still_can c after refl refl refl) sound.can_ask)
 

@@ -1,4 +1,4 @@
--- What becomes of what is kept, by what came of a message: nothing is kept that wasn't; or the message was awaited, and no number was drawn.
+-- What becomes of what is kept, by what came of a message: nothing is kept that wasn't; or the message was awaited and accepted, and no number was drawn.
 use Rattle.std.proofs.Common.{◌≡◌, ◌⊎◌, ℕ, ◌==◌, Bool, true, false, ◌&&◌, List, [], map, Option, Some, None, Ok, Err, if◌then◌else◌, refl, sym, ap, ◌∙◌, subst, inl, inr}
 use Rattle.std.specs.Bool.{MatchBool}
 use Rattle.std.specs.List.{find, list_any}
@@ -6,14 +6,16 @@ use Rattle.std.specs.declared.net.socket_addr.SocketAddr.{SocketAddr}
 use Rattle.rand_chacha.specs.ChaCha.{ChaCha}
 use Rattle.stun_types.specs.Attributes.{kind_at}
 use Rattle.stun_types.specs.Grammar.{number_at}
+use Rattle.stun_types.specs.IntegrityAlgorithms.{IntegrityAlgorithm}
 use Rattle.stun_types.specs.MessageClasses.{MessageClass, Request, Indication, Success, Error}
 use Rattle.stun_types.specs.Types.{class_of, method_of}
 use Rattle.stun_types.specs.declared.family.AddressFamily.{AddressFamily}
+use Rattle.stun_proto.specs.Client as signers
 use Rattle.stun_proto.specs.ClientAuthErrors.{Unauthorized, IntegrityFailed, UnsupportedFeature, NoMemory}
 use Rattle.stun_proto.specs.ClientValidations.{ResendRequest, Validated}
 use Rattle.stun_proto.specs.Handling.{is_awaited, is_response}
 use Rattle.stun_proto.specs.State.{Agent}
-use Rattle.turn_types.specs.TurnRegistry.{channel_bind_method, connect_method, create_permission_method, refresh_method}
+use Rattle.turn_types.specs.TurnRegistry.{channel_bind_method, connect_method, connection_bind_method, create_permission_method, refresh_method}
 use Rattle.turn_client_proto_data.specs.Messages as run
 use Rattle.turn_client_proto_data.specs.Allocation.Awaited.{asks_for_permission, has_number, renews_channel, renews_permission}
 use Rattle.turn_client_proto_data.specs.Allocation.Changes.{change_first}
@@ -31,6 +33,7 @@ use Rattle.turn_client_proto_data.specs.Hearing.{IsAnswerHeard, IsAnswerJudged, 
 use Rattle.turn_client_proto_data.specs.declared.hearing.Joining.{Joining}
 use Rattle.turn_client_proto_data.specs.Indications.{is_indication}
 use Rattle.turn_client_proto_data.specs.Response.Told.{connection_told, lifetime_told, peer_told}
+use Rattle.turn_client_proto_data.specs.Request.Judging.{IsJudged}
 use Rattle.turn_client_proto_data.specs.Request.declared.answer.AttemptAnswer.{AttemptAnswer}
 use Rattle.turn_client_proto_data.specs.Request.declared.answer.AttemptAnswer.TheVariants.{AlreadyExists, BadRequest}
 use Rattle.turn_client_proto_data.specs.Sockets.{binding_time}
@@ -39,6 +42,7 @@ use Rattle.turn_client_proto_data.specs.Core.Asking.{asked}
 use Rattle.turn_client_proto_data.specs.Core.Attempting.{IsAttemptTaken, after_attempt, after_attempt_in, after_attempt_of, answering, is_attempt, may_join}
 use Rattle.turn_client_proto_data.specs.Core.Authenticating.{IsAccepted, IsAllocateAnswered, IsAllocatingAgain, IsChallenged, IsErrorAnswered, IsFirstJudged, IsSignedJudged, IsTurnedAway, allocates_again, allocates_other, family_left}
 use Rattle.turn_client_proto_data.specs.Core.Binding.{IsBindResponded, IsBoundFor, IsUnboundFor, bound, lets_lapse, permission_with, renews_channels, unbound}
+use Rattle.turn_client_proto_data.specs.Core.Deleting.{is_authenticated}
 use Rattle.turn_client_proto_data.specs.Core.Ending.{ended}
 use Rattle.turn_client_proto_data.specs.Core.Moments.{moment_after}
 use Rattle.turn_client_proto_data.specs.Core.Outcomes.{IsHandled, IsIgnored}
@@ -59,6 +63,8 @@ use Rattle.turn_client_proto_steps.proofs.Lists.{both_so, in_changed}
 use Rattle.turn_client_proto_steps.proofs.Once.Judging.{Verdict}
 use Rattle.turn_client_proto_steps.proofs.Parting.{closed_less}
 use Rattle.turn_client_proto_steps.proofs.Polling.{by_test}
+use Rattle.turn_client_proto_steps.proofs.Realms.{IsGoing, going_at}
+use Rattle.turn_client_proto_steps.proofs.Requesting.{authenticated}
 
 -- ---- nothing is kept that wasn't
 
@@ -168,9 +174,16 @@ waits_more here b a h (HasConnection c listed bound) = elim (in_changed (is_from
 
 -- ---- what came of a message
 
--- nothing is kept that wasn't; or the message was awaited, and no number was drawn
-abbrev pub Comes : (bytes : List ℕ) → List Allocation → Agent → ChaCha → Protocol → Type 0
-Comes bytes allocations agent rng new = NoMore allocations new.allocations ⊎ ((is_awaited agent bytes ≡ true) × (new.rng ≡ rng))
+-- a message was accepted by a client that has not ended, by an algorithm
+pub record IsAcceptedBy (old : Protocol) (bytes : List ℕ) : Type 0 where
+  pub going : IsGoing old.phase
+  pub algorithm : IntegrityAlgorithm
+  pub signer : signers.Client
+  pub valid : IsJudged old.auth bytes (Ok (Validated algorithm)) signer
+
+-- nothing is kept that wasn't; or the message was awaited and accepted, and no number was drawn
+abbrev pub Comes : (Signed : Type 0) → (bytes : List ℕ) → List Allocation → Agent → ChaCha → Protocol → Type 0
+Comes Signed bytes allocations agent rng new = NoMore allocations new.allocations ⊎ ((is_awaited agent bytes ≡ true) × (new.rng ≡ rng) × Signed)
 
 -- nothing is kept that wasn't, or no number was drawn
 abbrev ComesQuietly : Protocol → Protocol → Type 0
@@ -179,26 +192,26 @@ ComesQuietly p new = NoMore p.allocations new.allocations ⊎ (new.rng ≡ p.rng
 abbrev Leads : Type 1
 Leads = Bool → Protocol → Type 0
 
-pub record Keeps (bytes : List ℕ) (p : Protocol) (leads : Leads) : Type 0 where
-  pub keeps : (handled : Bool) (new : Protocol) → leads handled new → Comes bytes p.allocations p.agent p.rng new
+pub record Keeps (Signed : Type 0) (bytes : List ℕ) (p : Protocol) (leads : Leads) : Type 0 where
+  pub keeps : (handled : Bool) (new : Protocol) → leads handled new → Comes Signed bytes p.allocations p.agent p.rng new
 
 record IsQuiet (p : Protocol) (leads : Leads) : Type 0 where
   quiet : (handled : Bool) (new : Protocol) → leads handled new → ComesQuietly p new
 
-module _ (bytes : List ℕ) where
-  outcome : (wanted : Bool) (p after : Protocol) → NoMore p.allocations after.allocations → Keeps bytes p (λ handled new. (handled ≡ wanted) × (new ≡ after))
+module _ {Signed : Type 0} (bytes : List ℕ) where
+  outcome : (wanted : Bool) (p after : Protocol) → NoMore p.allocations after.allocations → Keeps Signed bytes p (λ handled new. (handled ≡ wanted) × (new ≡ after))
   outcome wanted p after more = record { keeps = λ handled new h. inl (subst (λ (x : Protocol). NoMore p.allocations x.allocations) (sym h.1) more) }
 
-  handled_so : (p after : Protocol) → NoMore p.allocations after.allocations → Keeps bytes p (IsHandled after)
+  handled_so : (p after : Protocol) → NoMore p.allocations after.allocations → Keeps Signed bytes p (IsHandled after)
   handled_so p after more = outcome true p after more
 
-  ignored : (p : Protocol) → Keeps bytes p (IsIgnored p)
+  ignored : (p : Protocol) → Keeps Signed bytes p (IsIgnored p)
   ignored p = outcome false p p (same_more p.allocations)
 
-  never : (p : Protocol) → Keeps bytes p (λ handled new. ⊥)
+  never : (p : Protocol) → Keeps Signed bytes p (λ handled new. ⊥)
   never p = record { keeps = λ handled new h. absurd h }
 
-  tested : {p : Protocol} {P Q : Leads} (b : Bool) → (b ≡ true → Keeps bytes p P) → (b ≡ false → Keeps bytes p Q) → Keeps bytes p (λ (handled : Bool) (new : Protocol). MatchBool b (P handled new) (Q handled new))
+  tested : {p : Protocol} {P Q : Leads} (b : Bool) → (b ≡ true → Keeps Signed bytes p P) → (b ≡ false → Keeps Signed bytes p Q) → Keeps Signed bytes p (λ (handled : Bool) (new : Protocol). MatchBool b (P handled new) (Q handled new))
   tested true p q = record { keeps = (p refl).keeps }
   tested false p q = record { keeps = (q refl).keeps }
 
@@ -218,7 +231,7 @@ module _ {p : Protocol} where
 
 -- ---- where the client has not allocated
 
-module _ (bytes : List ℕ) (now : ℕ) where
+module _ (Signed : Type 0) (bytes : List ℕ) (now : ℕ) where
   over : (p : Protocol) → NoMore p.allocations (ended p).allocations
   unfolding ended
   over p = same_more p.allocations
@@ -231,16 +244,16 @@ module _ (bytes : List ℕ) (now : ℕ) where
   unfolding challenged allocates_again asked
   asked_again p number = same_more p.allocations
 
-  again_keeps : (p : Protocol) → Keeps bytes p (IsAllocatingAgain p bytes now)
+  again_keeps : (p : Protocol) → Keeps Signed bytes p (IsAllocatingAgain p bytes now)
   again_keeps p = record { keeps = λ handled new h. (handled_so bytes p _ (asked_again p h.number)).keeps handled new h.outcome }
 
-  challenged_keeps : (p : Protocol) → Keeps bytes p (IsChallenged p bytes now)
+  challenged_keeps : (p : Protocol) → Keeps Signed bytes p (IsChallenged p bytes now)
   challenged_keeps p =
       tested bytes (is_awaited p.agent bytes)
       (λ _. tested bytes (is_tired p) (λ _. handled_so bytes p (ended p) (over p)) (λ _. again_keeps p))
       (λ _. ignored bytes p)
 
-  turned_keeps : (p : Protocol) → Keeps bytes p (IsTurnedAway p bytes)
+  turned_keeps : (p : Protocol) → Keeps Signed bytes p (IsTurnedAway p bytes)
   turned_keeps p = tested bytes (is_awaited p.agent bytes) (λ _. handled_so bytes p (ended (answered bytes p)) (over_answered p)) (λ _. ignored bytes p)
 
   -- an ALLOCATE
@@ -273,33 +286,37 @@ module _ (bytes : List ℕ) (now : ℕ) where
   class_quiet Indication p = quiet_handled p refl
 
   -- a message that is awaited was accepted
-  accepts : (p : Protocol) (leads : Leads) → is_awaited p.agent bytes ≡ true → IsQuiet (accepted bytes p) leads → Keeps bytes p leads
+  accepts : Signed → (p : Protocol) (leads : Leads) → is_awaited p.agent bytes ≡ true → IsQuiet (accepted bytes p) leads → Keeps Signed bytes p leads
   unfolding accepted
-  accepts p leads awaited is = record {
-    keeps = λ handled new h. elim (is.quiet handled new h) [ inl more ↦ inl more | inr same ↦ inr (awaited, same) ];
+  accepts own p leads awaited is = record {
+    keeps = λ handled new h. elim (is.quiet handled new h) [ inl more ↦ inl more | inr same ↦ inr (awaited, same, own) ];
   }
 
-  accepted_keeps : (p : Protocol) → Keeps bytes p (IsAccepted p bytes now)
-  accepted_keeps p =
+  -- a message that was accepted, if this verdict accepts it
+  abbrev SignedIf : Verdict → Type 0
+  SignedIf verdict = (algorithm : IntegrityAlgorithm) → verdict ≡ Ok (Validated algorithm) → Signed
+
+  accepted_keeps : Signed → (p : Protocol) → Keeps Signed bytes p (IsAccepted p bytes now)
+  accepted_keeps own p =
       tested bytes (is_awaited p.agent bytes)
-      (λ awaited. accepts p (IsAllocateAnswered (class_of (kind_at bytes)) (accepted bytes p) bytes now) awaited (class_quiet (class_of (kind_at bytes)) (accepted bytes p)))
+      (λ awaited. accepts own p (IsAllocateAnswered (class_of (kind_at bytes)) (accepted bytes p) bytes now) awaited (class_quiet (class_of (kind_at bytes)) (accepted bytes p)))
       (λ _. handled_so bytes p p (same_more p.allocations))
 
-  first_keeps : (verdict : Verdict) (p : Protocol) → Keeps bytes p (IsFirstJudged verdict p bytes now)
-  first_keeps (Ok (ResendRequest choice)) p = challenged_keeps p
-  first_keeps (Ok (Validated algorithm)) p = outcome bytes false p (ended p) (over p)
-  first_keeps (Err NoMemory) p = never bytes p
-  first_keeps (Err Unauthorized) p = turned_keeps p
-  first_keeps (Err (IntegrityFailed algorithm)) p = turned_keeps p
-  first_keeps (Err UnsupportedFeature) p = turned_keeps p
+  first_keeps : (verdict : Verdict) → SignedIf verdict → (p : Protocol) → Keeps Signed bytes p (IsFirstJudged verdict p bytes now)
+  first_keeps (Ok (ResendRequest choice)) own p = challenged_keeps p
+  first_keeps (Ok (Validated algorithm)) own p = outcome bytes false p (ended p) (over p)
+  first_keeps (Err NoMemory) own p = never bytes p
+  first_keeps (Err Unauthorized) own p = turned_keeps p
+  first_keeps (Err (IntegrityFailed algorithm)) own p = turned_keeps p
+  first_keeps (Err UnsupportedFeature) own p = turned_keeps p
 
-  signed_keeps : (verdict : Verdict) (p : Protocol) → Keeps bytes p (IsSignedJudged verdict p bytes now)
-  signed_keeps (Ok (ResendRequest choice)) p = challenged_keeps p
-  signed_keeps (Ok (Validated algorithm)) p = accepted_keeps p
-  signed_keeps (Err (IntegrityFailed algorithm)) p = handled_so bytes p (ended p) (over p)
-  signed_keeps (Err NoMemory) p = never bytes p
-  signed_keeps (Err Unauthorized) p = ignored bytes p
-  signed_keeps (Err UnsupportedFeature) p = ignored bytes p
+  signed_keeps : (verdict : Verdict) → SignedIf verdict → (p : Protocol) → Keeps Signed bytes p (IsSignedJudged verdict p bytes now)
+  signed_keeps (Ok (ResendRequest choice)) own p = challenged_keeps p
+  signed_keeps (Ok (Validated algorithm)) own p = accepted_keeps (own algorithm refl) p
+  signed_keeps (Err (IntegrityFailed algorithm)) own p = handled_so bytes p (ended p) (over p)
+  signed_keeps (Err NoMemory) own p = never bytes p
+  signed_keeps (Err Unauthorized) own p = ignored bytes p
+  signed_keeps (Err UnsupportedFeature) own p = ignored bytes p
 
   -- ---- where the server has allocated
 
@@ -307,11 +324,11 @@ module _ (bytes : List ℕ) (now : ℕ) where
   unfolding challenged asks_again asked
   sent_again what p number = first_more (asked_too what (number_at bytes) number) (asked_more (number_at bytes) number what) (awaits_reply (number_at bytes)) p.allocations
 
-  asked_keeps : (what : Option Asked) (p : Protocol) → Keeps bytes p (IsAskedAgain what p bytes now)
+  asked_keeps : (what : Option Asked) (p : Protocol) → Keeps Signed bytes p (IsAskedAgain what p bytes now)
   asked_keeps None p = ignored bytes p
   asked_keeps (Some what) p = record { keeps = λ handled new h. (handled_so bytes p _ (sent_again what p h.number)).keeps handled new h.outcome }
 
-  rechallenged_keeps : (p : Protocol) → Keeps bytes p (IsRechallenged p bytes now)
+  rechallenged_keeps : (p : Protocol) → Keeps Signed bytes p (IsRechallenged p bytes now)
   rechallenged_keeps p =
       tested bytes (is_tired p) (λ _. handled_so bytes p (ended p) (over p))
       (λ _. tested bytes (is_awaited p.agent bytes) (λ _. asked_keeps (asked_by (number_at bytes) p.allocations) p) (λ _. ignored bytes p))
@@ -417,46 +434,58 @@ module _ (bytes : List ℕ) (now : ℕ) where
   attempt_of (Some connection) None p = answer_more BadRequest p
   attempt_of (Some connection) (Some peer) p = attempt_in (find (may_join peer p) p.allocations) connection peer p
 
-  attempt_keeps : (p : Protocol) → Keeps bytes p (IsAttemptTaken p bytes)
+  attempt_keeps : (p : Protocol) → Keeps Signed bytes p (IsAttemptTaken p bytes)
   attempt_keeps p =
       tested bytes (is_attempt bytes)
       (λ _. handled_so bytes p (after_attempt bytes p) (attempt_of (connection_told bytes) (peer_told bytes) p)) (λ _. ignored bytes p)
 
-  taken_keeps : (p : Protocol) → Keeps bytes p (IsTakenUp p bytes now)
-  taken_keeps p =
+  taken_keeps : Signed → (p : Protocol) → Keeps Signed bytes p (IsTakenUp p bytes now)
+  taken_keeps own p =
       tested bytes (is_response bytes && is_awaited p.agent bytes)
-      (λ taken. accepts p (IsRequestAnswered (accepted bytes p) bytes now) (both_so (is_response bytes) (is_awaited p.agent bytes) taken).1 (request_quiet (accepted bytes p)))
+      (λ taken. accepts own p (IsRequestAnswered (accepted bytes p) bytes now) (both_so (is_response bytes) (is_awaited p.agent bytes) taken).1 (request_quiet (accepted bytes p)))
       (λ _. attempt_keeps p)
 
-  standing_keeps : (verdict : Verdict) (p : Protocol) → Keeps bytes p (IsJudgedStanding verdict p bytes now)
-  standing_keeps (Ok (ResendRequest choice)) p = rechallenged_keeps p
-  standing_keeps (Ok (Validated algorithm)) p = taken_keeps p
-  standing_keeps (Err NoMemory) p = never bytes p
-  standing_keeps (Err Unauthorized) p = ignored bytes p
-  standing_keeps (Err (IntegrityFailed algorithm)) p = ignored bytes p
-  standing_keeps (Err UnsupportedFeature) p = ignored bytes p
+  standing_keeps : (verdict : Verdict) → SignedIf verdict → (p : Protocol) → Keeps Signed bytes p (IsJudgedStanding verdict p bytes now)
+  standing_keeps (Ok (ResendRequest choice)) own p = rechallenged_keeps p
+  standing_keeps (Ok (Validated algorithm)) own p = taken_keeps (own algorithm refl) p
+  standing_keeps (Err NoMemory) own p = never bytes p
+  standing_keeps (Err Unauthorized) own p = ignored bytes p
+  standing_keeps (Err (IntegrityFailed algorithm)) own p = ignored bytes p
+  standing_keeps (Err UnsupportedFeature) own p = ignored bytes p
 
-  -- ---- any message
+-- ---- any message
 
-  module _ (old : Protocol) where
-    followed_keeps : (follows : Follows) → ((verdict : Verdict) (p : Protocol) → Keeps bytes p (follows verdict p bytes now)) → Keeps bytes old (IsFollowed follows old bytes now)
-    followed_keeps follows each = record { keeps = λ handled new h. (each h.verdict (judged h.auth old)).keeps handled new h.outcome }
+module _ (bytes : List ℕ) (now : ℕ) (old : Protocol) where
+  followed_keeps : (follows : Follows) → IsGoing old.phase
+      → ((verdict : Verdict) → ((algorithm : IntegrityAlgorithm) → verdict ≡ Ok (Validated algorithm) → IsAcceptedBy old bytes) → (p : Protocol) → Keeps (IsAcceptedBy old bytes) bytes p (follows verdict p bytes now))
+      → Keeps (IsAcceptedBy old bytes) bytes old (IsFollowed follows old bytes now)
+  followed_keeps follows going each = record {
+    keeps = λ handled new h.
+        let own : (algorithm : IntegrityAlgorithm) → h.verdict ≡ Ok (Validated algorithm) → IsAcceptedBy old bytes =
+        λ algorithm same. record { going = going; algorithm = algorithm; signer = h.auth; valid = subst (λ (v : Verdict). IsJudged old.auth bytes v h.auth) same h.is_judged } in
+        (each h.verdict own (judged h.auth old)).keeps handled new h.outcome;
+  }
 
-    heard_in : (phase : Phase) → Keeps bytes old (IsHeardIn phase old bytes now)
-    heard_in Initial = ignored bytes old
-    heard_in (InitialSent numbers) = tested bytes (is_response bytes) (λ _. followed_keeps IsFirstJudged first_keeps) (λ _. ignored bytes old)
-    heard_in (Authenticating numbers) = tested bytes (is_response bytes && has_number (number_at bytes) numbers) (λ _. followed_keeps IsSignedJudged signed_keeps) (λ _. ignored bytes old)
-    heard_in Authenticated = tested bytes (is_indication (class_of (kind_at bytes))) (λ _. ignored bytes old) (λ _. followed_keeps IsJudgedStanding standing_keeps)
-    heard_in Ended = ignored bytes old
+  heard_in : (phase : Phase) → old.phase ≡ phase → Keeps (IsAcceptedBy old bytes) bytes old (IsHeardIn phase old bytes now)
+  heard_in Initial at = ignored bytes old
+  heard_in (InitialSent numbers) at =
+      tested bytes (is_response bytes) (λ _. followed_keeps IsFirstJudged (going_at old.phase (InitialSent numbers) at (λ kept. refl)) (first_keeps (IsAcceptedBy old bytes) bytes now)) (λ _. ignored bytes old)
+  heard_in (Authenticating numbers) at =
+      tested bytes (is_response bytes && has_number (number_at bytes) numbers)
+      (λ _. followed_keeps IsSignedJudged (going_at old.phase (Authenticating numbers) at (λ kept. refl)) (signed_keeps (IsAcceptedBy old bytes) bytes now)) (λ _. ignored bytes old)
+  heard_in Authenticated at =
+      tested bytes (is_indication (class_of (kind_at bytes))) (λ _. ignored bytes old)
+      (λ _. followed_keeps IsJudgedStanding (going_at old.phase Authenticated at (λ kept. refl)) (standing_keeps (IsAcceptedBy old bytes) bytes now))
+  heard_in Ended at = ignored bytes old
 
-    pub heard_keeps : Keeps bytes old (IsHeard old bytes now)
-    heard_keeps = heard_in old.phase
+  pub heard_keeps : Keeps (IsAcceptedBy old bytes) bytes old (IsHeard old bytes now)
+  heard_keeps = heard_in old.phase refl
 
 -- ---- a message that came over the socket of a connection
 
-module _ (here : SocketAddr) (bytes : List ℕ) (now : ℕ) (new : Protocol) where
+module _ (Signed : Type 0) (here : SocketAddr) (bytes : List ℕ) (now : ℕ) (new : Protocol) where
   abbrev ComesTo : Protocol → Type 0
-  ComesTo p = Comes bytes p.allocations p.agent p.rng new
+  ComesTo p = Comes Signed bytes p.allocations p.agent p.rng new
 
   breaks : (p : Protocol) → new.allocations ≡ map (closed here) p.allocations → ComesTo p
   breaks p is =
@@ -475,9 +504,9 @@ module _ (here : SocketAddr) (bytes : List ℕ) (now : ℕ) (new : Protocol) whe
   unfolding broken_off answered
   broken_answered peer p is = breaks p (ap (λ (x : Protocol). x.allocations) is)
 
-  binds : (peer : SocketAddr) (p : Protocol) → is_awaited p.agent bytes ≡ true → new ≡ bound_at here peer (accepted bytes p) → ComesTo p
+  binds : Signed → (peer : SocketAddr) (p : Protocol) → is_awaited p.agent bytes ≡ true → new ≡ bound_at here peer (accepted bytes p) → ComesTo p
   unfolding bound_at accepted
-  binds peer p awaited is = inr (awaited, ap (λ (x : Protocol). x.rng) is)
+  binds own peer p awaited is = inr (awaited, ap (λ (x : Protocol). x.rng) is, own)
 
   asks_anew : (connection : ℕ) (p : Protocol) → IsAskedAnew here connection now p new → ComesTo p
   unfolding asked_anew
@@ -486,42 +515,50 @@ module _ (here : SocketAddr) (bytes : List ℕ) (now : ℕ) (new : Protocol) whe
       inl (subst (λ (l : List Allocation). NoMore p.allocations l) (sym (ap (λ (x : Protocol). x.allocations) is.after))
       (first_more (waits_in here (Some binding)) (waits_more here binding) (has_from here) p.allocations))
 
-  settles : (peer : SocketAddr) (p : Protocol) → IsSettled here peer p bytes new → ComesTo p
-  settles peer p h =
+  settles : Signed → (peer : SocketAddr) (p : Protocol) → IsSettled here peer p bytes new → ComesTo p
+  settles own peer p h =
       by_test (is_awaited p.agent bytes)
       (λ (awaited : is_awaited p.agent bytes ≡ true) one. by_test (is_success_class (class_of (kind_at bytes)))
-      (λ (_ : is_success_class (class_of (kind_at bytes)) ≡ true) (o : new ≡ bound_at here peer (accepted bytes p)). binds peer p awaited o)
+      (λ (_ : is_success_class (class_of (kind_at bytes)) ≡ true) (o : new ≡ bound_at here peer (accepted bytes p)). binds own peer p awaited o)
       (λ (_ : is_success_class (class_of (kind_at bytes)) ≡ false) (o : new ≡ broken_off here peer (accepted bytes p)). broken_accepted peer p o)
       one)
       (λ (_ : is_awaited p.agent bytes ≡ false) (o : new ≡ broken_off here peer p). broken peer p o) h
 
-  judges : (verdict : Verdict) (j : Joining) (p : Protocol) → IsAnswerJudged verdict here j p bytes now new → ComesTo p
-  judges (Ok (ResendRequest choice)) j p h = asks_anew j.connection p h
-  judges (Ok (Validated algorithm)) j p h = settles j.peer p h
-  judges (Err NoMemory) j p h = absurd h
-  judges (Err Unauthorized) j p h = broken_answered j.peer p h
-  judges (Err (IntegrityFailed algorithm)) j p h = broken_answered j.peer p h
-  judges (Err UnsupportedFeature) j p h = broken_answered j.peer p h
+  judges : (verdict : Verdict) → ((algorithm : IntegrityAlgorithm) → verdict ≡ Ok (Validated algorithm) → Signed) → (j : Joining) (p : Protocol) → IsAnswerJudged verdict here j p bytes now new → ComesTo p
+  judges (Ok (ResendRequest choice)) own j p h = asks_anew j.connection p h
+  judges (Ok (Validated algorithm)) own j p h = settles (own algorithm refl) j.peer p h
+  judges (Err NoMemory) own j p h = absurd h
+  judges (Err Unauthorized) own j p h = broken_answered j.peer p h
+  judges (Err (IntegrityFailed algorithm)) own j p h = broken_answered j.peer p h
+  judges (Err UnsupportedFeature) own j p h = broken_answered j.peer p h
 
-  module _ (old : Protocol) where
-    stays : new ≡ old → ComesTo old
-    stays is = inl (subst (λ (l : List Allocation). NoMore old.allocations l) (sym (ap (λ (x : Protocol). x.allocations) is)) (same_more old.allocations))
+module _ (here : SocketAddr) (bytes : List ℕ) (now : ℕ) (new old : Protocol) where
+  abbrev ComesOf : Type 0
+  ComesOf = Comes (IsAcceptedBy old bytes) bytes old.allocations old.agent old.rng new
 
-    of_binding : (o : Option Joining) → IsOfBinding o here old bytes now new → ComesTo old
-    of_binding None h = stays h
-    of_binding (Some j) h =
-        by_test (is_answer j.number bytes)
-        (λ (_ : is_answer j.number bytes ≡ true) (o : IsAnswerHeard here j old bytes now new). judges o.verdict j (judged o.auth old) o.outcome)
-        (λ (_ : is_answer j.number bytes ≡ false) (o : new ≡ broken_off here j.peer old). broken j.peer old o) h
+  stays : new ≡ old → ComesOf
+  stays is = inl (subst (λ (l : List Allocation). NoMore old.allocations l) (sym (ap (λ (x : Protocol). x.allocations) is)) (same_more old.allocations))
 
-    pub heard_at_comes : IsHeardAt here old bytes now new → ComesTo old
-    heard_at_comes is =
-        by_test (is_of_binding old bytes)
-        (λ (_ : is_of_binding old bytes ≡ true) (o : IsOfBinding (awaited_at here old.allocations) here old bytes now new). of_binding (awaited_at here old.allocations) o)
-        (λ (_ : is_of_binding old bytes ≡ false) (o : new ≡ old). stays o) is
+  of_binding : (o : Option Joining) → IsGoing old.phase → IsOfBinding o here old bytes now new → ComesOf
+  of_binding None going h = stays h
+  of_binding (Some j) going h =
+      by_test (is_answer j.number bytes)
+      (λ (_ : is_answer j.number bytes ≡ true) (o : IsAnswerHeard here j old bytes now new).
+      let own : (algorithm : IntegrityAlgorithm) → o.verdict ≡ Ok (Validated algorithm) → IsAcceptedBy old bytes =
+      λ algorithm same. record { going = going; algorithm = algorithm; signer = o.auth; valid = subst (λ (v : Verdict). IsJudged old.auth bytes v o.auth) same o.is_judged } in
+      judges (IsAcceptedBy old bytes) here bytes now new o.verdict own j (judged o.auth old) o.outcome)
+      (λ (_ : is_answer j.number bytes ≡ false) (o : new ≡ broken_off here j.peer old). broken (IsAcceptedBy old bytes) here bytes now new j.peer old o) h
+
+  pub heard_at_comes : IsHeardAt here old bytes now new → ComesOf
+  heard_at_comes is =
+      by_test (is_of_binding old bytes)
+      (λ (passes : is_of_binding old bytes ≡ true) (o : IsOfBinding (awaited_at here old.allocations) here old bytes now new).
+      let stands = authenticated old.phase (both_so (is_authenticated old.phase) (method_of (kind_at bytes) == connection_bind_method) passes).0 in
+      of_binding (awaited_at here old.allocations) (going_at old.phase Authenticated stands (λ kept. refl)) o)
+      (λ (_ : is_of_binding old bytes ≡ false) (o : new ≡ old). stays o) is
 
 -- ---- where it is not awaited
 
-pub none_more : (bytes : List ℕ) (old new : Protocol) → is_awaited old.agent bytes ≡ false → Comes bytes old.allocations old.agent old.rng new → NoMore old.allocations new.allocations
+pub none_more : {Signed : Type 0} (bytes : List ℕ) (old new : Protocol) → is_awaited old.agent bytes ≡ false → Comes Signed bytes old.allocations old.agent old.rng new → NoMore old.allocations new.allocations
 none_more bytes old new isnt (inl more) = more
 none_more bytes old new isnt (inr taken) = absurd (Prim.cc (sym taken.0 ∙ isnt))

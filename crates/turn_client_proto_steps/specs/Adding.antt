@@ -2,38 +2,37 @@
 -- and 12.3; RFC 6062, section 4.3).
 use Rattle.std.specs.Prelude.{◌≡◌, ◌≢◌, ◌⊎◌, ℕ, List, Some, None}
 use Rattle.stun_types.specs.Attributes.{Attr}
-use Rattle.stun_types.specs.Credentials.{NameAndPassword}
 use Rattle.stun_types.specs.Grammar.{shown}
 use Rattle.stun_types.specs.Integrity.{algorithm_of}
-use Rattle.stun_types.specs.IntegrityAlgorithms.{IntegrityAlgorithm}
 use Rattle.stun_types.specs.MessageClasses.{Success}
+use Rattle.stun_proto.specs.Client.{Challenge}
 use Rattle.turn_client_proto_data.specs.Members.{IsIn}
 use Rattle.turn_client_proto_data.specs.Messages.{Asks, Brings, Held, Holds, Message}
-use Rattle.turn_client_proto_data.specs.Steps.{IsOwnKey, WasKnown}
-use Rattle.turn_client_proto_data.specs.StunWire.{AreValid, stun_wire}
+use Rattle.turn_client_proto_data.specs.Steps.{WasKnown}
+use Rattle.turn_client_proto_data.specs.StunWire.{AreValid, key_in, stun_wire}
 use Rattle.turn_client_proto_data.specs.Core.declared.protocol.Protocol.{Protocol}
-use Rattle.turn_client_proto_steps.specs.ClientWords.{IsKept, IsOutstanding, client_words}
+use Rattle.turn_client_proto_steps.specs.ClientWords.{IsKept, IsOutstanding, challenge_of, client_words}
 use Rattle.turn_client_proto_steps.specs.RunClient.{Client}
 
--- bytes validate under a key of an account: one of its name and password, in some realm
-pub record IsSignedFor (account : NameAndPassword) (bytes : List ℕ) : Type 0 where
-  pub key : List ℕ
-  pub own : IsOwnKey stun_wire account key
-  pub algorithm : IntegrityAlgorithm
+-- bytes validate under the key of a client: that of its name and password, in the realm of the challenge that it keeps,
+-- by the algorithm that it chose for that challenge, for which the key is
+pub record IsSignedFor (c : Client) (bytes : List ℕ) : Type 0 where
+  pub challenge : Challenge
+  pub kept : challenge_of c.core ≡ Some challenge
   pub text : List ℕ
-  pub valid : AreValid bytes key algorithm text
+  pub valid : AreValid bytes (key_in c.credentials challenge.realm challenge.choice) challenge.choice text
 
 -- no attribute that the bytes show is a MESSAGE-INTEGRITY, a MESSAGE-INTEGRITY-SHA256 or a MESSAGE-INTEGRITY-SHA512
 abbrev pub ShowNoIntegrity : List ℕ → Type 0
 ShowNoIntegrity bytes = (a : Attr) → IsIn a (shown bytes) → algorithm_of a.kind ≡ None
 
--- the bytes are the success response that brings this to a client: they validate under a key of its own, and a request
+-- the bytes are the success response that brings this to a client: they validate under its key, and a request
 -- of their number was outstanding, which asked for this very thing. Afterwards none of that number is. The number and
 -- the peer of a connection were known before
 pub record IsAnsweredBy (c : Client) (bytes : List ℕ) (new : Protocol) (held : Held) : Type 0 where
   pub response : Message
   pub shows : stun_wire.shown bytes ≡ Some response
-  pub signed : IsSignedFor c.credentials bytes
+  pub signed : IsSignedFor c bytes
   pub success : response.class ≡ Success
   pub brings : Brings response (Holds held)
   pub request : Message

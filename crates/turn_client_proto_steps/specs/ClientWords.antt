@@ -3,9 +3,12 @@
 use Rattle.std.specs.Prelude.{◌≡◌, ℕ, true, false, List, Option, Some, None}
 use Rattle.std.specs.FinMap as map
 use Rattle.std.specs.List.{filter_map}
+use Rattle.std.specs.Option.{option_map}
 use Rattle.std.specs.declared.net.socket_addr.SocketAddr.{SocketAddr}
 use Rattle.stun_types.specs.Grammar.{number_at}
+use Rattle.stun_types.specs.IntegrityAlgorithms.{IntegrityAlgorithm}
 use Rattle.stun_proto.specs.Agents.{Transaction}
+use Rattle.stun_proto.specs.Client.{Challenge}
 use Rattle.stun_proto.specs.State.{Agent}
 use Rattle.turn_client_proto_data.specs.Members.{IsIn}
 use Rattle.turn_client_proto_data.specs.Messages as run
@@ -16,7 +19,30 @@ use Rattle.turn_client_proto_data.specs.Api.declared.event.TurnEvent.{TurnEvent}
 use Rattle.turn_client_proto_data.specs.Api.declared.event.TurnEvent.TheVariants.{AllocationCreated, AllocationCreateFailed, PermissionCreated, PermissionCreateFailed, ChannelCreated, ChannelCreateFailed, TcpConnected, TcpConnectFailed}
 use Rattle.turn_client_proto_data.specs.Core.Authenticating.{numbers_sent}
 use Rattle.turn_client_proto_data.specs.Core.Waiting.{Queued}
+use Rattle.turn_client_proto_data.specs.Core.declared.protocol.Phase.{Phase}
+use Rattle.turn_client_proto_data.specs.Core.declared.protocol.Phase.TheVariants.{Initial, InitialSent, Authenticating, Authenticated, Ended}
+use Rattle.turn_client_proto_data.specs.Core.declared.protocol.Protocol.{Protocol}
 use Rattle.turn_client_proto_steps.specs.RunClient.{Client, Parts, numbers_between, parts_of}
+
+-- ---- the challenge
+
+-- the challenge under which a client signs and validates: the one that it keeps. A client that has ended takes up no
+-- message and signs none, so that it has none
+abbrev pub challenge_in : Phase → Option Challenge → Option Challenge
+challenge_in Initial kept = kept
+challenge_in (InitialSent numbers) kept = kept
+challenge_in (Authenticating numbers) kept = kept
+challenge_in Authenticated kept = kept
+challenge_in Ended kept = None
+
+abbrev pub challenge_of : Protocol → Option Challenge
+challenge_of p = challenge_in p.phase p.auth.challenge
+
+abbrev pub realm_in : Option Challenge → Option (List ℕ)
+realm_in challenge = option_map (λ (c : Challenge). c.realm) challenge
+
+abbrev pub choice_in : Option Challenge → Option IntegrityAlgorithm
+choice_in challenge = option_map (λ (c : Challenge). c.choice) challenge
 
 -- ---- requests
 
@@ -111,6 +137,8 @@ notice_of (TcpConnectFailed peer) = None
 abbrev pub client_words : ClientWords stun_wire Client
 client_words = record {
   account = λ c. c.credentials;
+  realm = λ c. realm_in (challenge_of c.core);
+  algorithm = λ c. choice_in (challenge_of c.core);
   seed = λ c. c.seed;
   count = λ c. c.drawn;
   given = λ before after. numbers_between before.core.rng after.core.rng;

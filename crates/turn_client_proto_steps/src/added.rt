@@ -6,25 +6,27 @@
 ghost use Rattle.std.specs.Prelude.{◌≡◌, ℕ, List, [], Bool, false, None};
 ghost use Rattle.std.specs.declared.net.socket_addr.SocketAddr.{SocketAddr};
 ghost use Rattle.stun_proto.specs.Handling.{is_awaited};
-ghost use Rattle.stun_types.specs.Credentials.{NameAndPassword};
 ghost use Rattle.stun_types.specs.Grammar.{refusal};
 ghost use Rattle.stun_types.specs.Headers.{AreBytes};
+ghost use Rattle.stun_types.specs.IntegrityAlgorithms.{IntegrityAlgorithm};
 ghost use Rattle.turn_client_proto_data.specs.Core.Receiving.{IsHeard};
 ghost use Rattle.turn_client_proto_data.specs.Core.declared.protocol.Protocol.{Protocol};
 ghost use Rattle.turn_client_proto_data.specs.Hearing.{IsHeardAt};
 ghost use Rattle.turn_client_proto_data.specs.Steps.{Call, ClientStep};
+ghost use Rattle.turn_client_proto_data.specs.StunWire.{AreValid};
 ghost use Rattle.turn_client_proto_steps.specs.Adding.{AddsAnswered, AddsNothing, IsSignedFor, ShowNoIntegrity};
 ghost use Rattle.turn_client_proto_steps.specs.ClientWords.{client_words};
 ghost use Rattle.turn_client_proto_steps.specs.RunClient.{Client};
 ghost use Rattle.turn_client_proto_steps.specs.Sound.{IsSound};
 
 /// What a message adds is what it brings as the success response to a request of the client's own. It
-/// validates under a key of the client's (RFC 8489, section 9.2.5); the request of its number was
-/// outstanding, is so no more, and asked for that very thing: an allocation over that transport, a
-/// permission for that address, a channel of that number to that peer, or that a connection of that
-/// number be bound (RFC 8656, sections 7.3, 10.3 and 12.3; RFC 6062, section 4.3). It is so of a message
-/// of the control connection (`heard`), and of one that came over the socket of a connection
-/// (`heard_at`).
+/// validates under the client's key: that of its name and password, in the realm of the challenge that it
+/// keeps, by the algorithm that it chose for that challenge (RFC 8489, sections 9.2.2 and 9.2.5). The
+/// request of its number was outstanding, is so no more, and asked for that very thing: an allocation over
+/// that transport, a permission for that address, a channel of that number to that peer, or that a
+/// connection of that number be bound (RFC 8656, sections 7.3, 10.3 and 12.3; RFC 6062, section 4.3). It is
+/// so of a message of the control connection (`heard`), and of one that came over the socket of a
+/// connection (`heard_at`).
 pub fn answers_alone_add()
     ensures heard { (c : Client) (bytes : List ℕ) (now : ℕ) (handled : Bool) (new : Protocol)
         → IsSound c
@@ -40,28 +42,31 @@ pub fn answers_alone_add()
         → AddsAnswered c bytes new }
 {}
 
-/// A message that is not signed, or is signed wrongly, adds nothing: where it validates under no key of
-/// the client's own name and password, in whichever realm and by whichever algorithm, all that is kept
-/// afterwards was kept before (RFC 8489, section 9.2.5). One that shows no MESSAGE-INTEGRITY, no
-/// MESSAGE-INTEGRITY-SHA256 and no MESSAGE-INTEGRITY-SHA512 validates under none (`unsigned`).
+/// A message that is not signed, or is signed wrongly, adds nothing: where it does not validate under the
+/// client's one key, all that is kept afterwards was kept before (RFC 8489, section 9.2.5). That key is of
+/// the client's name and password, in the realm of the challenge that it keeps, and counts by the algorithm
+/// that it chose for that challenge alone. So a message that is right under a key of another realm, or by
+/// another algorithm, adds nothing either. A client that keeps no challenge or has ended has no key. A
+/// message that shows no MESSAGE-INTEGRITY, no MESSAGE-INTEGRITY-SHA256 and no MESSAGE-INTEGRITY-SHA512
+/// validates under no key at all (`unsigned`).
 pub fn unsigned_adds_nothing()
     ensures heard { (c : Client) (bytes : List ℕ) (now : ℕ) (handled : Bool) (new : Protocol)
         → IsSound c
         → AreBytes bytes
         → refusal bytes ≡ None
-        → (IsSignedFor c.credentials bytes → ⊥)
+        → (IsSignedFor c bytes → ⊥)
         → IsHeard c.core bytes now handled new
         → AddsNothing c.core new }
     ensures heard_at { (c : Client) (here : SocketAddr) (bytes : List ℕ) (now : ℕ) (new : Protocol)
         → IsSound c
         → AreBytes bytes
         → refusal bytes ≡ None
-        → (IsSignedFor c.credentials bytes → ⊥)
+        → (IsSignedFor c bytes → ⊥)
         → IsHeardAt here c.core bytes now new
         → AddsNothing c.core new }
-    ensures unsigned { (account : NameAndPassword) (bytes : List ℕ)
+    ensures unsigned { (bytes key text : List ℕ) (algorithm : IntegrityAlgorithm)
         → ShowNoIntegrity bytes
-        → IsSignedFor account bytes
+        → AreValid bytes key algorithm text
         → ⊥ }
 {}
 

@@ -100,6 +100,15 @@ pub fn new_clients_are_new<D: Desk>()
         → IsNewInRun (run_words D.words) (first_client config.credentials seed core) }
 {}
 
+/// A new client keeps no realm: it has no key yet (RFC 8489, section 9.2.5). So in a run of a new client no
+/// key counts but in realms that the steps of the run name.
+pub fn new_clients_keep_no_realm()
+    ensures { (transport : TransportType) (here server : SocketAddr) (config : Config)
+        (seed : List ℕ) (core : Protocol)
+        → IsNew transport here server config seed core
+        → client_words.realm (first_client config.credentials seed core) ≡ None }
+{}
+
 /// The relayed addresses that a client shows are held, in the words of a run: each is that of an
 /// allocation which is not marked as expired. A getter changes nothing, and is no step.
 pub fn shown_addresses_are_held()
@@ -287,12 +296,17 @@ pub fn first_numbers_are_of_the_seed()
 {}
 
 /// A message that came is a step. What the client then holds in addition was brought by that
-/// message: it validates under a key of the client's, answers an ALLOCATE that was outstanding, or a
+/// message: it validates under the client's key, answers an ALLOCATE that was outstanding, or a
 /// CREATE_PERMISSION for that very address, or a CHANNEL_BIND of that very number to that very peer,
 /// and that is outstanding no more (RFC 8656, sections 7.3, 10.3 and 12.3). The number of a connection to a
 /// peer that it then knows was brought so, too, by the answer to a CONNECT to that very peer (RFC 6062,
-/// section 4.3), or by a CONNECTION_ATTEMPT, which validates under a key of the client's, too (section
-/// 4.4). A challenge may make a request (RFC 8489, section 9.2.5).
+/// section 4.3), or by a CONNECTION_ATTEMPT, which validates under the client's key, too (section 4.4). A
+/// challenge may make a request, and may tell the client another realm (RFC 8489, section 9.2.5). A call
+/// that takes up no message leaves the realm as it was; a client that has ended keeps none.
+///
+/// The client has one key at a time: that of its name and password, in the realm of the challenge that it
+/// keeps, for the algorithm that it chose for that challenge. A message by which it gains something validates
+/// under that key, by that algorithm (RFC 8489, sections 9.2.2 and 9.2.5).
 pub fn messages_are_steps()
     ensures { (c : Client) (bytes : List ℕ) (now : ℕ) (handled : Bool) (new : Protocol)
         → IsSound c

@@ -17,10 +17,11 @@ ghost use Rattle.turn_client_proto_steps.specs.RunSteps.{IsPassingOn, IsReceivin
 ghost use Rattle.turn_client_proto_steps.specs.Sound.{IsSound};
 
 /// A message that came over the socket of a connection is a step. Where the connection is then held in
-/// addition, it was brought by that message, which validates under a key of the client's and is the
-/// success response to a CONNECTION_BIND of its number: that was outstanding and is no more. Its number
-/// and its peer were known. A challenge may make a request (RFC 6062, section 4.3; RFC 8489, section
-/// 9.2.5); and the connection may go.
+/// addition, it was brought by that message, which is the success response to a CONNECTION_BIND of its
+/// number: that was outstanding and is no more. The message validates under the client's key, by the
+/// algorithm that the client chose for the challenge that it keeps. The connection's number and its peer were
+/// known. A challenge may make a request (RFC 6062, section 4.3; RFC 8489, section 9.2.5); and the connection
+/// may go.
 pub fn answers_are_steps()
     ensures { (c : Client) (here : SocketAddr) (bytes : List ℕ) (now : ℕ) (new : Protocol)
         → IsSound c

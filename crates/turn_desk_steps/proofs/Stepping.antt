@@ -7,7 +7,7 @@ use Rattle.std.specs.List.{find}
 use Rattle.std.specs.declared.net.socket_addr.SocketAddr.{SocketAddr}
 use Rattle.stun_types.specs.Adding.{has_kind}
 use Rattle.stun_types.specs.Attributes.{Attr, kind_at}
-use Rattle.stun_types.specs.Credentials.{Key}
+use Rattle.stun_types.specs.Credentials.{Key, NameAndPassword}
 use Rattle.stun_types.specs.Grammar.{number_at, refusal, shown}
 use Rattle.stun_types.specs.Integrity.{Validates}
 use Rattle.stun_types.specs.IntegrityAlgorithms.{IntegrityAlgorithm}
@@ -35,7 +35,7 @@ use Rattle.turn_runs_stun.specs.Members.{IsIn}
 use Rattle.turn_runs_stun.specs.Messages.{Grant, IsResponse, Message}
 use Rattle.turn_runs_stun.specs.Steps.{DeskStep, Grants}
 use Rattle.turn_runs_stun.proofs.Tools.{in_left}
-use Rattle.turn_runs_stun.specs.StunWire.{AreValid, Cover, stun_wire, told_by}
+use Rattle.turn_runs_stun.specs.StunWire.{AreValid, Cover, key_in, stun_wire, told_by}
 use Rattle.turn_desk_steps.specs.DeskRun.{DeskCall, IsHandled, IsReplied, desk_words, told_grant}
 use Rattle.turn_desk_steps.proofs.Granting.{is_for}
 use Rattle.turn_desk_steps.proofs.Signing.{only_text, reply_plain}
@@ -110,6 +110,14 @@ taken_user d reply key algorithm v kept =
     }
 
 -- ---- validation
+
+-- what the desk validates with is a user's key in its realm
+keyed_by : (d : DeskCall) (reply key : List ℕ) (algorithm : IntegrityAlgorithm) → IsAnswer d.before d.source d.bytes d.now d.stream d.decision reply d.after
+    → key_at d.after.auth d.source ≡ Some (record { bytes = key; algorithm = algorithm }) → (account : NameAndPassword) × (key ≡ key_in account d.before.auth.realm algorithm)
+keyed_by d reply key algorithm (inl away) kept = absurd (turned_no_key d reply key algorithm away kept)
+keyed_by d reply key algorithm (inr v) kept =
+    let own = taken_user d reply key algorithm v kept in
+    (record { username = v.name; password = v.password }, own.same_key ∙ ap (λ (a : IntegrityAlgorithm). user_key d.before.auth.realm v.name v.password a) (sym own.same_algorithm))
 
 record IsValid (d : DeskCall) (key : List ℕ) (algorithm : IntegrityAlgorithm) : Type 0 where
   text : List ℕ
@@ -189,8 +197,11 @@ desk_run d h = record {
       let r = replied d h accepted.reply accepted.replied in
       let valid = valid_by d h accepted.reply key algorithm r.answer accepted.kept in
       (valid.text, valid.valid);
-  signs = λ key text reply a b accepted is cover.
+  keyed = λ key algorithm accepted.
+      let r = replied d h accepted.reply accepted.replied in
+      keyed_by d accepted.reply key algorithm r.answer accepted.kept;
+  signs = λ key text reply a accepted is cover.
       let r = replied d h reply is in
-      signed_by d reply key text a b r r.answer accepted.kept cover;
+      signed_by d reply key text a a r r.answer accepted.kept cover;
   keeps = λ g is. keeps_by d d.reply h.outcome g is;
 }

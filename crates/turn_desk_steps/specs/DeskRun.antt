@@ -86,6 +86,7 @@ abbrev pub desk_words : DeskWords DeskCall
 desk_words = record {
   request = λ d. d.bytes;
   source = λ d. d.source;
+  realm = λ d. d.before.auth.realm;
   reply = λ d. d.reply;
   ValidatedWith = IsAccepted;
   recorded = λ d. map told_grant d.before.grants;

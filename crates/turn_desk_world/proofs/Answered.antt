@@ -244,7 +244,7 @@ module _ (event : Event) (ret : Answer) (first last : Client) (run : List (Step 
         taken = subst (λ (l : List (Step Client DeskCall)). IsIn n.frame (last_taken l)) (sym n.run_is) (subst (λ (l : List (List ℕ)). IsIn n.frame l) (sym n.handled_is) (inl refl));
         carries = of_frame p (as_came (lawful.0.delivers p handed));
         granted = λ forged distinct.
-            let safe : AtEach (IsSafe words first last) (AtClient n.call ∷ n.earlier) = subst (λ (l : List (Step Client DeskCall)). AtEach (IsSafe words first last) l) n.run_is (is.promised.safe forged distinct) in
+            let safe : AtEach (IsSafe words first last run) (AtClient n.call ∷ n.earlier) = subst (λ (l : List (Step Client DeskCall)). AtEach (IsSafe words first last run) l) n.run_is (is.promised.safe forged distinct) in
             let named = (safe.0.names p handed).1 in
             subst (λ (l : List (Step Client DeskCall)). Traced words l (held n.frame)) (sym n.run_is) (subst (λ (g : Held). Traced words (AtClient n.call ∷ n.earlier) g) (one named.0 named.1) named.3);
       }
@@ -286,7 +286,7 @@ module _ (Of : Joined → PeerPayload → Type 0) (event : Event) (ret : Answer)
   raw_passed = record {
     transport_is = n.transport_is;
     granted = λ forged distinct.
-        let safe : AtEach (IsSafe words first last) (AtClient n.call ∷ n.earlier) = subst (λ (l : List (Step Client DeskCall)). AtEach (IsSafe words first last) l) n.run_is (is.promised.safe forged distinct) in
+        let safe : AtEach (IsSafe words first last run) (AtClient n.call ∷ n.earlier) = subst (λ (l : List (Step Client DeskCall)). AtEach (IsSafe words first last run) l) n.run_is (is.promised.safe forged distinct) in
         let handed : IsIn passed n.call.payloads = subst (λ (l : List Payload). IsIn passed l) (sym n.payloads_are) (inl refl) in
         let named = (safe.0.names passed handed).1 in
         raw_named named.0 named.1 named.3;

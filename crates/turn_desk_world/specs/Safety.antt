@@ -43,12 +43,12 @@ pub record BeginsNew (transport : TransportType) (here server : SocketAddr) (con
   pub few : length config.families ≤ 2
 
 -- what the answers to some events come to: each is a step of a run by the contracts, and they lead the client from one
--- state to another; and where nothing that arrives was forged under a key of the client's, and no number is drawn twice,
--- each step is safe: so each payload is as it was delivered in that step, and names a peer whose permission, channel or
--- connection the client keeps and the desk granted before; nothing is answered as created twice for one request; and each
--- relayed address, each permission, each channel and each bound connection that is shown was granted before, a channel or a
--- connection with that number and to that peer. Bytes of a connection's peer are no message, and so are as nothing that was
--- delivered
+-- state to another; and where nothing that arrives was forged under a key of the client's in a realm that the run names,
+-- and no number is drawn twice, each step is safe in that run: so each payload is as it was delivered in that step, and
+-- names a peer whose permission, channel or connection the client keeps and the desk granted before; nothing is answered as
+-- created twice for one request; and each relayed address, each permission, each channel and each bound connection that is
+-- shown was granted before, a channel or a connection with that number and to that peer. Bytes of a connection's peer are
+-- no message, and so are as nothing that was delivered
 pub record AreSafe (first : Client) (old : World) (pairs : List (Event × Answer)) (new : World) : Type 0 where
   pub run : List (Step Client DeskCall)
   pub told : IsToldBy old pairs run new
@@ -60,7 +60,7 @@ pub record AreSafe (first : Client) (old : World) (pairs : List (Event × Answer
   pub counted : IsCounted words first run last
   -- it stands where the generator of its seed stands behind so many numbers
   pub sound : IsSound last
-  pub safe : Unless words first run last (AtEach (IsSafe words first last) run)
+  pub safe : Unless words first run last (AtEach (IsSafe words first last run) run)
   pub once : Unless words first run last (AnswersOnce words run)
   pub shown : Unless words first run last (AtEach (ShowsTraced words) run)
 

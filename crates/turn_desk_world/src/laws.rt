@@ -100,7 +100,8 @@ pub fn new_clients_begin_new()
 /// whole frames that it completes come, and one for each frame that is taken up. A piece of what comes
 /// over the socket of a connection that is to be bound is one step for each message that is taken up, and
 /// two in which what is kept of it is taken out and put back (RFC 6062, section 4.3). Where nothing that
-/// arrives was forged under a key of the client's, and no number is drawn twice, each step is safe.
+/// arrives was forged under a key of the client's in a realm that the run names, and no number is drawn
+/// twice, each step is safe ([`crate::world::World::run`] says what that presumes).
 /// Nothing is answered as created twice for one request, and each relayed address, each permission, each
 /// channel and each bound connection that the client shows was granted by the desk before: a channel with
 /// that number and to that peer, in answer to a CHANNEL_BIND that the client drew; a connection with that

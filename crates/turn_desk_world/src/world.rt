@@ -74,6 +74,22 @@ impl World {
     /// Lets the events happen in order, and answers each. Where a call of the client or of the desk is
     /// refused memory, `NoMemory`; so is every later run. A client event with no client, or at a moment
     /// past `CLIENT_END`, is answered `OutOfRange`.
+    ///
+    /// # What `safe` presumes
+    ///
+    /// - The client was new when the run began. The relayed addresses that the driver decides, and the peers
+    ///   for which it asks the client for channels and connections, have no flow information and no scope.
+    /// - No transaction ID comes twice among those that the client drew in the run (`AreDistinct`).
+    /// - Nothing was forged (`NoForgery`). A message that validates under a key that counts, by the algorithm
+    ///   which that key is for, was signed earlier in the run, by the client or by the desk. This is presumed
+    ///   of a message with one of the client's own transaction IDs, at the client and at the desk; and at the
+    ///   client of a CONNECTION_ATTEMPT request, which has an ID of its server's.
+    ///
+    /// A key counts that is of the client's name and password, in a realm that the run names: the desk's
+    /// own, or one that is named by a challenge which arrives at the client, forged or not. So three keys
+    /// count for each realm, one for each algorithm; and none in a realm that the run does not name.
+    ///
+    /// That a connection ends with its socket needs only the first of the three.
     pub fn run(&mut self, events: &[Event]) -> Result<Vec<Answer>, NoMemory>
         ensures each { IfOk result (λ answers. length answers.items ≡ length events.now) }
         ensures run { IfOk result (λ answers.
@@ -82,11 +98,11 @@ impl World {
         // to those events none is answered otherwise.
         ensures sides { IfOk result (λ answers.
             IsRunOfEach self.old (zip events.now answers.items) self.new) }
-        // Where the client was new and nothing was forged, all that it holds was granted in answer to
-        // that very request, and nothing is told as created twice for one. So it is of each address,
-        // each permission, each channel and each bound connection that it shows: a channel or a
-        // connection with that number and to that peer. Data that it gives names what it holds, or
-        // comes over the socket of a connection that it holds. Behind the close of a socket no
+        // Where the client was new, nothing was forged and no transaction ID came twice, all that it holds
+        // was granted in answer to that very request, and nothing is told as created twice for one. So it
+        // is of each address, each permission, each channel and each bound connection that it shows: a
+        // channel or a connection with that number and to that peer. Data that it gives names what it
+        // holds, or comes over the socket of a connection that it holds. Behind the close of a socket no
         // connection of its own address is held but one that was bound since.
         ensures safe { IfOk result (λ answers.
             IsSafeRun self.old (zip events.now answers.items) self.new) }

@@ -6,7 +6,7 @@ use Rattle.turn_runs.specs.Names.{SocketAddr, IntegrityAlgorithm, Request, Indic
 use Rattle.turn_types.specs.TurnRegistry.{connection_attempt_method}
 use Rattle.turn_runs.specs.Words.{Words, WireLaws}
 use Rattle.turn_runs.specs.Steps.{Call, Told, told_for, IsOwnKey, Arrives, IsAnswered, IsTried, WasKnown, ClientStep, Grants, DeskStep}
-use Rattle.turn_runs.specs.Runs.{Step, AtClient, AtDesk, AtSome, AtEach, IsLawful, IsSignedByClient, IsSignedByDesk, IsSigned, WasSigned, HasNumber, AreDistinct, IsAuthentic, NoForgery}
+use Rattle.turn_runs.specs.Runs.{Step, AtClient, AtDesk, AtSome, AtEach, IsLawful, IsSignedByClient, IsSignedByDesk, IsSigned, WasSigned, HasNumber, AreDistinct, IsAuthentic, IsForClient, IsKeyOf, IsRealmOf, NamesRealm}
 use Rattle.turn_runs.specs.Headline.{DrawsSame, IsGrantedAt, TracedBy, IsConnected, TracedWith, Traced, AnswersGranted}
 use Rattle.turn_runs.proofs.Tools.{in_either, in_left, in_right, none_twice, none_parts, map_joined, Parts, in_parts, both_at, some_weaker, each_weaker, from_some}
 use Rattle.turn_runs.proofs.Grants.{granted_is, brings_by, brings_response, response_no_request, response_no_indication, request_no_indication}
@@ -19,7 +19,8 @@ module _ {C D : Type 0} (W : Words C D) where
       IsIn m all ⊎ (m.class ≡ Indication)
   DrewWell all (AtDesk d) = Unit {0}
 
-  pub record Kept (first : C) (run : List (Step C D)) (c : C) : Type 0 where
+  -- what is known of a client behind the run so far, which is the old part of the whole run
+  pub record Kept (first : C) (count : ℕ) (whole run : List (Step C D)) (c : C) : Type 0 where
     pub account : W.client.account c ≡ W.client.account first
     pub seed : W.client.seed c ≡ W.client.seed first
     -- the requests that the client has made
@@ -34,9 +35,12 @@ module _ {C D : Type 0} (W : Words C D) where
     pub drew : AtEach (λ s _. DrewWell all s) run
     pub kept : (h : Held) → W.client.IsKept c h → Traced W run h
     pub waits : (number : ℕ) (peer : SocketAddr) → W.client.Waits c number peer → (n : ℕ) × TracedBy W run n (Knows number peer)
-    -- what waits in buffers and validates was signed
-    pub buffered : (bytes key text : List ℕ) (a : IntegrityAlgorithm) → W.client.IsBuffered c bytes → IsOwnKey W.wire (W.client.account first) key →
-        W.wire.Validates bytes key a text → WasSigned W key a text run
+    -- the realm that is kept counts, and so does one that a challenge names which waits in buffers
+    pub realm : (r : List ℕ) → W.client.realm c ≡ Some r → IsRealmOf W first whole r
+    pub buffered_realm : (bytes r : List ℕ) → W.client.IsBuffered c bytes → W.wire.told_realm bytes ≡ Some r → IsRealmOf W first whole r
+    -- what waits in buffers, validates and is for the client was signed
+    pub buffered : (bytes key text : List ℕ) (a : IntegrityAlgorithm) (m : Message) → W.client.IsBuffered c bytes → IsKeyOf W first whole a key →
+        W.wire.Validates bytes key a text → W.wire.shown bytes ≡ Some m → IsForClient W first count m → WasSigned W key a text run
     -- what waits to be told as created, and what was told, with the numbers of the requests that were answered
     pub pending : List Told
     pub pending_is : map (λ t. t.notice) pending ≡ W.client.created c
@@ -94,50 +98,50 @@ module _ {C D : Type 0} (W : Words C D) where
     ]
     by_client all bytes key text a m valid shows is (AtDesk d) drew lawful signed = elim signed [
       | inl c ↦ absurd c
-      | inr r ↦ absurd (response_no_request m.class (lawful.responds r.0 m r.1 (shows_so r.0 bytes key text a m (lawful.signs key text r.0 a r.3.0 r.3.1 r.1 r.2) valid shows)) is)
+      | inr r ↦ absurd (response_no_request m.class (lawful.responds r.0 m r.1 (shows_so r.0 bytes key text a m (lawful.signs key text r.0 a r.3 r.1 r.2) valid shows)) is)
     ]
 
     -- ---- grants
 
     -- what is known of each past step
-    abbrev pub IsPast : C → (count : ℕ) → List Message → Step C D → List (Step C D) → Type 0
-    IsPast first count all s earlier = IsAuthentic W first count s earlier × DrewWell all s × IsLawful W s
+    abbrev pub IsPast : C → (count : ℕ) → (whole : List (Step C D)) → List Message → Step C D → List (Step C D) → Type 0
+    IsPast first count whole all s earlier = IsAuthentic W first count whole s earlier × DrewWell all s × IsLawful W s
 
-    pub past_of : (first : C) (count : ℕ) (all : List Message) (run : List (Step C D)) → NoForgery W first count run → AtEach (λ s _. DrewWell all s) run → AtEach (λ s _. IsLawful W s) run → AtEach (IsPast first count all) run
-    past_of first count all [] n d l = tt
-    past_of first count all (s ∷ earlier) n d l = ((n.0, d.0, l.0), past_of first count all earlier n.1 d.1 l.1)
+    pub past_of : (first : C) (count : ℕ) (whole : List (Step C D)) (all : List Message) (run : List (Step C D)) → AtEach (IsAuthentic W first count whole) run → AtEach (λ s _. DrewWell all s) run → AtEach (λ s _. IsLawful W s) run → AtEach (IsPast first count whole all) run
+    past_of first count whole all [] n d l = tt
+    past_of first count whole all (s ∷ earlier) n d l = ((n.0, d.0, l.0), past_of first count whole all earlier n.1 d.1 l.1)
 
     -- a request that validated at the desk under a client's key was drawn by the client before
-    pub request_drawn : (first : C) (count : ℕ) (all : List Message) (d : D) (before : List (Step C D)) (key text : List ℕ) (a : IntegrityAlgorithm) (m : Message) →
-        IsAuthentic W first count (AtDesk d) before → AtEach (IsPast first count all) before →
-        IsOwnKey W.wire (W.client.account first) key → W.wire.Validates (W.desk.request d) key a text → W.wire.shown (W.desk.request d) ≡ Some m → m.class ≡ Request → HasNumber W (W.client.seed first) count m.number →
+    pub request_drawn : (first : C) (count : ℕ) (whole : List (Step C D)) (all : List Message) (d : D) (before : List (Step C D)) (key text : List ℕ) (a : IntegrityAlgorithm) (m : Message) →
+        IsAuthentic W first count whole (AtDesk d) before → AtEach (IsPast first count whole all) before →
+        IsKeyOf W first whole a key → W.wire.Validates (W.desk.request d) key a text → W.wire.shown (W.desk.request d) ≡ Some m → m.class ≡ Request → HasNumber W (W.client.seed first) count m.number →
         AtSome (λ one _. IsSignedByClient W key a text one × DrawsSame W (W.desk.request d) one × IsIn m all) before
-    request_drawn first count all d before key text a m authentic past own valid shows is number =
+    request_drawn first count whole all d before key text a m authentic past own valid shows is number =
         some_weaker _ (λ one _. IsSignedByClient W key a text one × DrawsSame W (W.desk.request d) one × IsIn m all)
         (λ one older h. by_client all (W.desk.request d) key text a m valid shows is one h.1.1 h.1.2 h.0)
-        before (both_at (IsPast first count all) (λ one _. IsSigned W key a text one) before past (authentic key text a m own valid shows number))
+        before (both_at (IsPast first count whole all) (λ one _. IsSigned W key a text one) before past (authentic key text a m own valid shows number))
 
-    module _ (first : C) (count : ℕ) (all : List Message)
+    module _ (first : C) (count : ℕ) (whole : List (Step C D)) (all : List Message)
         (requests : (m : Message) → IsIn m all → (m.class ≡ Request) × (m.method ≢ connection_attempt_method)) where
       -- the desk's success to a request with this number was a grant of what that request asks for
       granted_here : (bytes key text : List ℕ) (a : IntegrityAlgorithm) (response : Message) (gain : Gain) (number : ℕ) →
           W.wire.Validates bytes key a text → W.wire.shown bytes ≡ Some response → response.number ≡ number → Brings response gain →
-          IsOwnKey W.wire (W.client.account first) key → HasNumber W (W.client.seed first) count number →
+          IsKeyOf W first whole a key → HasNumber W (W.client.seed first) count number →
           ((m : Message) → IsIn m all → m.number ≡ number → Asks m gain) →
-          (s : Step C D) (before : List (Step C D)) → IsSignedByDesk W key a text s → IsPast first count all s before → AtEach (IsPast first count all) before →
+          (s : Step C D) (before : List (Step C D)) → IsSignedByDesk W key a text s → IsPast first count whole all s before → AtEach (IsPast first count whole all) before →
           IsGrantedAt W number gain s before × ((m : Message) × IsIn m all × (m.number ≡ number))
       granted_here bytes key text a response gain number valid shows is brings own has asks (AtClient call) before signed here past = absurd signed
       granted_here bytes key text a response gain number valid shows is brings own has asks (AtDesk d) before signed here past =
           let lawful : DeskStep W.wire W.desk d = here.2 in
-          let shows_reply = shows_so signed.0 bytes key text a response (lawful.signs key text signed.0 a signed.3.0 signed.3.1 signed.1 signed.2) valid shows in
+          let shows_reply = shows_so signed.0 bytes key text a response (lawful.signs key text signed.0 a signed.3 signed.1 signed.2) valid shows in
           let success : response.class ≡ Success = elim (brings_by response gain brings) [
             | inl e ↦ e
             | inr f ↦ (let none : None ≡ Some f.1.0 = sym (lawful.refuses signed.0 response signed.1 shows_reply f.0) ∙ f.1.1 in let never : ⊥ = cc in absurd never)
           ] in
           let grants : Grants W.wire W.desk d signed.0 response = lawful.grants signed.0 response signed.1 shows_reply success in
-          let v = lawful.validates key signed.3.0 signed.3.1 in
+          let v = lawful.validates key a signed.3 in
           let number_is : grants.request.number ≡ number = sym grants.for.number_answered ∙ is in
-          let drawn = request_drawn first count all d before key v.0 signed.3.0 grants.request here.0 past own v.1 grants.shows grants.class_is
+          let drawn = request_drawn first count whole all d before key v.0 a grants.request here.0 past own v.1 grants.shows grants.class_is
           (subst (HasNumber W (W.client.seed first) count) (sym number_is) has) in
           let known : IsIn grants.request all = from_some _ (IsIn grants.request all) (λ x y h. h.2) before drawn in (
             record {
@@ -176,10 +180,10 @@ module _ {C D : Type 0} (W : Words C D) where
     pub with_later : (s : Step C D) (earlier : List (Step C D)) (t : Told) → TracedWith W earlier t.number t.held → TracedWith W (s ∷ earlier) t.number t.held
     with_later s earlier t h = (inr h.0, connected_later s earlier t.held h.1)
 
-    module _ (first : C) (count : ℕ) (distinct : AreDistinct W (W.client.seed first) count) (earlier : List (Step C D)) (call : Call C)
-        (kept : Kept first earlier call.before) (step : ClientStep W.client call)
-        (lawful : AtEach (λ s _. IsLawful W s) earlier) (no_forgery : NoForgery W first count earlier)
-        (authentic : IsAuthentic W first count (AtClient call) earlier) (fits : W.client.count call.after ≤ count) where
+    module _ (first : C) (count : ℕ) (distinct : AreDistinct W (W.client.seed first) count) (whole earlier : List (Step C D)) (call : Call C)
+        (named : (r : List ℕ) → NamesRealm W r (AtClient call) → IsRealmOf W first whole r) (kept : Kept first count whole earlier call.before) (step : ClientStep W.client call)
+        (lawful : AtEach (λ s _. IsLawful W s) earlier) (no_forgery : AtEach (IsAuthentic W first count whole) earlier)
+        (authentic : IsAuthentic W first count whole (AtClient call) earlier) (fits : W.client.count call.after ≤ count) where
       begun_at : AreAt (W.wire.number (W.client.seed first)) (W.client.count call.before) (W.client.count call.after) step.begun
       begun_at = subst (λ (x : W.wire.Seed). AreAt (W.wire.number x) (W.client.count call.before) (W.client.count call.after) step.begun) kept.seed
           (no_number_taken W.client call.before count (W.client.count call.before)
@@ -208,28 +212,36 @@ module _ {C D : Type 0} (W : Words C D) where
           let k = begun_place m i in
           same_place (W.wire.number (W.client.seed first)) count distinct h.0 k.0 n m.number (omega (arith, h.1, k.1)) (omega (arith, k.2, fits)) h.2 k.3 (sym e)
 
-      own_key : (key : List ℕ) → IsOwnKey W.wire (W.client.account call.before) key → IsOwnKey W.wire (W.client.account first) key
-      own_key key own = subst (λ (x : W.wire.Account). IsOwnKey W.wire x key) kept.account own
+      -- the key of the realm that is kept counts
+      own_key : (a : IntegrityAlgorithm) (key : List ℕ) → IsOwnKey W.client call.before a key → IsKeyOf W first whole a key
+      own_key a key own = (own.0, kept.realm own.0 own.1, own.3 ∙ ap (λ (x : W.wire.Account). W.wire.key x own.0 a) kept.account)
 
-      past : AtEach (IsPast first count kept.all) earlier
-      past = past_of first count kept.all earlier no_forgery kept.drew lawful
-
-      -- what is taken up was signed before
-      pub handled_signed : (bytes key text : List ℕ) (a : IntegrityAlgorithm) → IsIn bytes call.handled → IsOwnKey W.wire (W.client.account first) key →
-          W.wire.Validates bytes key a text → WasSigned W key a text earlier
-      handled_signed bytes key text a i own valid = elim (step.handles bytes i) [
-        | inl came ↦ authentic bytes key text a came own valid
-        | inr b ↦ kept.buffered bytes key text a b own valid
+      -- a challenge that is taken up has arrived
+      handled_realm : (bytes r : List ℕ) → IsIn bytes call.handled → W.wire.told_realm bytes ≡ Some r → IsRealmOf W first whole r
+      handled_realm bytes r i told = elim (step.handles bytes i) [
+        | inl came ↦ named r (bytes, came, told)
+        | inr b ↦ kept.buffered_realm bytes r b told
       ]
 
-      was_signed : (bytes : List ℕ) (m : Message) (a : Arrives W.client call bytes m) → WasSigned W a.key a.algorithm a.text earlier
-      was_signed bytes m a = handled_signed bytes a.key a.text a.algorithm a.handled (own_key a.key a.own) a.valid
+      past : AtEach (IsPast first count whole kept.all) earlier
+      past = past_of first count whole kept.all earlier no_forgery kept.drew lawful
+
+      -- what is taken up and is for the client was signed before
+      pub handled_signed : (bytes key text : List ℕ) (a : IntegrityAlgorithm) (m : Message) → IsIn bytes call.handled → IsKeyOf W first whole a key →
+          W.wire.Validates bytes key a text → W.wire.shown bytes ≡ Some m → IsForClient W first count m → WasSigned W key a text earlier
+      handled_signed bytes key text a m i own valid shows for_it = elim (step.handles bytes i) [
+        | inl came ↦ authentic bytes key text a m came own valid shows for_it
+        | inr b ↦ kept.buffered bytes key text a m b own valid shows for_it
+      ]
+
+      was_signed : (bytes : List ℕ) (m : Message) (a : Arrives W.client call bytes m) → IsForClient W first count m → WasSigned W a.key a.algorithm a.text earlier
+      was_signed bytes m a for_it = handled_signed bytes a.key a.text a.algorithm m a.handled (own_key a.algorithm a.key a.own) a.valid a.shows for_it
 
       answer_here : (gain : Gain) (number : ℕ) → IsAnswered W.client call step.begun gain number →
           AtSome (λ s before. IsGrantedAt W number gain s before × ((m : Message) × IsIn m kept.all × (m.number ≡ number))) earlier
       answer_here gain number a =
           let r = a.arrives in
-          let own = own_key r.key r.own in
+          let own = own_key r.algorithm r.key r.own in
           let has : HasNumber W (W.client.seed first) (W.client.count call.after) number = subst (HasNumber W (W.client.seed first) (W.client.count call.after)) a.request_is (elim a.waited [
             | inl o ↦ more_numbers a.request.number (kept.numbered a.request (kept.outstanding a.request o))
             | inr b ↦ begun_number a.request b
@@ -239,11 +251,12 @@ module _ {C D : Type 0} (W : Words C D) where
             | inr b ↦ absurd (clash m.number a.request (kept.numbered m i) b (a.request_is ∙ sym e))
           ] in
           some_weaker _ (λ s before. IsGrantedAt W number gain s before × ((m : Message) × IsIn m kept.all × (m.number ≡ number)))
-          (λ s before h. granted_here first count kept.all kept.requests a.bytes r.key r.text r.algorithm a.response gain number
+          (λ s before h. granted_here first count whole kept.all kept.requests a.bytes r.key r.text r.algorithm a.response gain number
           r.valid r.shows a.number_is a.brings own (fitting number has) asks s before
           (by_desk kept.all kept.requests a.bytes r.key r.text r.algorithm a.response r.valid r.shows (brings_response a.response gain a.brings) s h.1.1 h.0)
           h.1 h.2)
-          earlier (both_at (IsPast first count kept.all) (λ s _. IsSigned W r.key r.algorithm r.text s) earlier past (was_signed a.bytes a.response r))
+          earlier (both_at (IsPast first count whole kept.all) (λ s _. IsSigned W r.key r.algorithm r.text s) earlier past
+          (was_signed a.bytes a.response r (inl (subst (HasNumber W (W.client.seed first) count) (sym a.number_is) (fitting number has)))))
 
       answer_traced : (gain : Gain) (number : ℕ) → IsAnswered W.client call step.begun gain number → TracedBy W earlier number gain
       answer_traced gain number a = some_weaker _ (IsGrantedAt W number gain) (λ s before h. h.0) earlier (answer_here gain number a)
@@ -256,11 +269,11 @@ module _ {C D : Type 0} (W : Words C D) where
       never_tried : IsTried W.client call → ⊥
       never_tried t =
           let r = t.arrives in
-          let signed = was_signed t.bytes t.attempt r in
+          let signed = was_signed t.bytes t.attempt r (inr (t.class_is, t.method_is)) in
           from_some _ ⊥
           (λ s before h. (let i = (by_client kept.all t.bytes r.key r.text r.algorithm t.attempt r.valid r.shows t.class_is s h.1.1 h.1.2 h.0).2 in
           (kept.requests t.attempt i).1 t.method_is))
-          earlier (both_at (IsPast first count kept.all) (λ s _. IsSigned W r.key r.algorithm r.text s) earlier past signed)
+          earlier (both_at (IsPast first count whole kept.all) (λ s _. IsSigned W r.key r.algorithm r.text s) earlier past signed)
 
       was_connected : (h : Held) → WasKnown W.client call.before h → IsConnected W earlier h
       was_connected (Allocation transport address) k = tt
@@ -364,7 +377,7 @@ module _ {C D : Type 0} (W : Words C D) where
         ]
       ]
 
-      pub keeps_call : Kept first (AtClient call ∷ earlier) call.after
+      pub keeps_call : Kept first count whole (AtClient call ∷ earlier) call.after
       keeps_call = record {
         account = step.account ∙ kept.account;
         seed = step.seed ∙ kept.seed;
@@ -415,9 +428,17 @@ module _ {C D : Type 0} (W : Words C D) where
             | inr t ↦ absurd (never_tried t)
           ]
         ];
-        buffered = λ bytes key text a b own valid. elim (step.buffers bytes b) [
-          | inl came ↦ inr (authentic bytes key text a came own valid)
-          | inr old ↦ inr (kept.buffered bytes key text a old own valid)
+        realm = λ r is. elim (step.realms r is) [
+          | inl was ↦ kept.realm r was
+          | inr told ↦ handled_realm told.0 r told.1 told.2
+        ];
+        buffered_realm = λ bytes r b told. elim (step.buffers bytes b) [
+          | inl came ↦ named r (bytes, came, told)
+          | inr old ↦ kept.buffered_realm bytes r old told
+        ];
+        buffered = λ bytes key text a m b own valid shows for_it. elim (step.buffers bytes b) [
+          | inl came ↦ inr (authentic bytes key text a m came own valid shows for_it)
+          | inr old ↦ inr (kept.buffered bytes key text a m old own valid shows for_it)
         ];
         pending = parts.back;
         pending_is = parts.back_is;

@@ -5,7 +5,7 @@ use Rattle.turn_runs.specs.Messages.{Message, Held, Connection, Gain, Holds, Kno
 use Rattle.turn_runs.specs.Names.{IntegrityAlgorithm, Request, Success}
 use Rattle.turn_runs.specs.Words.{Words}
 use Rattle.turn_runs.specs.Steps.{told_for, Told, Grants, IsDelivered}
-use Rattle.turn_runs.specs.Runs.{IsKeyOf, Step, AtClient, AtDesk, AreDistinct, AtEach, AtSome, HasNumber, IsSignedByClient, IsSignedByDesk, NoForgery}
+use Rattle.turn_runs.specs.Runs.{IsKeyOf, Step, AtClient, AtDesk, AreDistinct, AtEach, AtSome, HasNumber, IsRealmOf, IsSignedByClient, IsSignedByDesk, NoForgery}
 
 module _ {C D : Type 0} (W : Words C D) where
   -- at this step the client drew bytes that show the same as these
@@ -62,25 +62,33 @@ module _ {C D : Type 0} (W : Words C D) where
       × ((h : Held) × NamesHeld p h × W.client.IsKept call.after h × Traced (AtClient call ∷ earlier) h)
   NamesTraced (AtDesk d) earlier = Unit {0}
 
-  -- a response that the client takes up and that validates with a client's key was signed by the
-  -- desk
-  abbrev pub TakesDesks : (first : C) → Step C D → List (Step C D) → Type 0
-  TakesDesks first (AtClient call) earlier =
+  -- a response that the client takes up, that has one of its transaction IDs and that validates with a key of
+  -- the client's that counts in the whole run was signed by the desk. All that the client gains answers a
+  -- request of its own (`GrantsInAnswer`), so a response with another transaction ID brings it nothing
+  abbrev pub TakesDesks : (first last : C) → (whole : List (Step C D)) → Step C D → List (Step C D) → Type 0
+  TakesDesks first last whole (AtClient call) earlier =
       (bytes key text : List ℕ) (a : IntegrityAlgorithm) (m : Message) → IsIn bytes call.handled →
-      IsKeyOf W first key → W.wire.Validates bytes key a text → W.wire.shown bytes ≡ Some m →
-      IsResponse m.class → AtSome (λ one _. IsSignedByDesk W key a text one) earlier
-  TakesDesks first (AtDesk d) earlier = Unit {0}
+      IsKeyOf W first whole a key → W.wire.Validates bytes key a text → W.wire.shown bytes ≡ Some m →
+      IsResponse m.class → HasNumber W (W.client.seed first) (W.client.count last) m.number →
+      AtSome (λ one _. IsSignedByDesk W key a text one) earlier
+  TakesDesks first last whole (AtDesk d) earlier = Unit {0}
 
-  -- a request that the desk validates with a client's key, and that has one of the client's
-  -- numbers, was signed by the client
-  abbrev pub TakesClients : (first last : C) → Step C D → List (Step C D) → Type 0
-  TakesClients first last (AtClient call) earlier = Unit {0}
-  TakesClients first last (AtDesk d) earlier =
-      (key : List ℕ) (b : IntegrityAlgorithm) (m : Message) → IsKeyOf W first key →
+  -- a request that the desk validates with such a key, and that has one of the client's numbers, was
+  -- signed by the client
+  abbrev pub TakesClients : (first last : C) → (whole : List (Step C D)) → Step C D → List (Step C D) → Type 0
+  TakesClients first last whole (AtClient call) earlier = Unit {0}
+  TakesClients first last whole (AtDesk d) earlier =
+      (key : List ℕ) (b : IntegrityAlgorithm) (m : Message) → IsKeyOf W first whole b key →
       W.desk.ValidatedWith d key b → W.wire.shown (W.desk.request d) ≡ Some m → m.class ≡ Request →
       HasNumber W (W.client.seed first) (W.client.count last) m.number →
       (text : List ℕ) × W.wire.Validates (W.desk.request d) key b text
       × AtSome (λ one _. IsSignedByClient W key b text one) earlier
+
+  -- the realm that the client keeps counts in the whole run, and so does its key there: under it the client validates
+  abbrev pub KeepsRealm : (first : C) → (whole : List (Step C D)) → Step C D → Type 0
+  KeepsRealm first whole (AtClient call) =
+      (realm : List ℕ) → W.client.realm call.before ≡ Some realm → IsRealmOf W first whole realm
+  KeepsRealm first whole (AtDesk d) = Unit {0}
 
   -- no text of a response that the client takes up was signed by the client itself
   abbrev pub TakesNoReflection : Step C D → List (Step C D) → Type 0
@@ -90,9 +98,10 @@ module _ {C D : Type 0} (W : Words C D) where
       AtSome (λ one _. IsSignedByClient W key a text one) earlier → ⊥
   TakesNoReflection (AtDesk d) earlier = Unit {0}
 
-  pub record IsSafe (first last : C) (s : Step C D) (earlier : List (Step C D)) : Type 0 where
-    pub desks : TakesDesks first s earlier
-    pub clients : TakesClients first last s earlier
+  pub record IsSafe (first last : C) (whole : List (Step C D)) (s : Step C D) (earlier : List (Step C D)) : Type 0 where
+    pub desks : TakesDesks first last whole s earlier
+    pub realms : KeepsRealm first whole s
+    pub clients : TakesClients first last whole s earlier
     pub reflects : TakesNoReflection s earlier
     pub holds : HoldsTraced s earlier
     pub names : NamesTraced s earlier
@@ -130,6 +139,6 @@ module _ {C D : Type 0} (W : Words C D) where
   -- then each step is safe, nothing is answered as created twice for one request, and all that a
   -- getter answers as held was granted before
   pub record IsPromised (first : C) (run : List (Step C D)) (last : C) : Type 0 where
-    pub safe : Unless first run last (AtEach (IsSafe first last) run)
+    pub safe : Unless first run last (AtEach (IsSafe first last run) run)
     pub once : Unless first run last (AnswersOnce run)
     pub shown : Unless first run last (AtEach ShowsTraced run)

@@ -1,8 +1,8 @@
 -- What messages show, what a client may hold, and which requests ask for it (RFC 8656; RFC 6062).
 use Rattle.std.specs.Prelude.{◌≡◌, ◌⊎◌, ℕ, List, [], ◌∷◌, Option, Some}
 use Rattle.turn_runs.specs.Members.{IsIn}
-use Rattle.turn_types.specs.TurnRegistry.{allocate_method, channel_bind_method, connect_method, connection_bind_method, create_permission_method, refresh_method}
-use Rattle.turn_runs.specs.Names.{SocketAddr, IpAddr, socket_ip, IcmpReport, TransportType, MessageClass, Success, Error}
+use Rattle.turn_types.specs.TurnRegistry.{allocate_method, channel_bind_method, connect_method, connection_attempt_method, connection_bind_method, create_permission_method, refresh_method}
+use Rattle.turn_runs.specs.Names.{SocketAddr, IpAddr, socket_ip, IcmpReport, TransportType, MessageClass, Request, Success, Error}
 
 -- ---- what bytes show, as far as allocations, permissions, channels and connections go
 
@@ -68,6 +68,10 @@ Asks m (Knows number peer) = (m.method ≡ connect_method) × (m.peers ≡ peer 
 -- a response, of either class
 abbrev pub IsResponse : MessageClass → Type 0
 IsResponse class = (class ≡ Success) ⊎ (class ≡ Error)
+
+-- a CONNECTION_ATTEMPT: a request of the server's, under a transaction ID of the server's
+abbrev pub IsAttempt : Message → Type 0
+IsAttempt m = (m.class ≡ Request) × (m.method ≡ connection_attempt_method)
 
 -- the response brings this. Of what answers a CONNECT the client may look at the number alone.
 abbrev pub Brings : Message → Gain → Type 0

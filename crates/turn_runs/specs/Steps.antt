@@ -31,10 +31,6 @@ pub record Told : Type 0 where
 abbrev pub told_for : Told → Notice × ℕ
 told_for t = (t.notice, t.number)
 
--- one of the client's keys: of its own name and password, in any realm
-abbrev pub IsOwnKey : (V : Wire) → V.Account → List ℕ → Type 0
-IsOwnKey V account key = (realm : List ℕ) × (a : IntegrityAlgorithm) × (key ≡ V.key account realm a)
-
 module _ {V : Wire} {C : Type 0} (K : ClientWords V C) where
   -- the number at a place of the client's stream; but where that number is taken, some other
   abbrev pub IsNumberAt : C → (others : List Message) → ℕ → ℕ → Type 0
@@ -50,13 +46,19 @@ module _ {V : Wire} {C : Type 0} (K : ClientWords V C) where
       (place : ℕ) × (from ≤ place) × (place < to) × IsNumberAt c others place m.number
       × AreNumbered c (m ∷ others) (place + 1) to rest
 
-  -- a message that was taken up validates with a client's key
+  -- the client's key, and the algorithm that it is for: of its own name and password, in the realm that it keeps, for the
+  -- algorithm that it chose
+  abbrev pub IsOwnKey : C → IntegrityAlgorithm → (key : List ℕ) → Type 0
+  IsOwnKey c a key = (realm : List ℕ) × (K.realm c ≡ Some realm) × (K.algorithm c ≡ Some a)
+      × (key ≡ V.key (K.account c) realm a)
+
+  -- a message that was taken up validates with the client's key, by the algorithm that the key is for
   pub record Arrives (call : Call C) (bytes : List ℕ) (m : Message) : Type 0 where
     pub handled : IsIn bytes call.handled
     pub shows : V.shown bytes ≡ Some m
     pub key : List ℕ
-    pub own : IsOwnKey V (K.account call.before) key
     pub algorithm : IntegrityAlgorithm
+    pub own : IsOwnKey call.before algorithm key
     pub text : List ℕ
     pub valid : V.Validates bytes key algorithm text
 
@@ -103,6 +105,10 @@ module _ {V : Wire} {C : Type 0} (K : ClientWords V C) where
   pub record ClientStep (call : Call C) : Type 0 where
     pub account : K.account call.after ≡ K.account call.before
     pub seed : K.seed call.after ≡ K.seed call.before
+    -- the realm that it keeps is the one that it kept, or a challenge told it that was taken up
+    pub realms : (realm : List ℕ) → K.realm call.after ≡ Some realm →
+        (K.realm call.before ≡ Some realm)
+        ⊎ ((bytes : List ℕ) × IsIn bytes call.handled × (V.told_realm bytes ≡ Some realm))
     -- all that the generator gave counts as drawn, none more and none less: two numbers at most
     pub counted : K.count call.after ≡ K.count call.before + K.given call.before call.after
     pub few : K.given call.before call.after ≤ 2
@@ -170,11 +176,13 @@ module _ {D : Type 0} (V : Wire) (E : DeskWords D) where
     -- what is refused names no connection
     pub refuses : (r : List ℕ) (m : Message) → E.reply d ≡ Some r → V.shown r ≡ Some m →
         m.class ≡ Error → m.connection ≡ None
-    -- what is validated with a key validates
+    -- what is validated with a key validates, and the key is of an account in the desk's realm
     pub validates : (key : List ℕ) (a : IntegrityAlgorithm) → E.ValidatedWith d key a →
         (text : List ℕ) × V.Validates (E.request d) key a text
+    pub keyed : (key : List ℕ) (a : IntegrityAlgorithm) → E.ValidatedWith d key a →
+        (account : V.Account) × (key ≡ V.key account (E.realm d) a)
     -- the key that signs is the key that validated
-    pub signs : (key text r : List ℕ) (a b : IntegrityAlgorithm) → E.ValidatedWith d key b → E.reply d ≡ Some r →
+    pub signs : (key text r : List ℕ) (a : IntegrityAlgorithm) → E.ValidatedWith d key a → E.reply d ≡ Some r →
         V.Covers r a text → V.Validates r key a text
     -- what is on record stays
     pub keeps : (g : Grant) → IsIn g (E.recorded d) → IsIn g (E.records d)

@@ -19,6 +19,8 @@ pub record Wire : Type 1 where
   pub ShowsSame : (one other : List ℕ) → Type 0
   -- the bytes are a message or a channel frame, and carry this of a peer
   pub Carries : (frame : List ℕ) → Payload → Type 0
+  -- the realm that the bytes name, where they are a challenge
+  pub told_realm : List ℕ → Option (List ℕ)
   -- the key of an account in a realm
   pub key : Account → (realm : List ℕ) → IntegrityAlgorithm → List ℕ
   -- the number at a place of the stream of a seed
@@ -27,6 +29,10 @@ pub record Wire : Type 1 where
 -- what is said of a client in a state C
 pub record ClientWords (V : Wire) (C : Type 0) : Type 1 where
   pub account : C → V.Account
+  -- the realm that it keeps: in this one it signs and validates
+  pub realm : C → Option (List ℕ)
+  -- the algorithm that it chose for that: by this one it signs and validates
+  pub algorithm : C → Option IntegrityAlgorithm
   pub seed : C → V.Seed
   -- how many numbers it has drawn from its stream
   pub count : C → ℕ
@@ -55,6 +61,8 @@ pub record ClientWords (V : Wire) (C : Type 0) : Type 1 where
 pub record DeskWords (D : Type 0) : Type 1 where
   pub request : D → List ℕ
   pub source : D → SocketAddr
+  -- the realm of its users' keys
+  pub realm : D → List ℕ
   pub reply : D → Option (List ℕ)
   -- the desk validated the bytes with this key, by this algorithm
   pub ValidatedWith : D → (key : List ℕ) → IntegrityAlgorithm → Type 0

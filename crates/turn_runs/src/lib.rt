@@ -27,15 +27,24 @@ pub trait Layers {
 /// Whatever the network loses, repeats, reorders or invents, each step of a lawful run is safe, where
 /// nothing is forged under a client's key and no number comes twice (`IsUnforged`).
 ///
-/// A response that the client takes up was signed by the desk, and a request that the desk accepts under a
-/// client's number was signed by the client. No response that is taken up is the client's own text. All
-/// that the client holds was granted in answer to that very request, and each payload names a peer so
-/// granted. Nothing is told as created twice in answer to one request, and all that a getter answers as
-/// held was granted before.
+/// A client's key counts in a realm that it kept when the run began, that a challenge names which arrives
+/// (forged or not), or that is the desk's; not in one that nobody named. Each realm that the client keeps
+/// is such a one.
+///
+/// Of what arrives at the client, the premise speaks only of messages with one of the client's own
+/// transaction IDs, and of each CONNECTION_ATTEMPT, which has one of the server's. So a response that the
+/// server signed for an earlier run of the same account may be replayed to the client, unless both runs have
+/// the transaction ID that it answers.
+///
+/// A response that the client takes up under one of its own transaction IDs was signed by the desk, and a
+/// request that the desk accepts under one of them was signed by the client. No response that is taken up
+/// is the client's own text. All that the client holds was granted in answer to that very request, and
+/// each payload names a peer so granted. Nothing is told as created twice in answer to one request, and
+/// all that a getter answers as held was granted before.
 pub fn runs_are_safe<L: Layers>()
     ensures steps { (first : L.Client) (run : List (Step L.Client L.Desk)) (last : L.Client)
         → IsUnforged L.words first run last
-        → AtEach (IsSafe L.words first last) run }
+        → AtEach (IsSafe L.words first last run) run }
     ensures once { (first : L.Client) (run : List (Step L.Client L.Desk)) (last : L.Client)
         → IsUnforged L.words first run last
         → AnswersOnce L.words run }

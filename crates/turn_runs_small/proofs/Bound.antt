@@ -5,12 +5,12 @@ use Rattle.turn_runs.specs.Headline.{IsGrantedAt, IsPromised, ShowsTraced, Trace
 use Rattle.turn_runs.specs.Members.{IsIn}
 use Rattle.turn_runs.specs.Messages.{Held, Channel, Gain, Grant, GrantIs, Holds}
 use Rattle.turn_runs.specs.Names.{SocketAddr, IntegrityAlgorithm}
-use Rattle.turn_runs.specs.Runs.{Step, AtClient, AtDesk, AtEach, AtSome, IsCounted, IsLawful, Leads, NoForgery, WasSigned, given_in}
+use Rattle.turn_runs.specs.Runs.{Step, AtClient, AtDesk, AtEach, AtSome, IsAuthentic, IsCounted, IsKeyOf, IsLawful, Leads, NamesRealm, NoForgery, WasSigned, given_in}
 use Rattle.turn_runs.specs.Steps.{Call, Told}
 use Rattle.turn_runs.proofs.Safe.{counted, promised}
 use Rattle.turn_runs.proofs.Tools.{in_right}
 use Rattle.turn_runs_small.specs.Handshakes.{Addresses, grant_at, held_after, request_at, told_at}
-use Rattle.turn_runs_small.specs.Rounds.{idle, quiet, rounds}
+use Rattle.turn_runs_small.specs.Rounds.{fresh, idle, quiet, rounds}
 use Rattle.turn_runs_small.specs.SmallWords.{Client, Core, Idle, given_by, small}
 use Rattle.turn_runs_small.specs.Ungranted.{AreSafe, IsBound, forget, forget_call, shows_behind, shows_channel}
 use Rattle.turn_runs_small.proofs.Rounds.{authentic, distinct, first_is_new, idle_step, lawful, leads, none_given, small_laws}
@@ -50,23 +50,52 @@ module _ (a : Addresses) where
   ]
   signed_alike key b text run other same signed = absurd (let never : ⊥ = cc in never)
 
-  authentic_alike : (count : ℕ) (run other : List (Step Client ℕ)) → map forget run ≡ map forget other →
-      NoForgery (small a) (idle 0) count other → NoForgery (small a) (idle 0) count run
-  authentic_alike count [] [] same all = tt
-  authentic_alike count (AtClient c ∷ run) (AtClient d ∷ other) same all =
+  named_alike : (r : List ℕ) (run other : List (Step Client ℕ)) → map forget run ≡ map forget other →
+      AtSome (λ s _. NamesRealm (small a) r s) run → AtSome (λ s _. NamesRealm (small a) r s) other
+  named_alike r [] [] same named = absurd named
+  named_alike r (AtClient c ∷ run) (AtClient d ∷ other) same named = elim named [
+    | inl here ↦ (
+        let call_is : forget_call c ≡ forget_call d = cc in
+        inl (here.0, subst (IsIn here.0) (ap (λ (x : Call Core). x.came) call_is) here.1, here.2))
+    | inr before ↦ inr (named_alike r run other (cc) before)
+  ]
+  named_alike r (AtDesk c ∷ run) (AtDesk d ∷ other) same named = elim named [
+    | inl desk ↦ inl desk
+    | inr before ↦ inr (named_alike r run other (cc) before)
+  ]
+  named_alike r run other same named = absurd (let never : ⊥ = cc in never)
+
+  -- a call to which nothing comes adds no key that counts
+  key_alike : (gets : Call Client) (earlier other : List (Step Client ℕ)) → gets.came ≡ [] → map forget earlier ≡ map forget other →
+      (b : IntegrityAlgorithm) (key : List ℕ) → IsKeyOf (small a) fresh (AtClient gets ∷ earlier) b key → IsKeyOf (small a) fresh other b key
+  key_alike gets earlier other none same b key of = elim of.1 [
+    | inl kept ↦ (of.0, inl kept, of.2)
+    | inr some ↦ elim some [
+      | inl here ↦ absurd (subst (IsIn here.0) none here.1)
+      | inr before ↦ (of.0, inr (named_alike of.0 earlier other same before), of.2)
+    ]
+  ]
+
+  -- of two whole runs, where what counts in the one counts in the other
+  authentic_alike : (count : ℕ) (whole others : List (Step Client ℕ)) →
+      ((b : IntegrityAlgorithm) (key : List ℕ) → IsKeyOf (small a) fresh whole b key → IsKeyOf (small a) fresh others b key) →
+      (run other : List (Step Client ℕ)) → map forget run ≡ map forget other →
+      AtEach (IsAuthentic (small a) fresh count others) other → AtEach (IsAuthentic (small a) fresh count whole) run
+  authentic_alike count whole others keys [] [] same all = tt
+  authentic_alike count whole others keys (AtClient c ∷ run) (AtClient d ∷ other) same all =
       let call_is : forget_call c ≡ forget_call d = cc in (
-        (λ bytes key text b i own v.
-            signed_alike key b text run other (cc) (all.0 bytes key text b (subst (IsIn bytes) (ap (λ (x : Call Core). x.came) call_is) i) own v)),
-        authentic_alike count run other (cc) all.1,
+        (λ bytes key text b m i own v shows for_it.
+            signed_alike key b text run other (cc) (all.0 bytes key text b m (subst (IsIn bytes) (ap (λ (x : Call Core). x.came) call_is) i) (keys b key own) v shows for_it)),
+        authentic_alike count whole others keys run other (cc) all.1,
       )
-  authentic_alike count (AtDesk c ∷ run) (AtDesk d ∷ other) same all =
+  authentic_alike count whole others keys (AtDesk c ∷ run) (AtDesk d ∷ other) same all =
       let is : c ≡ d = cc in (
         (λ key text b m own v shows has.
-            signed_alike key b text run other (cc) (all.0 key text b m own
-            (v.0 ∙ ap (λ (n : ℕ). 0 ∷ n ∷ []) is, v.1) (ap (λ (n : ℕ). Some (request_at a n)) (sym is) ∙ shows) has)),
-        authentic_alike count run other (cc) all.1,
+            signed_alike key b text run other (cc) (all.0 key text b m (keys b key own)
+            (v.0 ∙ ap (λ (n : ℕ). 0 ∷ n ∷ []) is, v.1, v.2) (ap (λ (n : ℕ). Some (request_at a n)) (sym is) ∙ shows) has)),
+        authentic_alike count whole others keys run other (cc) all.1,
       )
-  authentic_alike count run other same all = absurd (let never : ⊥ = cc in never)
+  authentic_alike count whole others keys run other same all = absurd (let never : ⊥ = cc in never)
 
   -- ---- which steps of the desk grant a channel
 
@@ -84,7 +113,13 @@ module _ (a : Addresses) where
   ]
 
   granted_below : (n d : ℕ) → IsIn (AtDesk d) (map forget (rounds a n)) → d < n
-  granted_below zero d i = absurd i
+  granted_below zero d i = elim i [
+    | inl e ↦ absurd (let never : ⊥ = cc in never)
+    | inr j ↦ elim j [
+      | inl e ↦ absurd (let never : ⊥ = cc in never)
+      | inr none ↦ absurd none
+    ]
+  ]
   granted_below (suc n) d i = elim i [
     | inl e ↦ absurd (let never : ⊥ = cc in never)
     | inr j ↦ elim j [
@@ -130,23 +165,24 @@ module _ (a : Addresses) where
   -- ---- an account shows that what is answered was granted
 
   pub traced_before : (n : ℕ) (h : Held) (run : List (Step Client ℕ)) (last : Client) → n ≤ 16 → map forget run ≡ shows_behind a n h →
-      IsCounted (small a) (idle 0) run last → Unless (small a) (idle 0) run last (AtEach (ShowsTraced (small a)) run) → Traced (small a) run h
+      IsCounted (small a) fresh run last → Unless (small a) fresh run last (AtEach (ShowsTraced (small a)) run) → Traced (small a) run h
   traced_before n h (AtClient gets ∷ earlier) last few told counts shown =
       let gets_is : forget_call gets ≡ record (quiet (Idle n) (Idle n)) { shown = h ∷ [] } = cc in
       let before : map forget earlier ≡ map forget (rounds a n) = cc in
-      let all_counted = counted (small a) (idle 0) (rounds a n) (idle n) (leads a n) (lawful a n) in
+      let all_counted = counted (small a) fresh (rounds a n) (idle n) (leads a n) (lawful a n) in
       let drawn : last.drawn ≤ 16 =
       omega (arith, few, counts, all_counted, given_alike earlier (rounds a n) before, none_given n, ap (λ (x : Call Core). given_by x.before x.after) gets_is) in
-      let unforged : NoForgery (small a) (idle 0) last.drawn (AtClient gets ∷ earlier) = (
-        (λ bytes key text b i own v. absurd (subst (IsIn bytes) (ap (λ (x : Call Core). x.came) gets_is) i)),
-        authentic_alike last.drawn earlier (rounds a n) before (authentic a last.drawn n),
+      let unforged : NoForgery (small a) fresh last.drawn (AtClient gets ∷ earlier) = (
+        (λ bytes key text b m i own v shows for_it. absurd (subst (IsIn bytes) (ap (λ (x : Call Core). x.came) gets_is) i)),
+        authentic_alike last.drawn (AtClient gets ∷ earlier) (rounds a n) (key_alike gets earlier (rounds a n) (ap (λ (x : Call Core). x.came) gets_is) before)
+            earlier (rounds a n) before (authentic a last.drawn n),
       ) in
       let listed : IsIn h gets.shown = subst (IsIn h) (sym (ap (λ (x : Call Core). x.shown) gets_is)) (inl refl) in
       (shown unforged (distinct a last.drawn drawn)).0 h listed
   traced_before n h run last few told counts shown = absurd {A = Traced (small a) run h} (cc)
 
   bound_by : (n number : ℕ) (peer : SocketAddr) (run : List (Step Client ℕ)) (last : Client) → n ≤ 16 → map forget run ≡ shows_channel a n number peer →
-      IsCounted (small a) (idle 0) run last → Unless (small a) (idle 0) run last (AtEach (ShowsTraced (small a)) run) → IsBound a n number peer
+      IsCounted (small a) fresh run last → Unless (small a) fresh run last (AtEach (ShowsTraced (small a)) run) → IsBound a n number peer
   bound_by n number peer run last few told counts shown =
       let traced = traced_before n (Channel number peer) run last few told counts shown in
       let g = granted_early n traced.0 (Channel number peer) (Holds (Channel number peer)) run told traced.1.0 in
@@ -168,31 +204,31 @@ module _ (a : Addresses) where
   abbrev asked_after : ℕ → Held → Call Client
   asked_after n h = record (quiet (idle n) (idle n)) { shown = h ∷ [] }
 
-  pub account : (n : ℕ) (h : Held) → IsIn h (held_after a n) → AreSafe a (shows_behind a n h)
+  pub account : (n : ℕ) (h : Held) → IsIn h (held_after a n) → AreSafe a fresh (shows_behind a n h)
   account n h holds =
       let run : List (Step Client ℕ) = AtClient (asked_after n h) ∷ rounds a n in
-      let lead : Leads (idle 0) run (idle n) = (refl, leads a n) in
+      let lead : Leads fresh run (idle n) = (refl, leads a n) in
       let held = λ (x : Held) (i : IsIn x (h ∷ [])). elim i as (λ (_ : IsIn x (h ∷ [])). IsIn x (held_after a n)) [
         | inl e ↦ subst (λ (y : Held). IsIn y (held_after a n)) e holds
         | inr none ↦ absurd none
       ] in
       let law : AtEach (λ s _. IsLawful (small a) s) run = (idle_step a n [] (h ∷ []) held, lawful a n) in
-      let promise : IsPromised (small a) (idle 0) run (idle n) = promised (small a) (small_laws a) (idle 0) run (idle n) (first_is_new a) lead law in
+      let promise : IsPromised (small a) fresh run (idle n) = promised (small a) (small_laws a) fresh run (idle n) (first_is_new a) lead law in
       record {
         run = run;
         told = refl;
         last = idle n;
         leads = lead;
-        counted = counted (small a) (idle 0) run (idle n) lead law;
+        counted = counted (small a) fresh run (idle n) lead law;
         safe = promise.safe;
         once = promise.once;
         shown = promise.shown;
       }
 
   pub shown_where_bound : (n number : ℕ) (peer : SocketAddr) → n ≤ 16 →
-      (AreSafe a (shows_channel a n number peer) → IsBound a n number peer) × (IsBound a n number peer → AreSafe a (shows_channel a n number peer))
+      (AreSafe a fresh (shows_channel a n number peer) → IsBound a n number peer) × (IsBound a n number peer → AreSafe a fresh (shows_channel a n number peer))
   shown_where_bound n number peer few = (
     (λ is. bound_by n number peer is.run is.last few is.told is.counted is.shown),
-    (λ is. subst (λ (k : ℕ). AreSafe a (shows_channel a n k peer)) (sym is.number_is)
-        (subst (λ (p : SocketAddr). AreSafe a (shows_channel a n 0x4000 p)) (sym is.peer_is) (account n (Channel 0x4000 a.peer) (held_behind n is.granted)))),
+    (λ is. subst (λ (k : ℕ). AreSafe a fresh (shows_channel a n k peer)) (sym is.number_is)
+        (subst (λ (p : SocketAddr). AreSafe a fresh (shows_channel a n 0x4000 p)) (sym is.peer_is) (account n (Channel 0x4000 a.peer) (held_behind n is.granted)))),
   )

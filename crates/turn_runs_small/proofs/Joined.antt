@@ -9,7 +9,7 @@ use Rattle.turn_runs.specs.Runs.{Step, AtEach, IsCounted}
 use Rattle.turn_runs.specs.Steps.{Told}
 use Rattle.turn_runs.proofs.Tools.{in_right}
 use Rattle.turn_runs_small.specs.Handshakes.{Addresses, grant_at, held_after, told_at}
-use Rattle.turn_runs_small.specs.Rounds.{idle}
+use Rattle.turn_runs_small.specs.Rounds.{fresh}
 use Rattle.turn_runs_small.specs.SmallWords.{Client, small}
 use Rattle.turn_runs_small.specs.Ungranted.{AreSafe, IsJoined, forget, shows_connection}
 use Rattle.turn_runs_small.proofs.Bound.{account, granted_early, traced_before}
@@ -34,8 +34,8 @@ module _ (a : Addresses) where
   the_connect (suc (suc (suc (suc (suc d))))) number peer is = absurd (omega (arith, is.0))
 
   joined_by : (n : ℕ) (local : SocketAddr) (number : ℕ) (peer : SocketAddr) (run : List (Step Client ℕ)) (last : Client) → n ≤ 16 →
-      map forget run ≡ shows_connection a n local number peer → IsCounted (small a) (idle 0) run last →
-      Unless (small a) (idle 0) run last (AtEach (ShowsTraced (small a)) run) → IsJoined a n number peer
+      map forget run ≡ shows_connection a n local number peer → IsCounted (small a) fresh run last →
+      Unless (small a) fresh run last (AtEach (ShowsTraced (small a)) run) → IsJoined a n number peer
   joined_by n local number peer run last few told counts shown =
       let traced = traced_before a n (Connection local peer number) run last few told counts shown in
       let bind = granted_early a n traced.0 (Connection local peer number) (Holds (Connection local peer number)) run told traced.1.0 in
@@ -45,7 +45,7 @@ module _ (a : Addresses) where
       record { granted = omega (arith, bind.1, fifth.0); number_is = fifth.1; peer_is = the_connect connect.0 number peer connect.2 }
 
   pub joined_where_shown : (n : ℕ) (local : SocketAddr) (number : ℕ) (peer : SocketAddr) → n ≤ 16 →
-      AreSafe a (shows_connection a n local number peer) → IsJoined a n number peer
+      AreSafe a fresh (shows_connection a n local number peer) → IsJoined a n number peer
   joined_where_shown n local number peer few is = joined_by n local number peer is.run is.last few is.told is.counted is.shown
 
   held_from : (k : ℕ) → IsIn (Connection a.local a.peer 7) (held_after a (suc (suc (suc (suc (suc k))))))
@@ -62,5 +62,5 @@ module _ (a : Addresses) where
   held_behind (suc (suc (suc (suc zero)))) le = absurd (omega (arith, le))
   held_behind (suc (suc (suc (suc (suc k))))) le = held_from k
 
-  pub shown_where_joined : (n : ℕ) → 5 ≤ n → AreSafe a (shows_connection a n a.local 7 a.peer)
+  pub shown_where_joined : (n : ℕ) → 5 ≤ n → AreSafe a fresh (shows_connection a n a.local 7 a.peer)
   shown_where_joined n le = account a n (Connection a.local a.peer 7) (held_behind n le)

@@ -6,7 +6,11 @@ use Rattle.turn_runs.specs.Names.{socket_ip}
 use Rattle.turn_runs.specs.Runs.{Step, AtClient, AtDesk}
 use Rattle.turn_runs.specs.Steps.{Call, Told}
 use Rattle.turn_runs_small.specs.Handshakes.{Addresses, told_at, held_after}
-use Rattle.turn_runs_small.specs.SmallWords.{Client, Idle, Waiting, small}
+use Rattle.turn_runs_small.specs.SmallWords.{Client, Fresh, Idle, Waiting, small}
+
+-- no challenge has come
+abbrev pub fresh : Client
+fresh = record { core = Fresh; drawn = 0 }
 
 -- so many requests are answered, and none is outstanding
 abbrev pub idle : ℕ → Client
@@ -29,6 +33,14 @@ quiet before after = record {
   after = after;
 }
 
+-- a forged challenge names another realm, which the client doesn't keep
+abbrev pub hears_forged : Call Client
+hears_forged = record (quiet fresh fresh) { came = (2 ∷ 1 ∷ []) ∷ []; handled = (2 ∷ 1 ∷ []) ∷ [] }
+
+-- the desk's challenge comes, and the client keeps its realm
+abbrev pub hears_challenge : Call Client
+hears_challenge = record (quiet fresh (idle 0)) { came = (2 ∷ 0 ∷ []) ∷ []; handled = (2 ∷ 0 ∷ []) ∷ [] }
+
 -- the client draws its next request
 abbrev pub asks_next : ℕ → Call Client
 asks_next n = record (quiet (idle n) (waiting n)) { drawn = Some (0 ∷ n ∷ []) }
@@ -36,6 +48,11 @@ asks_next n = record (quiet (idle n) (waiting n)) { drawn = Some (0 ∷ n ∷ []
 -- the network hands the client bytes that it has no use for
 abbrev pub hears : ℕ → List ℕ → Call Client
 hears n bytes = record (quiet (idle n) (idle n)) { came = bytes ∷ []; handled = bytes ∷ [] }
+
+-- it hands the client an answer of an earlier run, while a request is outstanding
+abbrev pub hears_earlier : ℕ → Call Client
+hears_earlier n =
+    record (quiet (waiting n) (waiting n)) { came = (3 ∷ n ∷ []) ∷ []; handled = (3 ∷ n ∷ []) ∷ [] }
 
 module _ (a : Addresses) where
   -- a payload from the peer by each thing that can bring one
@@ -62,13 +79,18 @@ module _ (a : Addresses) where
   abbrev pub granted : ℕ → List (Step Client ℕ) → List (Step Client ℕ)
   granted n earlier = AtClient (takes_next n) ∷ AtDesk n ∷ AtClient (asks_next n) ∷ earlier
 
-  -- so many requests, one after the other. Behind each a getter is asked, and the network plays
-  -- the answer and the client's own request to it again
+  -- two challenges, and then so many requests, one after the other. Behind each a getter is asked, and
+  -- the network plays the answer and the client's own request to it again
   abbrev pub rounds : ℕ → List (Step Client ℕ)
-  rounds zero = []
+  rounds zero = AtClient hears_challenge ∷ AtClient hears_forged ∷ []
   rounds (suc n) =
       AtClient (hears (suc n) (0 ∷ n ∷ [])) ∷ AtClient (hears (suc n) (1 ∷ n ∷ []))
       ∷ AtClient (shows_all (suc n)) ∷ granted n (rounds n)
+
+  -- the network hands the client, while its request is outstanding, what the desk answered to that request in an earlier
+  -- run; the client takes the answer of this run
+  abbrev pub replayed : ℕ → List (Step Client ℕ)
+  replayed n = AtClient (takes_next n) ∷ AtDesk n ∷ AtClient (hears_earlier n) ∷ AtClient (asks_next n) ∷ rounds n
 
   -- the client holds one of each kind
   pub record HoldsOneOfEach (c : Client) : Type 0 where

@@ -8,7 +8,7 @@ use Rattle.turn_runs.specs.Names.{SocketAddr}
 use Rattle.turn_runs.specs.Runs.{Step, AtClient, AtDesk, AtEach, IsCounted, Leads}
 use Rattle.turn_runs.specs.Steps.{Call}
 use Rattle.turn_runs_small.specs.Handshakes.{Addresses}
-use Rattle.turn_runs_small.specs.Rounds.{granted, idle, quiet, rounds}
+use Rattle.turn_runs_small.specs.Rounds.{granted, quiet, rounds}
 use Rattle.turn_runs_small.specs.SmallWords.{Client, Core, Idle, Waiting, small}
 
 -- a call, without what a run says of how many numbers were drawn
@@ -29,19 +29,19 @@ forget (AtClient call) = AtClient (forget_call call)
 forget (AtDesk d) = AtDesk d
 
 module _ (a : Addresses) where
-  -- an account of what the client and the desk did, of which the promise stands. That each step is
-  -- one by the contracts is left out
-  pub record AreSafe (steps : List (Step Core ℕ)) : Type 0 where
+  -- an account of what a client and the desk did, of which the promise stands. That each step is one by
+  -- the contracts is left out
+  pub record AreSafe (first : Client) (steps : List (Step Core ℕ)) : Type 0 where
     pub run : List (Step Client ℕ)
     pub told : map forget run ≡ steps
     pub last : Client
-    pub leads : Leads (idle 0) run last
+    pub leads : Leads first run last
     -- it counts as many numbers as the generator gave. Else it could count seventeen, of which two
     -- are the same, and nothing would be promised
-    pub counted : IsCounted (small a) (idle 0) run last
-    pub safe : Unless (small a) (idle 0) run last (AtEach (IsSafe (small a) (idle 0) last) run)
-    pub once : Unless (small a) (idle 0) run last (AnswersOnce (small a) run)
-    pub shown : Unless (small a) (idle 0) run last (AtEach (ShowsTraced (small a)) run)
+    pub counted : IsCounted (small a) first run last
+    pub safe : Unless (small a) first run last (AtEach (IsSafe (small a) first last run) run)
+    pub once : Unless (small a) first run last (AnswersOnce (small a) run)
+    pub shown : Unless (small a) first run last (AtEach (ShowsTraced (small a)) run)
 
   -- the client asks for an address and holds it, but no desk did anything
   abbrev pub holds_ungranted : List (Step Core ℕ)

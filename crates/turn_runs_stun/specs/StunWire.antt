@@ -1,6 +1,6 @@
 -- What STUN and TURN bytes say in the words of a run (RFC 8489, sections 5, 9.2.2 and 14.5; RFC 8656, section 18).
 use Rattle.std.specs.Prelude.{ℕ, ◌*◌, ◌==◌, List, Option, Some, None, if◌then◌else◌}
-use Rattle.std.specs.Option.{option_and_then}
+use Rattle.std.specs.Option.{option_and_then, option_map}
 use Rattle.rand_core.specs.Stream.{Stream}
 use Rattle.stun_types.specs.Attributes.{kind_at}
 use Rattle.stun_types.specs.Credentials.{NameAndPassword, long_term_key}
@@ -14,6 +14,7 @@ use Rattle.stun_types.specs.Same.{ShowSame}
 use Rattle.stun_types.specs.Types.{class_of, method_of}
 use Rattle.stun_types.specs.declared.transport.TransportType.{TransportType}
 use Rattle.stun_types.specs.declared.transport.TransportType.TheVariants.{Udp, Tcp}
+use Rattle.stun_proto_client.specs.Challenges.{Told, challenge_shown}
 use Rattle.turn_runs.specs.Messages.{Message}
 use Rattle.turn_runs.specs.Words.{Wire}
 use Rattle.turn_runs_stun.specs.Indications.{Carries}
@@ -71,6 +72,7 @@ stun_wire = record {
   Covers = Cover;
   ShowsSame = AreSame;
   Carries = Carries;
+  told_realm = λ bytes. option_map (λ (t : Told). t.realm) (challenge_shown bytes);
   key = key_in;
   number = λ seed place. drawn_number (stream_after (number_words * place) seed);
 }

@@ -1,6 +1,6 @@
 use Rattle.std.proofs.Common.{refl}
 use Rattle.turn_runs.proofs.Safe.{counted}
-use Rattle.turn_runs_small.specs.Rounds.{idle, rounds}
+use Rattle.turn_runs_small.specs.Rounds.{fresh, idle, rounds}
 use Rattle.turn_runs_small.specs.SmallWords.{small}
 use Rattle.turn_runs_small.proofs.Rounds.{leads, lawful, rounds_promised}
 use Rattle.turn_runs_small.proofs.handshakes_meet_an_account.Goals as goal
@@ -11,7 +11,7 @@ returns c a n = record {
   told = refl;
   last = idle n;
   leads = leads a n;
-  counted = counted (small a) (idle 0) (rounds a n) (idle n) (leads a n) (lawful a n);
+  counted = counted (small a) fresh (rounds a n) (idle n) (leads a n) (lawful a n);
   safe = (rounds_promised a n).safe;
   once = (rounds_promised a n).once;
   shown = (rounds_promised a n).shown;

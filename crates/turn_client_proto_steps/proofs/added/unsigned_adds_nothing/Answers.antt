@@ -5,5 +5,5 @@ pub returns : goal.returns
 returns c = record {
   heard = λ client bytes now handled new sound are_bytes message isnt is. heard_unsigned client bytes now handled new sound are_bytes message isnt is;
   heard_at = λ client here bytes now new sound are_bytes message isnt is. heard_at_unsigned client here bytes now new sound are_bytes message isnt is;
-  unsigned = λ account bytes none signed. none_signed account bytes none signed;
+  unsigned = λ bytes key text algorithm none valid. none_signed bytes key text algorithm none valid;
 }
