@@ -3,9 +3,11 @@
 //!
 //! What a call adds. An allocation, a permission, a channel or a bound connection comes to a client by
 //! nothing but the success response to a request of its own ([`answers_alone_add`]): that response
-//! validates under a key of the client's name and password, a request of its number was outstanding and
-//! is no more, and that request asked for this very thing (RFC 8489, sections 6.3 and 9.2.5; RFC 8656,
-//! sections 7.3, 10.3 and 12.3; RFC 6062, section 4.3). So a message that is not signed, or is signed
+//! validates under the client's key, a request of its number was outstanding and is no more, and that
+//! request asked for this very thing (RFC 8489, sections 6.3 and 9.2.5; RFC 8656, sections 7.3, 10.3 and
+//! 12.3; RFC 6062, section 4.3). The client's key is that of its name and password, in the realm of the
+//! challenge that it keeps, by the algorithm that it chose for that challenge: it has one at a time, and a
+//! new client has none ([`new_clients_keep_no_realm`]). So a message that is not signed, or is signed
 //! wrongly, adds nothing ([`unsigned_adds_nothing`]); nor does one that nothing asked for
 //! ([`unasked_adds_nothing`]), or a call that takes up no message ([`calls_add_nothing`]).
 //!
@@ -63,9 +65,10 @@ pub use turn_client_proto_receipt::step_laws::{
     Desk, bindings_are_steps, closings_are_steps, connects_are_steps, deletions_are_steps,
     draws_are_steps, ends_are_steps, events_are_steps, failures_are_steps,
     first_numbers_are_of_the_seed, messages_are_steps, new_clients_are_new, new_clients_are_sound,
-    numbers_are_distinct, payloads_are_steps, permissions_are_steps, permissions_had_are_held,
-    polls_are_steps, sends_are_steps, shown_addresses_are_held, shown_channels_are_held,
-    shown_connections_are_held, shown_permissions_are_held, sockets_are_steps,
+    new_clients_keep_no_realm, numbers_are_distinct, payloads_are_steps, permissions_are_steps,
+    permissions_had_are_held, polls_are_steps, sends_are_steps, shown_addresses_are_held,
+    shown_channels_are_held, shown_connections_are_held, shown_permissions_are_held,
+    sockets_are_steps,
 };
 pub use turn_client_proto_unanswered::unanswered_clients_end;
 

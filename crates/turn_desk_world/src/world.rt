@@ -86,8 +86,9 @@ impl World {
     ///   client of a CONNECTION_ATTEMPT request, which has an ID of its server's.
     ///
     /// A key counts that is of the client's name and password, in a realm that the run names: the desk's
-    /// own, or one that is named by a challenge which arrives at the client, forged or not. So three keys
-    /// count for each realm, one for each algorithm; and none in a realm that the run does not name.
+    /// own, or one that is named by a challenge which arrives at the client, forged or not (a new client
+    /// keeps none yet: law `new_clients_keep_no_realm`). So three keys count for each realm, one for each
+    /// algorithm; and none in a realm that the run does not name.
     ///
     /// That a connection ends with its socket needs only the first of the three.
     pub fn run(&mut self, events: &[Event]) -> Result<Vec<Answer>, NoMemory>
