@@ -1,13 +1,14 @@
-/* bench.c: how long the calls of turn_client.h take, and how many allocations each makes: of exchanges with a server
- * whose bytes are stored (samples.h, `timed`). Each time is the least mean of the rounds, the clock's own taken off.
+/* c_calls.c: how long the calls of turn_client.h take, and how many allocations each makes: of exchanges with a server
+ * whose bytes are stored (tests/c/samples.h, `timed`). Each time is the least mean of the rounds, the clock's own taken
+ * off.
  *
- *     cc -std=c11 -O2 -Wall -Wextra bench.c steps.c $(pkg-config --cflags --libs turn_client) \
- *         -Wl,--wrap=malloc,--wrap=realloc -o bench && ./bench [ROUNDS]
+ *     cc -std=c11 -O2 -Wall -Wextra c_calls.c ../tests/c/steps.c $(pkg-config --cflags --libs turn_client) \
+ *         -Wl,--wrap=malloc,--wrap=realloc -o c_calls && ./c_calls [ROUNDS]
  *
  * Each answer is held against what is wanted, and each byte in the first turn: the exit status is 1 where one
  * differs. */
 #define _GNU_SOURCE
-#include "steps.h"
+#include "../tests/c/steps.h"
 
 #include <stdio.h>
 #include <stdlib.h>

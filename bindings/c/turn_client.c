@@ -1,12 +1,12 @@
 /* turn_client.c: asks a TURN server for an address, and sends payloads through it to a peer that sends them back.
  *
- * In a clone there is nothing to build first. In the folder c/:
+ * In a clone there is nothing to build first. In the folder bindings/c/:
  *
- *     export PKG_CONFIG_PATH=../dist/x86_64-linux-gnu
+ *     export PKG_CONFIG_PATH=../../dist/x86_64-linux-gnu
  *     cc -std=c11 turn_client.c options.c sockets.c tally.c $(pkg-config --cflags --libs turn_client) -o turn_client
  *     ./turn_client --server 127.0.0.1 --user alice --password secret --echo
  *
- * `./coturn` at the top does that, with a server of its own. PKG_CONFIG_PATH may also be a folder that c/build made.
+ * `./coturn` at the top does that, with a server of its own. PKG_CONFIG_PATH may also be a folder that `build` made.
  * `--help` tells the options and the exit status. The client itself does no input or output: its sockets and its clock
  * are here, in one loop around poll. */
 #define _GNU_SOURCE

@@ -1,7 +1,7 @@
 #!/usr/bin/env python3
 """example.py: asks a TURN server for an address, and sends payloads through it to a peer that sends them back.
 
-    python3 python/example.py --server 127.0.0.1:3478 --user alice --password secret --echo
+    python3 bindings/python/example.py --server 127.0.0.1:3478 --user alice --password secret --echo
 
 With --connect the address is one over TCP (RFC 6062), and the payloads go over a connection to the peer. `--help` tells
 the options and the exit status. The client itself does no input or output: its sockets and its clock are of asyncio.

@@ -57,7 +57,7 @@ def files() -> dict[str, bytes]:
         f"{NAME}/__init__.py": (HERE / "turn_client.py").read_bytes(),
         f"{NAME}/{SHARED}": library().read_bytes(),
         f"{NAME}/py.typed": b"",
-        **{f"{info}/{it}": (HERE.parent / it).read_bytes() for it in LICENSES},
+        **{f"{info}/{it}": (HERE.parents[1] / it).read_bytes() for it in LICENSES},
         f"{info}/METADATA": METADATA.encode() + readme,
         f"{info}/WHEEL": WHEEL.encode(),
     }

@@ -1,10 +1,11 @@
 #!/usr/bin/env python3
-"""test_turn_client.py: walks the exchanges of c/samples.py by turn_client.py, and looks at what is this module's own.
+"""test_turn_client.py: walks the exchanges of tests/c/samples.py by turn_client.py, and looks at this module's own.
 
-    python3 python/test_turn_client.py
+    python3 bindings/python/test_turn_client.py
 
-What is to be sent and told comes from c/samples.py, which works it out by the RFCs. Sizes, offsets and numbers come
-from include/turn_client.h, by cc (CC names another compiler). The shared library is the one that turn_client.py finds.
+What is to be sent and told comes from tests/c/samples.py, which works it out by the RFCs. Sizes, offsets and numbers
+come from bindings/c/include/turn_client.h, by cc (CC names another compiler). The shared library is the one that
+turn_client.py finds.
 What is freed is counted by a library of this test's own, whose malloc can be made to refuse: it is made of the archive
 of dist/x86_64-linux-gnu, or of the folder that TURN_CLIENT_LIB names.
 """
@@ -29,16 +30,17 @@ from typing import Any
 from unittest import mock
 
 HERE = Path(__file__).resolve().parent
-ROOT = HERE.parent
+ROOT = HERE.parents[1]
 sys.dont_write_bytecode = True
-sys.path[:0] = [str(HERE), str(ROOT / "c")]
+sys.path[:0] = [str(HERE), str(ROOT / "tests" / "c")]
 
 import turn_client  # noqa: E402
 
 samples: Any = importlib.import_module("samples")
 base: Any = importlib.import_module("samples_base")
 
-HEADER = (ROOT / "include" / "turn_client.h").read_text()
+INCLUDE = ROOT / "bindings" / "c" / "include"
+HEADER = (INCLUDE / "turn_client.h").read_text()
 NUMBERS = {name: int(value) for name, value in re.findall(r"\b(TURN_[A-Z0-9_]+) = (-?\d+)", HEADER)}
 CC = os.environ.get("CC", "cc")
 LIBRARY = turn_client._library()
@@ -644,7 +646,7 @@ class Structs(unittest.TestCase):
         with tempfile.TemporaryDirectory() as folder:
             source, program = Path(folder, "probe.c"), Path(folder, "probe")
             source.write_text(f'#include <stdio.h>\n#include "turn_client.h"\nint main(void) {{\n{lines}}}\n')
-            subprocess.run([CC, "-std=c11", "-I", ROOT / "include", "-o", program, source], check=True)
+            subprocess.run([CC, "-std=c11", "-I", INCLUDE, "-o", program, source], check=True)
             told = subprocess.run([program], check=True, capture_output=True, text=True).stdout
         return [int(it) for it in told.split()]
 

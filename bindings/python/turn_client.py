@@ -499,7 +499,7 @@ _CALLS: dict[str, tuple[Any, Sequence[Any]]] = {
 }
 
 
-_UNPROVED = "libturn_client_unproved.so"  # which c/try makes, for tests
+_UNPROVED = "libturn_client_unproved.so"  # which bindings/c/try makes, for tests
 
 
 def _is_released_for_here() -> bool:
@@ -517,7 +517,7 @@ def _library() -> Path:
     if not _is_released_for_here():
         raise ImportError(f"{name} is made for x86-64 Linux with glibc, and this is {platform.platform()}")
     beside = here / name
-    return beside if beside.exists() else here.parent / "dist" / "x86_64-linux-gnu" / name
+    return beside if beside.exists() else here.parent.parent / "dist" / "x86_64-linux-gnu" / name
 
 
 def _loaded(path: Path) -> dict[str, Callable[..., Any]]:

@@ -1,14 +1,14 @@
 //! Finds `libturn_client.a`: in the folder that `TURN_CLIENT_LIB` names by its whole path, or else in
-//! `../dist/x86_64-linux-gnu`, which each clone has. The crate learns the folder as `TURN_CLIENT_FOLDER`.
+//! `../../dist/x86_64-linux-gnu`, which each clone has. The crate learns the folder as `TURN_CLIENT_FOLDER`.
 
 use std::env;
 use std::path::{Path, PathBuf};
 use std::process::ExitCode;
 
 const NAME: &str = "turn_client";
-/// The library that `c/try` makes without proofs. It wants the runtime of AddressSanitizer.
+/// The library that `bindings/c/try` makes without proofs. It wants the runtime of AddressSanitizer.
 const UNPROVED: &str = "turn_client_unproved";
-const RELEASED: &str = "../dist/x86_64-linux-gnu";
+const RELEASED: &str = "../../dist/x86_64-linux-gnu";
 const VARIABLE: &str = "TURN_CLIENT_LIB";
 /// What the released archive is compiled for, in cargo's words.
 const PLATFORM: [(&str, &str); 3] = [

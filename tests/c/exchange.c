@@ -4,7 +4,7 @@
  *
  *     cc -std=c11 -Wall -Wextra exchange.c steps.c $(pkg-config --cflags --libs turn_client) -o exchange && ./exchange
  *
- * c/check does so. A line for each part tells how many checks it passed, and each that failed has a line of its own.
+ * `check` does so. A line for each part tells how many checks it passed, and each that failed has a line of its own.
  * The last line is `exchange: N passed, M failed`; the exit status is 0 where M is 0, else 1. */
 #include "steps.h"
 

@@ -1,6 +1,6 @@
 /* refuse.c: refuses the library one of its allocations, and counts the blocks that it holds (refuse.h). It is linked
- * by -Wl,--wrap=malloc,--wrap=realloc,--wrap=free: into refused.c, and by bench/refused_client.py into a shared
- * library. */
+ * by -Wl,--wrap=malloc,--wrap=realloc,--wrap=free: into refused.c, and by tests/memory/refused_client.py into a
+ * shared library. */
 #include "refuse.h"
 
 #include <stddef.h>

@@ -5,7 +5,7 @@
  *     cc -std=c11 -Wall -Wextra refused.c refuse.c steps.c $(pkg-config --cflags --libs turn_client) \
  *         -Wl,--wrap=malloc,--wrap=realloc,--wrap=free -o refused && ./refused
  *
- * c/check does so. A line for each exchange tells how many allocations it has. The last line is `refused: N passed, M
+ * `check` does so. A line for each exchange tells how many allocations it has. The last line is `refused: N passed, M
  * failed`, of the allocations that were refused; the exit status is 0 where M is 0, else 1. */
 #include "refuse.h"
 #include "steps.h"

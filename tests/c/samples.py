@@ -2,7 +2,7 @@
 """Writes samples.h: exchanges of a client with a server, as steps (steps.h): what the client is given, and what it has
 to answer and to send.
 
-    c/samples.py
+    tests/c/samples.py
 
 None of it is the client's own output: what is sent either way is worked out by the RFCs (samples_base.py). When a
 request goes out, and when what is held is to be renewed, is as crates/turn_client_proto/CALLING.md says.

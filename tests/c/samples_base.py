@@ -1,8 +1,8 @@
 """What samples.py makes its exchanges of: messages, their numbers, and steps as they are written in C (steps.h).
 
 Messages are written here by RFC 8489, RFC 8656 and RFC 6062, with the digests of hashlib and hmac, and numbered by the
-words of ChaCha20 under the seed of the client, three a number, the first of them highest. What is written as in bench/
-is taken from there.
+words of ChaCha20 under the seed of the client, three a number, the first of them highest. What is written as in
+tests/oracle is taken from there.
 """
 
 import hashlib
@@ -13,18 +13,18 @@ import sys
 from pathlib import Path
 
 HERE = Path(__file__).resolve().parent
-sys.path.insert(0, str(HERE.parent / "bench"))
+sys.path.insert(0, str(HERE.parent / "oracle"))
 
-from attempts import CONNECTION_ATTEMPT  # noqa: E402
-from connections import CONNECT, CONNECTION_ID  # noqa: E402
-from payloads import DATA, ICMP, SEND, TOLD, fingerprinted, frame  # noqa: E402
-from sockets import CONNECTION_BIND  # noqa: E402
-from traces import (  # noqa: E402
+from traces_attempts import CONNECTION_ATTEMPT  # noqa: E402
+from traces_base import (  # noqa: E402
     ADDITIONAL_FAMILY, ALLOCATE, CHANNEL, CHANNEL_BIND, CREATE_PERMISSION, DONT_FRAGMENT, ERROR, FAMILY, INDICATION,
     INTEGRITY, INTEGRITY_SHA256, INTEGRITY_SHA512, MAGIC, MAPPED, MS, NONCE, PASSWORD_ALGORITHM, PASSWORD_ALGORITHMS,
     PEER, REALM, REFRESH, RELAYED_KIND, SECOND, SUCCESS, TRANSPORT, USERHASH, USERNAME, V6, attribute, block, code,
     lifetime, xored,
 )
+from traces_connection_sockets import CONNECTION_BIND  # noqa: E402
+from traces_connections import CONNECT, CONNECTION_ID  # noqa: E402
+from traces_payloads import DATA, ICMP, SEND, TOLD, fingerprinted, frame  # noqa: E402
 
 SEED = bytes(range(1, 33))
 NAME, SECRET, DOMAIN = b"alice", b"secret", b"example.org"

@@ -1,6 +1,6 @@
 /* steps.c: makes the call of a step, gathers what it told, and compares that with what is wanted (steps.h).
  *
- * It has no program of its own: c/check and c/bench.c say how it is built. */
+ * It has no program of its own: `check` and bench/c_calls.c say how it is built. */
 #include "steps.h"
 
 #include <string.h>

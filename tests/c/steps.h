@@ -1,8 +1,8 @@
 /* steps.h: exchanges of a client with a server as tables, one step for each call of turn_client.h: what the call is
- * given, and what is wanted of it. samples.py writes the tables (samples.h); exchange.c, refused.c and bench.c walk
- * them by what is declared here and stands in steps.c.
+ * given, and what is wanted of it. samples.py writes the tables (samples.h); exchange.c, refused.c and bench/c_calls.c
+ * walk them by what is declared here and stands in steps.c.
  *
- * Built with each of these three, as c/check does: cc -Iinclude exchange.c steps.c ... */
+ * Built with each of these three, as `check` does: cc -I../../bindings/c/include exchange.c steps.c ... */
 #ifndef STEPS_H
 #define STEPS_H
 
@@ -41,7 +41,7 @@ struct told {
 
 /* A call, what it is given, and what is wanted of it. */
 struct step {
-    const char *name;         /* what it shows; in bench.c what is timed */
+    const char *name;         /* what it shows; in c_calls.c what is timed */
     enum call call;
     uint64_t now;
     uint32_t transport;
@@ -50,7 +50,7 @@ struct step {
                                  socket is `from` */
     struct bytes bytes;
     size_t less;              /* by so many bytes the buffer is too small */
-    unsigned repeats;         /* in bench.c: how often it is called, where that changes nothing; 0 is once */
+    unsigned repeats;         /* in c_calls.c: how often it is called, where that changes nothing; 0 is once */
     struct told want;
 };
 
@@ -89,7 +89,7 @@ struct walker {
     uint8_t out[OUT_MAX];
 };
 
-/* The exchanges of samples.h, and those of which bench.c times the steps. */
+/* The exchanges of samples.h, and those of which bench/c_calls.c times the steps. */
 extern const struct exchange exchanges[], timed[];
 extern const size_t exchange_count, timed_count;
 

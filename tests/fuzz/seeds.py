@@ -1,15 +1,15 @@
 #!/usr/bin/env python3
 """seeds.py FOLDER: writes inputs for fuzz.c to begin with.
 
-They walk each exchange of c/samples.h to each fifth step, do each operation there, and walk on; and they hand in each
-of its stored texts behind some steps. What the numbers mean is said in fuzz.c.
+They walk each exchange of tests/c/samples.h to each fifth step, do each operation there, and walk on; and they hand in
+each of its stored texts behind some steps. What the numbers mean is said in fuzz.c.
 """
 
 import os
 import re
 import sys
 
-EXCHANGES = [*range(10), 129, 131]  # the first byte: the ten exchanges, and the two that bench.c times
+EXCHANGES = [*range(10), 129, 131]  # the first byte: the ten exchanges, and the two that bench/c_calls.c times
 STEPS = range(0, 126, 5)
 WALK_SOME, FEED_ANY, OPERATIONS, FIRST_CALL, CALLS = 0, 5, 14, 32, 13
 GIVEN, REFUSED = (1, 2, 3, 5, 8), (4, 1, 0, 0, 0)  # arguments; the first of the second is no transport

@@ -1,9 +1,9 @@
 #!/usr/bin/env python3
 """Makes hostile traces, runs them through `turn_replay`, and judges what they are answered.
 
-    bench/hostile.py SEED COUNT [PROGRAM]   makes and judges COUNT traces of a seed
-    bench/hostile.py store [PROGRAM]        writes 200 of the seed 0 to bench/hostile.traces
-    bench/hostile.py stored [PROGRAM]       judges those that are stored, and that the judge sees what is falsified
+    tests/hostile/hostile.py SEED COUNT [PROGRAM]   makes and judges COUNT traces of a seed
+    tests/hostile/hostile.py store [PROGRAM]        writes 200 of the seed 0 to `hostile.traces`
+    tests/hostile/hostile.py stored [PROGRAM]       judges those, and that the judge sees what is falsified
 
 Traces are made by `hostile_courses.py` in rounds: a course is told what its lines were answered before it goes on.
 Each trace that is whole runs twice more than was needed to make it; `hostile_judge.py` judges the first answers, and
@@ -22,13 +22,16 @@ import tempfile
 import time
 from pathlib import Path
 
-TOP = Path(__file__).resolve().parent.parent
+TOP = Path(__file__).resolve().parents[2]
 sys.dont_write_bytecode = True
-sys.path.append(str(TOP / "tools"))
+sys.path += [str(TOP / "tools"), str(TOP / "tests/oracle")]
 
 import programs  # noqa: E402
+from hostile_courses import begun, dice_of, goes_further  # noqa: E402
+from hostile_falsified import unseen  # noqa: E402
+from hostile_judge import fault  # noqa: E402
 
-STORED = TOP / "bench/hostile.traces"
+STORED = TOP / "tests/hostile/hostile.traces"
 STORED_COUNT = 200
 ROUNDS = 12
 BATCH = 200
@@ -190,10 +193,4 @@ def stored(program):
 
 
 if __name__ == "__main__":
-    # what is imported leaves no folder of compiled files behind
-    sys.dont_write_bytecode = True
-    from hostile_courses import begun, dice_of, goes_further
-    from hostile_falsified import unseen
-    from hostile_judge import fault
-
     sys.exit(main())

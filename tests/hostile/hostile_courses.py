@@ -12,7 +12,7 @@ import random
 from hostile_judge import BAD, CLIENT_END
 from hostile_messages import BY, REQUEST, hash_of, key_of, read, written
 from hostile_spoiled import spoiled
-from traces import (
+from traces_base import (
     ALLOCATE, CHANNEL, ERROR, ERROR_CODE, INTEGRITY, INTEGRITY_SHA256, INTEGRITY_SHA512, LIFETIME, MS, NONCE,
     PASSWORD_ALGORITHMS, PEER, REALM, RELAYED_KIND, SECOND, SUCCESS, UNKNOWN, USERHASH, xored,
 )

@@ -6,7 +6,7 @@ the header that tell a length may be others, for a signature tells its own (RFC 
 """
 
 from hostile_messages import INDICATION, SUCCESS, REQUEST, address_in, header, host_of, is_signed, number_in, read
-from traces import ALLOCATE, CHANNEL, CHANNEL_BIND, CREATE_PERMISSION, MAGIC, PEER, RELAYED_KIND, TRANSPORT
+from traces_base import ALLOCATE, CHANNEL, CHANNEL_BIND, CREATE_PERMISSION, MAGIC, PEER, RELAYED_KIND, TRANSPORT
 
 CONNECT, CONNECTION_BIND, CONNECTION_ATTEMPT, CONNECTION_ID = 0x00A, 0x00B, 0x00C, 0x2A
 TRANSPORTS = {17: "udp", 6: "tcp"}

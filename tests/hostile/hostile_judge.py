@@ -16,7 +16,7 @@ from hostile_grants import CONNECTION_ATTEMPT, CONNECTION_ID, Grant, Grants, is_
 from hostile_messages import (
     ERROR, INDICATION, REQUEST, SUCCESS, address_in, host_of, is_drawn, is_named, is_signed, number_in, read,
 )
-from traces import ERROR_CODE, LIFETIME, PEER, REALM, RELAYED_KIND, SECOND
+from traces_base import ERROR_CODE, LIFETIME, PEER, REALM, RELAYED_KIND, SECOND
 
 SERVED = (0x003, 0x004, 0x008, 0x009, 0x00A, 0x00B)
 CLIENT_END = 2**62

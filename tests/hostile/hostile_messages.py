@@ -12,7 +12,7 @@ import struct
 import zlib
 from typing import NamedTuple, Optional
 
-from traces import INTEGRITY, INTEGRITY_SHA256, INTEGRITY_SHA512, MAGIC, USERHASH, USERNAME, attribute, block
+from traces_base import INTEGRITY, INTEGRITY_SHA256, INTEGRITY_SHA512, MAGIC, USERHASH, USERNAME, attribute, block
 
 REQUEST, INDICATION, SUCCESS, ERROR = range(4)
 FINGERPRINT = 0x8028

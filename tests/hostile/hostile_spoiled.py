@@ -4,7 +4,7 @@ import hashlib
 import struct
 
 from hostile_messages import FINGERPRINT, attributes_of, crc_of, header, read
-from traces import CHANNEL, attribute
+from traces_base import CHANNEL, attribute
 
 
 KINDS = (

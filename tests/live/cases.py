@@ -3,7 +3,7 @@
 import time
 from dataclasses import dataclass, replace
 
-ALL_BACK, SOME_LOST, BAD_USAGE, FAILED, NO_ANSWER = range(5)  # exit status, as c/turn_client.c --help tells it
+ALL_BACK, SOME_LOST, BAD_USAGE, FAILED, NO_ANSWER = range(5)  # exit status, as turn_client --help tells it
 LIMIT = 120  # seconds that a case may take
 MANY = 1000  # payloads each way
 

@@ -7,7 +7,7 @@ import subprocess
 import sys
 from dataclasses import dataclass
 
-ROOT = os.path.dirname(os.path.dirname(os.path.abspath(__file__)))
+ROOT = os.path.abspath(os.path.join(os.path.dirname(__file__), "..", ".."))
 LIBRARY = os.path.join(ROOT, "dist", "x86_64-linux-gnu")  # the folder of the released library
 OWN_INTERVAL = 1  # milliseconds between two payloads, of a program that has no such option
 PEERS = {"run": ["--peer"], "stream": ["--connect"], "echo": ["--echo"], "none": []}  # by which it learns its peer
@@ -88,24 +88,24 @@ def _build(command, cwd, log):
 
 
 def of_c(archive, folder):
-    """c/turn_client.c under sanitizers. The archive is proved code, and isn't instrumented."""
-    name, made = "c/turn_client.c", os.path.join(folder, "turn_client")
+    """bindings/c/turn_client.c under sanitizers. The archive is proved code, and isn't instrumented."""
+    name, made = "bindings/c/turn_client.c", os.path.join(folder, "turn_client")
     compiler = os.environ.get("CC") or shutil.which("clang") or "cc"
     library = os.path.join(archive, "libturn_client.a")
     if not os.path.exists(library):
         return [Absent(name, f"there is no {library}")]
     command = [compiler, "-std=c11", *SANITIZERS, "-Wall", "-Wextra", "-I" + archive, *C_FILES, library, "-o", made]
-    if not _build(command, os.path.join(ROOT, "c"), os.path.join(folder, "build-c.log")):
+    if not _build(command, os.path.join(ROOT, "bindings", "c"), os.path.join(folder, "build-c.log")):
         return [Absent(name, "it isn't built: see build-c.log")]
     return [_made(name, [made], ("udp", "tcp"))]
 
 
 def of_rust(archive, folder):
-    """The examples of rust/, each over one transport."""
-    source = os.path.join(ROOT, "rust")
-    names = {kind: f"rust/examples/{kind}.rs" for kind in ("udp", "tcp")}
+    """The examples of bindings/rust/, each over one transport."""
+    source = os.path.join(ROOT, "bindings", "rust")
+    names = {kind: f"bindings/rust/examples/{kind}.rs" for kind in ("udp", "tcp")}
     if not os.path.isdir(source) or shutil.which("cargo") is None:
-        return [Absent(name, "no folder rust/, or no cargo") for name in names.values()]
+        return [Absent(name, "no folder bindings/rust/, or no cargo") for name in names.values()]
     target = os.path.join(folder, "rust-target")
     build = ["env", "TURN_CLIENT_LIB=" + archive, "CARGO_TARGET_DIR=" + target,
              "cargo", "build", "--offline", "--release", "--examples"]
@@ -115,10 +115,10 @@ def of_rust(archive, folder):
 
 
 def of_python(archive, folder):
-    """python/example.py, with the shared library that python/build makes of the archive."""
-    name, source = "python/example.py", os.path.join(ROOT, "python")
+    """bindings/python/example.py, with the shared library that bindings/python/build makes of the archive."""
+    name, source = "bindings/python/example.py", os.path.join(ROOT, "bindings", "python")
     if not os.path.isdir(source):
-        return [Absent(name, "no folder python/")]
+        return [Absent(name, "no folder bindings/python/")]
     copy = os.path.join(folder, "python")
     shutil.copytree(source, copy, dirs_exist_ok=True, ignore=shutil.ignore_patterns(".*", "__pycache__"))
     library = os.path.join(archive, "libturn_client.a")

@@ -20,9 +20,9 @@ import sys
 from functools import cache
 from pathlib import Path
 
-TOP = Path(__file__).resolve().parent.parent
+TOP = Path(__file__).resolve().parents[2]
 CRATES = TOP / "crates"
-ROWS = TOP / "bench/ample.rows"
+ROWS = TOP / "tests/memory/ample.rows"
 FACES = ("stun_types", "turn_types", "stun_proto", "turn_client_proto", "turn_desk")
 REFUSED = ("NoMemory", "AllocError")
 DEFINED = re.compile(r"\bpub (?:struct|enum|trait) (\w+)")

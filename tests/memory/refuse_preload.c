@@ -1,6 +1,6 @@
 // Refuses a program one of its allocations, and counts them. Built as a shared library, it is loaded
 // before the C library (LD_PRELOAD), so that its malloc and realloc are the ones that are called;
-// `refused-memory` does both.
+// `check` does both.
 //
 // Two variables of the environment say what to do:
 //   REFUSE_NUMBER  which allocation is refused, counted from 1; 0: none

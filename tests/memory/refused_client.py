@@ -1,10 +1,10 @@
 #!/usr/bin/env python3
 """Takes a client through whole courses, and refuses it each of its allocations in turn.
 
-    bench/refused_client.py
+    tests/memory/refused_client.py
 
-`.ci/refused-memory` runs it. The client is python/turn_client.py over a shared library of `libturn_client.a`
-(that of dist/; TURN_CLIENT_LIB names another folder, CC another compiler), in which `c/refuse.c` counts the
+`tests/memory/check` runs it. The client is bindings/python/turn_client.py over a shared library of `libturn_client.a`
+(that of dist/; TURN_CLIENT_LIB names another folder, CC another compiler), in which `tests/c/refuse.c` counts the
 allocations. The courses stand in `refused_courses.py`, the server in
 `refused_server.py`, how two runs are compared in `refused_walk.py`. No answer is stored: a run that is
 refused memory is held against the one that isn't.
@@ -23,28 +23,26 @@ A line for each course tells how many allocations it has. The last line is `clie
 the exit status is 0 where M is 0.
 """
 
+import ctypes
+import importlib
+import os
+import subprocess
 import sys
+import tempfile
+from pathlib import Path
 
-# bench/inspect.py is not the one that the standard library knows
-sys.path.append(sys.path.pop(0))
+TOP = Path(__file__).resolve().parents[2]
 sys.dont_write_bytecode = True
-
-import ctypes  # noqa: E402
-import importlib  # noqa: E402
-import os  # noqa: E402
-import subprocess  # noqa: E402
-import tempfile  # noqa: E402
-from pathlib import Path  # noqa: E402
+sys.path += [str(TOP / "tests/oracle"), str(TOP / "tests/hostile")]
 
 from refused_courses import A, B, COURSES  # noqa: E402
 from refused_server import data, framed  # noqa: E402
 from refused_walk import Failed, Fault, Walk, pair  # noqa: E402
 
-TOP = Path(__file__).resolve().parent.parent
 FOLDER = Path(os.environ.get("TURN_CLIENT_LIB") or TOP / "dist/x86_64-linux-gnu")
 UNPROVED = FOLDER / "libturn_client_unproved.a"
 ARCHIVE = UNPROVED if UNPROVED.exists() else FOLDER / "libturn_client.a"
-# what the library that c/try makes wants, and a name that it has for that
+# what the library that bindings/c/try makes wants, and a name that it has for that
 SANITIZER = ["-fsanitize=address"] * (ARCHIVE is UNPROVED)
 OPTIONS = "__asan_default_options; " * (ARCHIVE is UNPROVED)
 # more allocations than a course has
@@ -62,10 +60,10 @@ class Library:
         how += [f"-Wl,--version-script={names}"]
         how += [f"-Wl,--wrap={it}" for it in ("malloc", "realloc", "free")]
         archive = ["-Wl,--whole-archive", ARCHIVE, "-Wl,--no-whole-archive"]
-        given = [TOP / "c/refuse.c", *archive]
+        given = [TOP / "tests/c/refuse.c", *archive]
         subprocess.run([os.environ.get("CC", "cc"), *how, "-o", path, *given], check=True)
         os.environ["TURN_CLIENT_LIB"] = room
-        sys.path.append(str(TOP / "python"))
+        sys.path.append(str(TOP / "bindings/python"))
         self.turn = importlib.import_module("turn_client")
         counters = ctypes.CDLL(path)
         self.left, self.held = (ctypes.c_long.in_dll(counters, it) for it in ("refuse_left", "refuse_held"))

@@ -7,12 +7,12 @@ holds as time passes.
 
 from typing import Callable, NamedTuple
 
-from connections import CONNECT
-from payloads import frame
 from refused_server import FEATURED, OTHER, SERVER, Server, attempt, data, framed, report
 from refused_walk import MS, SECOND, TCP, UDP, pair
-from sockets import CONNECTION_BIND
-from traces import ALLOCATE, CHANNEL_BIND, CREATE_PERMISSION, REFRESH
+from traces_base import ALLOCATE, CHANNEL_BIND, CREATE_PERMISSION, REFRESH
+from traces_connection_sockets import CONNECTION_BIND
+from traces_connections import CONNECT
+from traces_payloads import frame
 
 ONE, TWO, THREE, SIX = "198.51.100.1:9000", "198.51.100.2:9001", "198.51.100.3:9002", "[2001:db8::7]:9003"
 MANY = [f"198.51.100.{it}:9000" for it in range(10, 20)]

@@ -17,8 +17,8 @@ import hmac
 import re
 
 from hostile_messages import BY, FINGERPRINT, covered, read, with_length, written
-from payloads import fingerprinted
-from traces import attribute
+from traces_base import attribute
+from traces_payloads import fingerprinted
 
 ONLY_READ = (
     "stream", "judge", "raw", "check", "plain", "look", "header", "frame", "number", "transport", "family",

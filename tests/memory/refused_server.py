@@ -1,22 +1,22 @@
 """The server of the courses in which a client is refused memory, and how messages are read and shown there.
 
 It has one user, and answers each request by RFC 8489, RFC 8656 and RFC 6062, whatever number that has.
-Messages are read by `hostile_messages.py`, and written and signed by `traces.py`.
+Messages are read by `hostile_messages.py`, and written and signed by `traces_base.py`.
 """
 
 import struct
 from functools import lru_cache
 
-from attempts import CONNECTION_ATTEMPT
-from connections import CONNECT, CONNECTION_ID
 from hostile_messages import FINGERPRINT, REQUEST, address_in, is_named, is_signed, read
-from payloads import DATA, ICMP, TOLD, frame
-from sockets import CONNECTION_BIND
-from traces import (
+from traces_attempts import CONNECTION_ATTEMPT
+from traces_base import (
     ADDITIONAL_FAMILY, ALLOCATE, CHANNEL_BIND, CREATE_PERMISSION, ERROR, FAMILY, LIFETIME, MAPPED, NONCE,
     PASSWORD_ALGORITHMS, PEER, REALM, REFRESH, RELAYED_KIND, SHA1, SHA256, SHA512, SUCCESS, code, lifetime, message,
     xored,
 )
+from traces_connection_sockets import CONNECTION_BIND
+from traces_connections import CONNECT, CONNECTION_ID
+from traces_payloads import DATA, ICMP, TOLD, frame
 
 USER, DOMAIN, SECRET = "user", "realm", "pass"
 OWN, SERVER = "192.0.2.1:5000", "192.0.2.2:3478"

@@ -5,7 +5,7 @@ It is written apart from the library, from the RFCs, over Python's hmac, hashlib
 unicodedata, and makes the stored output of crates/stun_inspect, which the gate holds against what the
 program prints:
 
-    python3 bench/inspect.py <crates/stun_inspect/stdin >crates/stun_inspect/stdout
+    tests/oracle/dissector.py <crates/stun_inspect/stdin >crates/stun_inspect/stdout
 """
 import hashlib
 import hmac

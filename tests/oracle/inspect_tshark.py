@@ -6,7 +6,7 @@ and the sends of examples/*.out are. Each goes as one UDP datagram to port 3478 
 which tshark reads. Compared are class, method and transaction ID, the type of each attribute, and its
 value where both read it; of a frame its channel and its data:
 
-    python3 bench/inspect_tshark.py [PROGRAM]
+    tests/oracle/inspect_tshark.py [PROGRAM]
 
 PROGRAM is by default crates/stun_inspect/out/stun_inspect, or `rt try` where that isn't built. Each
 difference that KNOWN doesn't name is a line; the last line is `tshark: N messages, M attributes
@@ -22,7 +22,7 @@ import xml.etree.ElementTree as ElementTree
 from collections import Counter
 from pathlib import Path
 
-TOP = Path(__file__).resolve().parent.parent
+TOP = Path(__file__).resolve().parents[2]
 CRATE = TOP / "crates/stun_inspect"
 CLASSES = {0x00: "request", 0x01: "indication", 0x10: "success", 0x11: "error"}
 TEXTS = {

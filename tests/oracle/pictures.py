@@ -3,9 +3,9 @@
 
 It reads examples/NAME.trace, its answers examples/NAME.out, and the picture, and works out from the first
 two alone which groups, arrows and labels the third has to have (docs/TRACE.md). What a message shows is
-read by bench/inspect.py, which shares no code with the library:
+read by `dissector.py`, which shares no code with the library:
 
-    python3 bench/pictures.py [TRACE OUT SVG]...
+    tests/oracle/pictures.py [TRACE OUT SVG]...
 
 Without arguments it judges the picture of each example. Where the lines of the client and of the desk
 stand, and where the network lies, it takes from the picture itself. How wide a label is, is an estimate
@@ -17,10 +17,14 @@ import sys
 import xml.etree.ElementTree as ElementTree
 from bisect import bisect_left, bisect_right
 from collections import namedtuple
-from importlib.util import module_from_spec, spec_from_file_location
 from pathlib import Path
 
-TOP = Path(__file__).resolve().parent.parent
+# what is imported leaves no folder of compiled files behind
+sys.dont_write_bytecode = True
+
+import dissector
+
+TOP = Path(__file__).resolve().parents[2]
 XMLNS = "{http://www.w3.org/2000/svg}"
 SETUP = ("desk", "user", "rto", "client")
 # the event lines whose second word is no moment
@@ -54,17 +58,6 @@ Arrow = namedtuple("Arrow", "start end at kind")
 Label = namedtuple("Label", "text column at left right top bottom")
 # Where the lines of client and desk stand, where the network lies, and how far down the picture goes.
 Ground = namedtuple("Ground", "client near far desk height")
-
-
-def read_by_itself(name):
-    """A script of this directory, under another name: `inspect` is one of the standard library, too."""
-    spec = spec_from_file_location(f"bench_{name}", TOP / f"bench/{name}.py")
-    module = module_from_spec(spec)
-    spec.loader.exec_module(module)
-    return module
-
-
-DISSECTOR = read_by_itself("inspect")
 
 
 # ---- what a trace and its answers say
@@ -126,7 +119,7 @@ def shown_of(words, answer):
 
 def message_in_lines(data):
     """Of a message its name, each attribute of interest, and by what it is signed; None of other bytes."""
-    facts = DISSECTOR.message(data, None)[1:]
+    facts = dissector.message(data, None)[1:]
     if facts[0].startswith("refused "):
         return None
     (_, group), (_, _, method), (_, number) = (it.split(" ") for it in facts[:3])
@@ -147,7 +140,7 @@ def bytes_in_lines(data):
     """What bytes are: a message, a channel frame, or so many bytes."""
     if lines := message_in_lines(data):
         return lines
-    facts = DISSECTOR.frame(data)[1:]
+    facts = dissector.frame(data)[1:]
     if facts[0].startswith("refused "):
         return [f"{len(data)} bytes", data.hex() or "-"]
     channel, told = (it.split(" ")[1] for it in facts[:2])

@@ -13,13 +13,13 @@ from pathlib import Path
 # what is imported leaves no folder of compiled files behind
 sys.dont_write_bytecode = True
 
-from payloads import DATA, SEND, frame
 from rows_proto_base import BINDING, DEFAULT, GREATEST, HERE, HOUR, LONGEST, THERE, Waits, message as bare
 from rows_wire_base import NUMBER, ROWS, SMALL, part, row, write
 from rows_wire_frames import TCP_WAY
-from traces import INDICATION, MS, PEER, message, xored
+from traces_base import INDICATION, MS, PEER, message, xored
+from traces_payloads import DATA, SEND, frame
 
-CRATE = Path(__file__).resolve().parent.parent / "crates/turn_rows_client"
+CRATE = Path(__file__).resolve().parents[2] / "crates/turn_rows_client"
 
 
 # ---- settings, and the agent that they make

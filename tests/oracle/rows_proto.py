@@ -4,7 +4,7 @@
 It knows nothing of the repository's code. What an agent of requests answers is worked out in
 `rows_proto_agent.py`; what digests, keys and nonces answer, in `rows_proto_values.py`; and what the
 authenticators answer, in `rows_proto_auth.py`. What reaches these is in `rows_proto_parties.py`, and of three
-algorithms in `rows_proto_three.py`. It writes `stdin` and `stdout` of the crate.
+algorithms in `rows_proto_three_algorithms.py`. It writes `stdin` and `stdout` of the crate.
 """
 
 import sys
@@ -15,11 +15,11 @@ sys.dont_write_bytecode = True
 
 import rows_proto_agent
 import rows_proto_parties
-import rows_proto_three
+import rows_proto_three_algorithms
 import rows_proto_values
 from rows_proto_base import Section
 
-TOP = Path(__file__).resolve().parent.parent
+TOP = Path(__file__).resolve().parents[2]
 
 
 def bad_heads():
@@ -50,7 +50,7 @@ def sections():
     yield from rows_proto_values.sections()
     yield from rows_proto_parties.clients()
     yield from rows_proto_parties.servers()
-    yield from rows_proto_three.sections()
+    yield from rows_proto_three_algorithms.sections()
     yield from bad_heads()
 
 

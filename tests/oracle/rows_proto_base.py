@@ -3,7 +3,7 @@
 import struct
 from typing import NamedTuple, Optional
 
-from traces import ALLOCATE, BINDING, ERROR, INDICATION, MAGIC, MS, SECOND, SUCCESS
+from traces_base import ALLOCATE, BINDING, ERROR, INDICATION, MAGIC, MS, SECOND, SUCCESS
 
 REQUEST = 0x000
 GREATEST = 2**64 - 1

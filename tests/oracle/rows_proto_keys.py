@@ -9,7 +9,7 @@ import struct
 from typing import NamedTuple, Optional
 
 from rows_proto_base import MAGIC, message
-from traces import (
+from traces_base import (
     ERROR_CODE, INTEGRITY, INTEGRITY_SHA256, NONCE, PASSWORD_ALGORITHM, PASSWORD_ALGORITHMS, REALM, TRANSPORT, USERHASH,
     USERNAME, attribute as attribute_of, block,
 )

@@ -20,7 +20,7 @@ import rows_wire_messages
 import rows_wire_written
 from rows_wire_base import write
 
-CRATE = Path(__file__).resolve().parent.parent / "crates/turn_rows_wire"
+CRATE = Path(__file__).resolve().parents[2] / "crates/turn_rows_wire"
 
 
 def main():

@@ -10,7 +10,7 @@ from rows_wire_base import (
     COOKIE, FAILED, INVALID, NUMBER, Refused, SAMPLES, SMALL, WRONG, answer_of, into, part, row, too_large, too_long,
     too_small, truncated,
 )
-from traces import attribute, xored
+from traces_base import attribute, xored
 
 # ---- attributes as they are made (RFC 8489, section 14; RFC 8656, section 18; RFC 6062, section 6.2)
 

@@ -3,8 +3,8 @@
 import struct
 import zlib
 
-from payloads import DATA_METHOD as DATA, SEND
-from traces import ALLOCATE, BINDING, CHANNEL_BIND, MAGIC
+from traces_base import ALLOCATE, BINDING, CHANNEL_BIND, MAGIC
+from traces_payloads import DATA_METHOD as DATA, SEND
 
 COOKIE = struct.pack(">I", MAGIC)
 CLASSES = ["request", "indication", "success", "error"]

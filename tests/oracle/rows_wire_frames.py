@@ -5,7 +5,7 @@ import struct
 from rows_wire_base import (
     COOKIE, DATA, NOT_STUN, NUMBER, Refused, SEND, UNSIGNED, answer_of, into, part, row, truncated,
 )
-from traces import message, xored
+from traces_base import message, xored
 
 # ---- streams (RFC 8656, section 12.5)
 

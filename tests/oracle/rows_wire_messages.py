@@ -6,12 +6,12 @@ import itertools
 import struct
 import zlib
 
+from rows_wire_attributes import LONG_6, read
 from rows_wire_base import (
     BINDING, CLASSES, COOKIE, DATA, INVALID, MISMATCH, NOT_STUN, NUMBER, Refused, SEND, SMALL, UNSIGNED,
     UNSIGNED_TEXT, answer_of, missing, part, row, too_long, truncated,
 )
-from rows_wire_attributes import LONG_6, read
-from traces import attribute, message, xored
+from traces_base import attribute, message, xored
 
 # ---- types of messages, headers, numbers (RFC 8489, section 5)
 

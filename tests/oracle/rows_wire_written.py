@@ -2,16 +2,16 @@
 
 import struct
 
+from rows_wire_attributes import REASONS, types
 from rows_wire_base import (
     ALLOCATE, BINDING, CHANNEL_BIND, CLASSES, FAILED, MARKED_TEXT, Refused, SIGNED_TEXT, SMALL, UNSIGNED, answer_of,
     exists, part, row, too_large, too_small,
 )
-from rows_wire_attributes import REASONS, types
 from rows_wire_messages import (
     DIGESTS, FINGERPRINT, INTEGRITY, INTEGRITY_SHA256, INTEGRITY_SHA512, PASSWORD, PION, RANKS, SAMPLE, USER,
     attributes_of, crc, hmac_of, message_type, signed, type_told,
 )
-from traces import attribute, block, message, xored
+from traces_base import attribute, block, message, xored
 
 # ---- messages that are written
 

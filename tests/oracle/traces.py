@@ -1,20 +1,23 @@
 #!/usr/bin/env python3
 """Makes traces of a client and a desk, and what their events are answered (`docs/TRACE.md`).
 
-It knows nothing of the repository's code: messages and numbers are written by `traces.py`. The moments
+It knows nothing of the repository's code: messages and numbers are written by `traces_base.py`. The moments
 were worked out by hand, from the waits that a client is documented to have. It was run once, and what it
 wrote is stored: nine examples, and the traces of a client and a desk in the stored run of `turn_replay`,
-behind those of a desk alone. Those with a stranger at the desk are in `strangers.py`, those of permissions
-in `permissions.py`, those of channels in `channels.py` and `channels_later.py`, those of sends and payloads
-in `payloads.py`, those of a client over TCP in `streams.py`, those of connections in `connections.py`, those
-of their sockets in `sockets.py`, those of what comes over these in `bound.py`, those of connections that
-peers begin in `attempts_later.py`, and those of a client that is never answered in `unanswered.py`.
+behind those of a desk alone.
+
+Here are the handshake, renewal and end of an allocation, each pair of settings, and what is no trace. Strangers at the
+desk are in `traces_other_addresses.py`, permissions in `traces_permissions.py`, channels in `traces_channels.py` and
+`traces_channel_lifetimes.py`, sends and payloads in `traces_payloads.py`, a client over TCP in `traces_tcp.py`.
+Connections are in `traces_connections.py`, their sockets in `traces_connection_sockets.py`, what comes over these in
+`traces_bound_connections.py`, connections that peers begin in `traces_attempt_timing.py`, and a client that is never
+answered in `traces_unanswered.py`.
 """
 
 import hashlib
 import sys
 
-from traces import (
+from traces_base import (
     ADDITIONAL_FAMILY, ALGORITHMS, ALLOCATE, BINDING, CLIENT, END, ERROR, FAMILY, INDICATION, MS, NAMED,
     NONCE, NONCES, OTHER, PASSWORD_ALGORITHM, PASSWORD_ALGORITHMS, REALM, REFRESH, REFUSED, RELAYED, SECOND,
     SERVER, SHA1, SIXTH, STALE, SUCCESS, TOP, Trace, UDP, UNKNOWN, USERHASH, USERNAME, V6, challenge, code,
@@ -564,16 +567,16 @@ def each_setting():
 
 def good_traces():
     # they take their words from this file
-    from attempts_later import attempt_traces
-    from bound import bound_traces
-    from channels_later import channel_traces
-    from payloads import payload_traces
-    from permissions import permission_traces
-    from connections import connection_traces
-    from sockets import socket_traces
-    from strangers import stranger_traces
-    from streams import stream_traces
-    from unanswered import unanswered_traces
+    from traces_attempt_timing import attempt_traces
+    from traces_bound_connections import bound_traces
+    from traces_channel_lifetimes import channel_traces
+    from traces_payloads import payload_traces
+    from traces_permissions import permission_traces
+    from traces_connections import connection_traces
+    from traces_connection_sockets import socket_traces
+    from traces_other_addresses import stranger_traces
+    from traces_tcp import stream_traces
+    from traces_unanswered import unanswered_traces
 
     yield from (
         handshake(), forged_grant(), repeated_grant(), reflected_request(),
@@ -700,12 +703,12 @@ def all_traces():
 
 
 def examples():
-    from attempts import example as example_of_attempts
-    from bound import example as example_of_connections
-    from channels import granted_channel_again
-    from payloads import example
-    from permissions import granted_reply_again
-    from streams import example as example_over_tcp
+    from traces_attempts import example as example_of_attempts
+    from traces_bound_connections import example as example_of_connections
+    from traces_channels import granted_channel_again
+    from traces_payloads import example
+    from traces_permissions import granted_reply_again
+    from traces_tcp import example as example_over_tcp
 
     yield "handshake", handshake()
     yield "forged", forged_challenge()

@@ -1,24 +1,24 @@
 """When the client's answers to attempts of peers go out, and how attempts end (`docs/TRACE.md`; RFC 6062, section 4.4).
-`attempts.py` has what an attempt is answered.
+`traces_attempts.py` has what an attempt is answered.
 
 Requests of the client's keep 50 ms apart, and an answer needn't: while the client rests from what it drew last, the
 first answer is drawn before the requests that wait. Else what waits is drawn in its order, and the client rests behind
 it, an answer or not. While an answer waits, `poll` tells nothing but that.
 """
 
-from attempts import NOW, UNTIL, answered_traces, asked, attempt, comes, is_refused, refusal, taken
-from attempts_beside import beside_traces
-from channels import SIX
-from connections import (
-    AT, CONNECT, NEXT_TO, OVER, THIRD, asking, asks, asks_socket, connect, decided, named, permitted, sent,
-)
-from permissions import DUE, PEER_1, PEER_3, RENEWAL
-from sockets import CONNECTION_BIND, ONE, bind, draws_from, lists, opens
-from traces import (
+from traces_attempts import NOW, UNTIL, answered_traces, asked, attempt, comes, is_refused, refusal, taken
+from traces_attempts_beside_connections import beside_traces
+from traces_base import (
     CREATE_PERMISSION, ERROR, HASHED, MS, NONCE, PEER, REALM, REFRESH, SHA1, USERNAME, Trace, code,
     create_permission, lifetime, message, number, refresh, setup, success, unsigned, xored,
 )
-from unbound import nine_before, tenth_ends
+from traces_channels import SIX
+from traces_connection_sockets import CONNECTION_BIND, ONE, bind, draws_from, lists, opens
+from traces_connections import (
+    AT, CONNECT, NEXT_TO, OVER, THIRD, asking, asks, asks_socket, connect, decided, named, permitted, sent,
+)
+from traces_permissions import DUE, PEER_1, PEER_3, RENEWAL
+from traces_unbound_connections import nine_before, tenth_ends
 
 
 # ---- when answers go out

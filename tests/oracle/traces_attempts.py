@@ -1,27 +1,28 @@
 """The traces of connections that peers begin (`docs/TRACE.md`; RFC 6062, section 4.4): CONNECTION_ATTEMPT, a request of
-the server's, and what the client answers. `attempts_beside.py` has attempts beside the client's own connections,
-`attempts_later.py` when the answers go out and how attempts end. `world.py` puts them behind bound connections.
+the server's, and what the client answers. `traces_attempts_beside_connections.py` has attempts beside the client's own
+connections, `traces_attempt_timing.py` when the answers go out and how attempts end. `traces.py` puts them behind bound
+connections.
 
 The server signs under the key of the client's user, and so does the client what it answers: an error, or the signature
 alone. An attempt is refused as soon as it comes. Another one is answered when the client is told of its socket.
 `example` is stored by itself, and is none of the traces that are yielded here.
 """
 
-import bound
-from bound_base import Socket
-from channels import SIX
-from connections import (
-    AT, CONNECT, CONNECTION_ID, NEXT_TO, asking, asks, asks_socket, connected, named, permitted,
-)
-from payloads import HI, SEND, SOFTWARE, fingerprinted, not_sent
-from permissions import DUE
-from sockets import CONNECTION_BIND, ONE, bind, draws_from, lists, opens
-from streams import of_tcp
-from streams_base import GARBLED, LONGEST, over
-from traces import (
+import traces_bound_connections as bound
+from traces_base import (
     ALLOCATE, BINDING, CHANNEL_BIND, CREATE_PERMISSION, ERROR, INDICATION, MS, NAMED, PEER, REFRESH, SHA1, SHA256,
     SUCCESS, code, message, success, xored,
 )
+from traces_bound_connections_base import Socket
+from traces_channels import SIX
+from traces_connection_sockets import CONNECTION_BIND, ONE, bind, draws_from, lists, opens
+from traces_connections import (
+    AT, CONNECT, CONNECTION_ID, NEXT_TO, asking, asks, asks_socket, connected, named, permitted,
+)
+from traces_payloads import HI, SEND, SOFTWARE, fingerprinted, not_sent
+from traces_permissions import DUE
+from traces_tcp import of_tcp
+from traces_tcp_base import GARBLED, LONGEST, over
 
 CONNECTION_ATTEMPT = 0x00C
 REASONS = {400: b"Bad Request", 446: b"Connection Already Exists", 447: b"Connection Timeout or Failure"}

@@ -1,21 +1,22 @@
 """The traces of attempts of peers beside the client's own connections, before and behind the grant of its allocation,
-and over sockets (`docs/TRACE.md`; RFC 6062, section 4.4). `attempts_later.py` puts them behind those of `attempts.py`.
+and over sockets (`docs/TRACE.md`; RFC 6062, section 4.4). `traces_attempt_timing.py` puts them behind those of
+`traces_attempts.py`.
 """
 
-from attempts import NOW, UNTIL, attempt, comes, is_refused, refusal, taken
-from bound import of_both_families
-from bound_base import Socket, joining
-from channels import SIX
-from connections import AT, CONNECT, NEXT_TO, THIRD, asking, asks, asks_socket, named, permitted, sent, unreached
-from payloads import HI
-from permissions import DUE
-from sockets import CONNECTION_BIND, ONE, THREE, TWO, bind, closes, draws_from, lists, opens
-from streams_base import OVER_TCP, over
-from traces import (
+from traces_attempts import NOW, UNTIL, attempt, comes, is_refused, refusal, taken
+from traces_base import (
     ALLOCATE, DONT_FRAGMENT, HASHED, MS, PASSWORD_ALGORITHM, PASSWORD_ALGORITHMS, RELAYED, SHA1, SHA256, challenge,
     grant, hashed, lifetime, message, number, success,
 )
-from unbound import own_address
+from traces_bound_connections import of_both_families
+from traces_bound_connections_base import Socket, joining
+from traces_channels import SIX
+from traces_connection_sockets import CONNECTION_BIND, ONE, THREE, TWO, bind, closes, draws_from, lists, opens
+from traces_connections import AT, CONNECT, NEXT_TO, THIRD, asking, asks, asks_socket, named, permitted, sent, unreached
+from traces_payloads import HI
+from traces_permissions import DUE
+from traces_tcp_base import OVER_TCP, over
+from traces_unbound_connections import own_address
 
 
 # ---- with an allocation, and without

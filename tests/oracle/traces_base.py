@@ -11,7 +11,7 @@ import socket
 import struct
 from pathlib import Path
 
-TOP = Path(__file__).resolve().parent.parent
+TOP = Path(__file__).resolve().parents[2]
 MAGIC = 0x2112A442
 # the first nonces that a server draws from a seed of zeros, by its features: the first bit where it knows
 # more than MD5, the second where it takes a hashed name

@@ -1,22 +1,25 @@
 """The traces of connections that are bound (`docs/TRACE.md`): how they are, and bytes of the peers both ways (RFC 6062,
-sections 4.3 to 4.6). `unbound.py` has what comes in place of the reply. `world.py` puts them behind those of sockets.
+sections 4.3 to 4.6). `traces_unbound_connections.py` has what comes in place of the reply. `traces.py` puts them behind
+those of sockets.
 """
 
-import connections
-from bound_base import FOURTH, LATE, NOW, THEN, Socket, ends, joined, joining, payload, three_joining
-from connections import AT, NEXT_TO, OVER, THIRD, asks, asks_socket, connect, connected, decided, permitted
-from payloads import HI, MOST, data, fingerprinted, not_sent, of, told
-from permissions import DUE, LAPSE, NAMED_ANEW, OTHER_NONCE, PEER_3, PEER_6, RELAYED_6
+import traces_connections as connections
 from rows_proto_keys import nonce_of, words
-from sockets import CONNECTION_BIND, ONE, THREE, TWO, UNTIL, awaiting, bind, closed, closes, draws_from, lists, opens
-from streams import by_bytes
-from streams_base import GARBLED, OVER_TCP, Piped, over, padded, spans
-from traces import (
+from traces_base import (
     ADDITIONAL_FAMILY, ALLOCATE, CREATE_PERMISSION, DONT_FRAGMENT, ERROR, HASHED, MS, NONCE, REALM, REFRESH, RELAYED,
     SERVER, SHA1, V6, challenge, code, create_permission, error, grant, lifetime, message, number, refresh, success,
     unsigned,
 )
-from unbound import unbound_traces
+from traces_bound_connections_base import FOURTH, LATE, NOW, THEN, Socket, ends, joined, joining, payload, three_joining
+from traces_connection_sockets import (
+    CONNECTION_BIND, ONE, THREE, TWO, UNTIL, awaiting, bind, closed, closes, draws_from, lists, opens,
+)
+from traces_connections import AT, NEXT_TO, OVER, THIRD, asks, asks_socket, connect, connected, decided, permitted
+from traces_payloads import HI, MOST, data, fingerprinted, not_sent, of, told
+from traces_permissions import DUE, LAPSE, NAMED_ANEW, OTHER_NONCE, PEER_3, PEER_6, RELAYED_6
+from traces_tcp import by_bytes
+from traces_tcp_base import GARBLED, OVER_TCP, Piped, over, padded, spans
+from traces_unbound_connections import unbound_traces
 
 # ---- by a desk
 

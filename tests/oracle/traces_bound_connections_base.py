@@ -6,13 +6,15 @@ piece is answered by what the first of them is. What stands behind the frame tha
 is all that comes from then on.
 """
 
-from connections import AT, NEXT_TO, THIRD
-from payloads import fingerprinted, send, shown
-from permissions import OTHER_NONCE
 from rows_wire_frames import Stream
-from sockets import CONNECTION_BIND, ONE, THREE, TWO, all_three, bind, closed, closes, draws_from, opened
-from streams_base import GARBLED, LONGEST, Pieces, peer_gives
-from traces import CLIENT, ERROR, MS, SERVER, success, unsigned
+from traces_base import CLIENT, ERROR, MS, SERVER, success, unsigned
+from traces_connection_sockets import (
+    CONNECTION_BIND, ONE, THREE, TWO, all_three, bind, closed, closes, draws_from, opened,
+)
+from traces_connections import AT, NEXT_TO, THIRD
+from traces_payloads import fingerprinted, send, shown
+from traces_permissions import OTHER_NONCE
+from traces_tcp_base import GARBLED, LONGEST, Pieces, peer_gives
 
 # it is asked at this moment that the connection be bound, where there is one
 NOW = 200 * MS

@@ -1,19 +1,19 @@
-"""The traces of channels that are renewed, lapse, are challenged, forged and deleted (`channels.py`,
+"""The traces of channels that are renewed, lapse, are challenged, forged and deleted (`traces_channels.py`,
 `docs/TRACE.md`)."""
 
-from channels import (
-    A, B, BOUND, C, CHANNEL_DUE, CHANNEL_FREE, CHANNEL_LAPSE, D, FOUR, LATER_RENEWAL, ONE, ONE_IP, SIX,
-    THREE, THREE_IP, TWO, TWO_IP, UNBOUND, abroad, asked_traces, bound, created, ended, failed, host,
-    lasting, of_both_families, renewing,
-)
-from permissions import (
-    DUE, FORBIDDEN, LAPSE, NAMED_ANEW, OTHER_NONCE, PEER_6, RELAYED_6, RENEWAL, answered_by, holding,
-)
-from traces import (
+from traces_base import (
     BINDING, CHANNEL_BIND, CREATE_PERMISSION, HASHED, MS, NAMED, OTHER, PASSWORD_ALGORITHM,
     PASSWORD_ALGORITHMS, REFRESH, RELAYED, SECOND, SHA1, SHA256, Trace, challenge, channel_bind,
     create_permission, error, first, grant, hashed, lifetime, message, number, refresh, setup, stale,
     success, unsigned,
+)
+from traces_channels import (
+    A, B, BOUND, C, CHANNEL_DUE, CHANNEL_FREE, CHANNEL_LAPSE, D, FOUR, LATER_RENEWAL, ONE, ONE_IP, SIX,
+    THREE, THREE_IP, TWO, TWO_IP, UNBOUND, abroad, asked_traces, bound, created, ended, failed, host,
+    lasting, of_both_families, renewing,
+)
+from traces_permissions import (
+    DUE, FORBIDDEN, LAPSE, NAMED_ANEW, OTHER_NONCE, PEER_6, RELAYED_6, RENEWAL, answered_by, holding,
 )
 
 

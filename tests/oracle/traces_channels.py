@@ -1,16 +1,16 @@
-"""The traces of channels, which `world.py` puts behind those of permissions (`docs/TRACE.md`).
+"""The traces of channels, which `traces.py` puts behind those of permissions (`docs/TRACE.md`).
 
 Each channel stands for 600 seconds from its grant, and is to be renewed from a minute before its end. Its
 number and its peer are kept from others for 300 seconds more. The permission that comes with a channel
 stands for 300 seconds, and a renewal of the channel doesn't renew it.
 """
 
-from permissions import DUE, FORBIDDEN, LAPSE, OVER, PEER_6, RELAYED_6, RENEWAL, holding
-from traces import (
+from traces_base import (
     ADDITIONAL_FAMILY, ALLOCATE, CHANNEL_BIND, CREATE_PERMISSION, ERROR, HASHED, MS, OTHER, RELAYED, SECOND,
     SUCCESS, Trace, V6, challenge, channel_bind, create_permission, error, first, grant, lifetime, number,
     relayed, setup, signed_allocate, success,
 )
+from traces_permissions import DUE, FORBIDDEN, LAPSE, OVER, PEER_6, RELAYED_6, RENEWAL, holding
 
 # peers, and the numbers that channels have, the least one first
 ONE, TWO, THREE, FOUR = (f"10.0.0.{i}:9000" for i in (3, 4, 5, 6))

@@ -1,15 +1,15 @@
 """The traces of sockets for connections to peers (`docs/TRACE.md`): what is asked over them, until when, and what
 becomes of them (RFC 6062, sections 4.3 and 4.6). No connection is bound here: what comes over the sockets is in
-`bound.py`. `world.py` puts them behind those of connections.
+`traces_bound_connections.py`. `traces.py` puts them behind those of connections.
 """
 
-from connections import AT, NEXT_TO, OVER, THIRD, asking, asks, asks_socket, connect, connected, named
-from permissions import DUE, NAMED_ANEW, OTHER_NONCE
-from streams_base import LONGEST, over
-from traces import (
+from traces_base import (
     CLIENT, CREATE_PERMISSION, ERROR, HASHED, MS, SECOND, SERVER, SHA1, Trace, create_permission, message, number,
     setup, success, unsigned,
 )
+from traces_connections import AT, NEXT_TO, OVER, THIRD, asking, asks, asks_socket, connect, connected, named
+from traces_permissions import DUE, NAMED_ANEW, OTHER_NONCE
+from traces_tcp_base import LONGEST, over
 
 CONNECTION_BIND = 0x00B
 ONE, TWO, THREE = (f"192.168.0.1:{port}" for port in (1001, 1002, 1003))

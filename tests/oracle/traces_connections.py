@@ -1,16 +1,16 @@
 """The traces of connections to peers, as far as a client asks for them (`docs/TRACE.md`): CONNECT, what answers it,
-and the sockets that are asked for (RFC 6062, section 4.3). `world.py` puts them behind those of a client over TCP.
+and the sockets that are asked for (RFC 6062, section 4.3). `traces.py` puts them behind those of a client over TCP.
 """
 
 import struct
 
-from permissions import DUE, NAMED_ANEW, OTHER_NONCE, PEER_3, PEER_6
-from streams import of_tcp
-from streams_base import LONGEST, Piped, over
-from traces import (
+from traces_base import (
     CLIENT, ERROR, HASHED, MS, PEER, SECOND, SERVER, SHA1, code, create_permission, error, lifetime,
     message, number, refresh, success, unsigned, xored, CREATE_PERMISSION, REFRESH,
 )
+from traces_permissions import DUE, NAMED_ANEW, OTHER_NONCE, PEER_3, PEER_6
+from traces_tcp import of_tcp
+from traces_tcp_base import LONGEST, Piped, over
 
 CONNECT, CONNECTION_ID = 0x00A, 0x2A
 AT, NEXT_TO, THIRD = f"{PEER_3}:9000", f"{PEER_3}:9001", f"{PEER_3}:9002"

@@ -1,10 +1,10 @@
-"""The traces of strangers at the desk, beside a client (`docs/TRACE.md`). `world.py` puts them behind its own.
+"""The traces of strangers at the desk, beside a client (`docs/TRACE.md`). `traces.py` puts them behind its own.
 
 A desk draws a nonce for each address, and a nonce stands for that address alone (RFC 8489, section 9.2.4).
 """
 
 from rows_proto_keys import nonce_of, words
-from traces import (
+from traces_base import (
     ALLOCATE, ERROR, HASHED, MS, NONCE, REALM, RELAYED, Trace, code, grant, message, number, setup, signed_allocate,
 )
 

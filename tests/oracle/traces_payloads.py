@@ -1,4 +1,4 @@
-"""The traces of sends and payloads, which `world.py` puts behind those of channels (`docs/TRACE.md`).
+"""The traces of sends and payloads, which `traces.py` puts behind those of channels (`docs/TRACE.md`).
 
 What goes to a peer goes by a channel to it, in a frame of four bytes and the data, or else in a SEND indication,
 for which a number is drawn. What comes of a peer is the data of a frame of a channel that stands, or the last
@@ -8,16 +8,16 @@ DATA of an indication that names a peer whose permission stands, or without one 
 import struct
 import zlib
 
-from channels import (
-    A, B, C, CHANNEL_LAPSE, ONE, ONE_IP, SIX, TWO, TWO_IP, bound, created, forbidden, lasting, of_both_families,
-    renewing,
-)
-from permissions import DUE, FORBIDDEN, LAPSE, PEER_1, PEER_2, PEER_3, PEER_6, RELAYED_6, RENEWAL, holding
-from traces import (
+from traces_base import (
     ALLOCATE, BINDING, CHANNEL_BIND, CLIENT, CREATE_PERMISSION, ERROR, INDICATION, MAGIC, MS, NONCE, PEER, REALM,
     RELAYED, SECOND, SERVER, SHA1, SHA256, SUCCESS, UNKNOWN, USERNAME, LIFETIME, Trace, attribute, channel_bind,
     create_permission, error, lifetime, message, number, setup, success, xored,
 )
+from traces_channels import (
+    A, B, C, CHANNEL_LAPSE, ONE, ONE_IP, SIX, TWO, TWO_IP, bound, created, forbidden, lasting, of_both_families,
+    renewing,
+)
+from traces_permissions import DUE, FORBIDDEN, LAPSE, PEER_1, PEER_2, PEER_3, PEER_6, RELAYED_6, RENEWAL, holding
 
 SEND, DATA_METHOD = 0x006, 0x007
 TOLD = DATA_METHOD | INDICATION

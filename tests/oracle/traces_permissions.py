@@ -1,9 +1,9 @@
-"""The traces of permissions, which `world.py` puts behind its own (`docs/TRACE.md`).
+"""The traces of permissions, which `traces.py` puts behind its own (`docs/TRACE.md`).
 
 Each permission stands for 300 seconds from its grant, and is to be renewed from a minute before its end.
 """
 
-from traces import (
+from traces_base import (
     ADDITIONAL_FAMILY, BINDING, CREATE_PERMISSION, ERROR, HASHED, MS, NAMED, NONCE, OTHER, REALM, REFRESH,
     RELAYED, SECOND, SHA1, SHA256, SUCCESS, USERNAME, V6, Trace, challenge, code, create_permission, error,
     first, grant, lifetime, message, number, refresh, setup, signed_allocate, stale, success, unsigned,

@@ -1,26 +1,26 @@
-"""The traces of a client over TCP, which `world.py` puts behind those of payloads (`docs/TRACE.md`).
+"""The traces of a client over TCP, which `traces.py` puts behind those of payloads (`docs/TRACE.md`).
 
-Here are the handshake, the requests, an allocation over TCP and the end of a client; `streams_frames.py` has what
-comes of a stream. What is known of a stream is in `streams_base.py`.
+Here are the handshake, the requests, an allocation over TCP and the end of a client; `traces_tcp_frames.py` has what
+comes of a stream. What is known of a stream is in `traces_tcp_base.py`.
 """
 
-from channels import A, B, ONE, ONE_IP, SIX, bound, created
-from payloads import AT_1, AT_2, HI, indicates, not_sent
-from permissions import DUE, NAMED_ANEW, OTHER_NONCE, PEER_1, PEER_6, RELAYED_6
-from streams_base import (
+from traces_base import (
+    ADDITIONAL_FAMILY, ALLOCATE, CHANNEL_BIND, CREATE_PERMISSION, DONT_FRAGMENT, END, ERROR, HASHED, MS, NAMED,
+    OTHER, REFRESH, REFUSED, RELAYED, SECOND, SHA1, STALE, V6, challenge, channel_bind, code, create_permission,
+    error, first, grant, hashed, lifetime, message, number, refresh, relayed, signed_allocate, success, unsigned,
+)
+from traces_channels import A, B, ONE, ONE_IP, SIX, bound, created
+from traces_payloads import AT_1, AT_2, HI, indicates, not_sent
+from traces_permissions import DUE, NAMED_ANEW, OTHER_NONCE, PEER_1, PEER_6, RELAYED_6
+from traces_tcp_base import (
     DATA_OF_1, LONGEST, NEXT, NOW, OVER_TCP, REPORT_OF_1, Piped, carrying, over, padded, places_within,
 )
-from streams_frames import (
+from traces_tcp_frames import (
     channel_behind_its_grant, dead_behind_a_frame, end_and_beginning, end_of_the_stream, end_within_a_frame,
     endless_message, garbled, given_back, lengths, long_sends, no_stream, nothing_waits, of_strangers, other_hosts,
     out_of_range, padded_sends, reports, reports_passed_over, response_behind_a_payload, sends, several_payloads,
     stream_at_random, stream_in_bytes, stream_in_two, stream_whole, unbound_channel, waiting_challenge,
     waiting_grant, waiting_too_long, waiting_while_it_is_deleted, waiting_while_it_lapses, wrong_cookies,
-)
-from traces import (
-    ADDITIONAL_FAMILY, ALLOCATE, CHANNEL_BIND, CREATE_PERMISSION, DONT_FRAGMENT, END, ERROR, HASHED, MS, NAMED,
-    OTHER, REFRESH, REFUSED, RELAYED, SECOND, SHA1, STALE, V6, challenge, channel_bind, code, create_permission,
-    error, first, grant, hashed, lifetime, message, number, refresh, relayed, signed_allocate, success, unsigned,
 )
 
 

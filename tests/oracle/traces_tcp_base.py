@@ -8,12 +8,12 @@ request goes out once, and is waited for as long as over UDP.
 
 from itertools import accumulate
 
-from channels import A, ONE, bound
-from payloads import AT_1, HI, OTHER_REPORT, REPORT, data, fingerprinted, frame, of, shown, told
-from permissions import PEER_1
 from rows_wire_base import Refused
 from rows_wire_frames import front
-from traces import MS, SERVER, TRANSPORT, Trace, block, setup
+from traces_base import MS, SERVER, TRANSPORT, Trace, block, setup
+from traces_channels import A, ONE, bound
+from traces_payloads import AT_1, HI, OTHER_REPORT, REPORT, data, fingerprinted, frame, of, shown, told
+from traces_permissions import PEER_1
 
 # when a request of the first moment is given up
 LONGEST = 39500 * MS

@@ -1,18 +1,18 @@
 """The traces of a client over TCP: what its frames give, what waits, how the stream ends, and what goes.
 
-`streams.py` has the others, and `streams_base.py` what is known of a stream.
+`traces_tcp.py` has the others, and `traces_tcp_base.py` what is known of a stream.
 """
 
-from channels import A, B, FOUR, ONE, ONE_IP, created
-from payloads import AT_1, AT_2, HI, OTHER_REPORT, REPORT, data, indicates, not_sent, of, send, told
-from permissions import DUE, LAPSE, PEER_1, PEER_2
-from streams_base import (
-    BROKEN, DATA_OF_1, LONGEST, MARKED, NEXT, NOW, ODD, REPORT_OF_1, carrying, holding, over, padded, peer_gives,
-    places_within, spans,
-)
-from traces import (
+from traces_base import (
     CHANNEL_BIND, CLIENT, CREATE_PERMISSION, HASHED, MS, RELAYED, SECOND, SERVER, Trace, challenge, setup,
     signed_allocate, success,
+)
+from traces_channels import A, B, FOUR, ONE, ONE_IP, created
+from traces_payloads import AT_1, AT_2, HI, OTHER_REPORT, REPORT, data, indicates, not_sent, of, send, told
+from traces_permissions import DUE, LAPSE, PEER_1, PEER_2
+from traces_tcp_base import (
+    BROKEN, DATA_OF_1, LONGEST, MARKED, NEXT, NOW, ODD, REPORT_OF_1, carrying, holding, over, padded, peer_gives,
+    places_within, spans,
 )
 
 

@@ -6,8 +6,8 @@ at most the greatest, and the last one behind the last transmission. Over TCP th
 the end is the same (section 6.2.2).
 """
 
-from streams_base import over
-from traces import MS, SECOND, Trace, first, setup
+from traces_base import MS, SECOND, Trace, first, setup
+from traces_tcp_base import over
 
 # how long an agent with a request that isn't answered waits at most: an hour
 PAUSE = 3600 * SECOND

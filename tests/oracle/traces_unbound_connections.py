@@ -1,18 +1,20 @@
 """The traces of connections over whose sockets other things come than the reply that binds them, or before it
-(`docs/TRACE.md`; RFC 6062, section 4.3). `bound.py` puts them among its own.
+(`docs/TRACE.md`; RFC 6062, section 4.3). `traces_bound_connections.py` puts them among its own.
 """
 
-from bound_base import BOUND, FOURTH, NOW, Socket, ends, joining, payload
-from channels import A
-from connections import AT, CONNECT, NEXT_TO, asks, connect
-from payloads import HI, data, fingerprinted, not_sent, of, told
-from permissions import DUE, NAMED_ANEW, OTHER_NONCE, PEER_3
-from sockets import CONNECTION_BIND, ONE, UNTIL, awaiting, bind, closed, closes, draws_from, lists, opens
-from streams_base import BROKEN, DATA_OF_1, LONGEST, MARKED, ODD, padded, places_within, spans
-from traces import (
+from traces_base import (
     BINDING, CLIENT, CREATE_PERMISSION, ERROR, INDICATION, MS, NONCE, NONCES, PASSWORD_ALGORITHMS, REALM, REFRESH,
     SECOND, SHA1, SHA256, SUCCESS, code, create_permission, error, message, number, success, unsigned,
 )
+from traces_bound_connections_base import BOUND, FOURTH, NOW, Socket, ends, joining, payload
+from traces_channels import A
+from traces_connection_sockets import (
+    CONNECTION_BIND, ONE, UNTIL, awaiting, bind, closed, closes, draws_from, lists, opens,
+)
+from traces_connections import AT, CONNECT, NEXT_TO, asks, connect
+from traces_payloads import HI, data, fingerprinted, not_sent, of, told
+from traces_permissions import DUE, NAMED_ANEW, OTHER_NONCE, PEER_3
+from traces_tcp_base import BROKEN, DATA_OF_1, LONGEST, MARKED, ODD, padded, places_within, spans
 
 REPLY = success(CONNECTION_BIND, 4)
 

@@ -1,5 +1,5 @@
 //! Walks the stored exchanges (`stored/`): each answer, each byte that is to be sent, each event, getter and payload
-//! is what `c/samples.py` worked out by the RFCs, and so is each refusal.
+//! is what `tests/c/samples.py` worked out by the RFCs, and so is each refusal.
 
 mod stored;
 

@@ -1,5 +1,5 @@
 //! A payload for which there is no memory waits in the client: nothing is lost, and nothing else comes before it. The
-//! allocator here is Rust's alone; that of the archive is tried by `c/refused.c`.
+//! allocator here is Rust's alone; that of the archive is tried by `tests/c/refused.c`.
 
 mod stored;
 

@@ -1,5 +1,5 @@
 //! Exchanges of a client with a server, as steps: what each call is given, and what is wanted of it. `samples.py`
-//! writes `samples.rs` of what `c/samples.py` works out by the RFCs.
+//! writes `samples.rs` of what `tests/c/samples.py` works out by the RFCs.
 #![allow(dead_code)] // each test takes what it needs
 
 pub mod walker;

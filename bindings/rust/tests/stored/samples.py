@@ -1,7 +1,7 @@
 #!/usr/bin/env python3
-"""Writes samples.rs: the exchanges of c/samples.py, as tables of Rust (mod.rs).
+"""Writes samples.rs: the exchanges of tests/c/samples.py, as tables of Rust (mod.rs).
 
-    rust/tests/stored/samples.py
+    bindings/rust/tests/stored/samples.py
 
 The messages are worked out there by the RFCs, and by nothing of this crate or its archive. Each step is a call of
 turn_client.h with what it is given, and what is wanted of it.
@@ -13,7 +13,7 @@ from pathlib import Path
 sys.dont_write_bytecode = True
 
 HERE = Path(__file__).resolve().parent
-sys.path.insert(0, str(HERE.parents[2] / "c"))
+sys.path.insert(0, str(HERE.parents[3] / "tests" / "c"))
 
 import samples  # noqa: E402
 
