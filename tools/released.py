@@ -19,10 +19,13 @@ PROGRAMS = {"turn-replay": "turn_replay", "stun-inspect": "stun_inspect", "trace
 LIBRARY_CRATE = "turn_client_c"
 # each other released file, and what it is made of beside the crate: scripts that build it, or the file that it copies
 LIBRARIES = {
-    "libturn_client.a": ("c/build",),
-    "libturn_client.so": ("c/build", "python/build"),
+    "libturn_client.a": ("bindings/c/build",),
+    "libturn_client.so": ("bindings/c/build", "bindings/python/build"),
 }
-COPIES = {"turn_client.h": ("include/turn_client.h",), "turn_client.pc": ("c/build",)}
+COPIES = {
+    "turn_client.h": ("bindings/c/include/turn_client.h",),
+    "turn_client.pc": ("bindings/c/build",),
+}
 FILES = (*LIBRARIES, *COPIES, *PROGRAMS)
 
 

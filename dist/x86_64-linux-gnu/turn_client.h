@@ -39,7 +39,7 @@
  *     }
  *
  * What goes to peers is written by turn_client_send, and sent by the program at once. Over TCP bytes may be joined: see
- * turn_client_feed, turn_client_pull and turn_client_read. c/turn_client.c does all this.
+ * turn_client_feed, turn_client_pull and turn_client_read. bindings/c/turn_client.c does all this.
  *
  * What may surprise:
  *   - Two requests are sent 50 ms apart at least, so what is asked for may be drawn only when poll says so.

@@ -1,5 +1,5 @@
 //! What C tells a client and is told of one: addresses, settings, events, payloads, waits, as structs of
-//! `include/turn_client.h`.
+//! `bindings/c/include/turn_client.h`.
 #![tactic(auto)]
 
 pub mod address;

@@ -1,8 +1,8 @@
 //! Asks what a TURN client is configured with, errs with, hands out and sends, as each line of its standard
 //! input says, and prints what is answered. A line is words parted by single spaces, of which the first
 //! names what is asked; an empty line and one that begins with `#` say nothing. Bytes are in lower case
-//! hex; `-` stands for no bytes, and for a text of no letters. `bench/rows_client.py` makes the lines and
-//! what is to be answered.
+//! hex; `-` stands for no bytes, and for a text of no letters. `tests/oracle/rows_client.py` makes
+//! the lines and what is to be answered.
 #![tactic(auto)]
 
 mod agents;

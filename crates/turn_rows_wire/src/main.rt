@@ -1,8 +1,8 @@
 //! Asks the libraries of the wire what each line of its standard input hands in, and prints what they
 //! answer. A line is words parted by single spaces, of which the first names the call; an empty line and
 //! one that begins with `#` say nothing. Bytes are in lower case hex, or `-` for none; in bytes and in
-//! texts `NN*3` stands for `NN` three times. `bench/rows_wire.py` makes the lines and what is to be
-//! answered.
+//! texts `NN*3` stands for `NN` three times. `tests/oracle/rows_wire.py` makes the lines and
+//! what is to be answered.
 #![tactic(auto)]
 
 mod frames;

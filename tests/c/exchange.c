@@ -1,0 +1,359 @@
+/* exchange.c: walks exchanges with a server whose bytes are stored (samples.h): each status, each byte that is to be
+ * sent, each event, getter and payload is held against what is wanted. Before a call each way in which it is to be
+ * refused is tried: that it is done then shows that the refusal changed nothing.
+ *
+ *     cc -std=c11 -Wall -Wextra exchange.c steps.c $(pkg-config --cflags --libs turn_client) -o exchange && ./exchange
+ *
+ * `check` does so. A line for each part tells how many checks it passed, and each that failed has a line of its own.
+ * The last line is `exchange: N passed, M failed`; the exit status is 0 where M is 0, else 1. */
+#include "steps.h"
+
+#include <stddef.h>
+#include <stdio.h>
+#include <string.h>
+
+/* ---- the count */
+
+static unsigned long passed, failed;
+
+/* What is walked, for the lines of failures. */
+static const char *part_name = "";
+
+static void count(const char *what, const char *name, const char *difference, int32_t want, int32_t got)
+{
+    if (difference == NULL) {
+        passed++;
+        return;
+    }
+    failed++;
+    printf("FAILED in %s: %s%s%s: another %s (wanted %d, got %d)\n", part_name, what, name ? ", " : "",
+           name ? name : "", difference, want, got);
+}
+
+/* A thing that holds, or not. */
+static void check(bool holds, const char *what)
+{
+    count(what, NULL, holds ? NULL : "outcome", 1, holds);
+}
+
+/* A status. */
+static void check_answer(int32_t got, int32_t want, const char *what, const char *name)
+{
+    count(what, name, got == want ? NULL : "answer", want, got);
+}
+
+/* ---- what is refused before a step is done */
+
+/* Makes the call of a step that was changed, and wants this answer. */
+static void is_refused(struct walker *w, const struct step *changed, int32_t want, const char *why)
+{
+    check_answer(step_call(w, changed), want, call_names[changed->call], why);
+}
+
+/* What is refused of a family that is neither 4 nor 6. A getter shows nothing then. */
+static void refuse_family(struct walker *w, const struct step *step, size_t offset, uint8_t family)
+{
+    struct step changed = *step;
+    turn_address *address = (turn_address *)((char *)&changed + offset);
+    address->family = family;
+    is_refused(w, &changed, step->call >= CALL_RELAYED ? 0 : TURN_BAD_FAMILY, "a family that there isn't");
+}
+
+static void refuse_families(struct walker *w, const struct step *step)
+{
+    const size_t from = offsetof(struct step, from), to = offsetof(struct step, to);
+    switch (step->call) {
+    case CALL_FEED:
+    case CALL_CLOSED:
+        refuse_family(w, step, from, 7);
+        refuse_family(w, step, from, 0);
+        break;
+    case CALL_SOCKET: /* no own address is one that can be told */
+        refuse_family(w, step, from, 7);
+        break;
+    case CALL_SEND:
+    case CALL_PERMIT:
+    case CALL_BIND:
+    case CALL_CONNECT:
+    case CALL_PERMISSIONS:
+    case CALL_IS_PERMITTED:
+        break;
+    default:
+        return;
+    }
+    refuse_family(w, step, to, 7);
+    refuse_family(w, step, to, 0);
+}
+
+static void refuse_transport(struct walker *w, const struct step *step)
+{
+    static const uint32_t unknown[] = {0, 5, 18, 256 + 17};
+    struct step changed = *step;
+    bool is_getter = step->call == CALL_PERMISSIONS || step->call == CALL_IS_PERMITTED;
+    if (!is_getter && step->call != CALL_SEND && step->call != CALL_PERMIT && step->call != CALL_BIND)
+        return;
+    for (size_t i = 0; i < sizeof unknown / sizeof *unknown; i++) {
+        changed.transport = unknown[i];
+        is_refused(w, &changed, is_getter ? 0 : TURN_BAD_SETTING, "a transport that there isn't");
+    }
+}
+
+/* The least room that a call wants which writes bytes and is to be done; 0 of others. */
+static size_t least_room(const struct step *step)
+{
+    if (step->call == CALL_DRAW)
+        return TURN_MESSAGE_MAX;
+    if (step->call == CALL_SEND && step->want.answer == TURN_OK)
+        return step->bytes.len + TURN_SEND_EXTRA;
+    if (step->call == CALL_READ && step->want.answer == TURN_OK)
+        return step->want.size;
+    return 0;
+}
+
+/* A buffer that is one byte too small, or has none; and of a getter no room, which changes no count. */
+static void refuse_room(struct walker *w, const struct step *step)
+{
+    struct step changed = *step;
+    if (step->call >= CALL_RELAYED && step->call != CALL_IS_PERMITTED) {
+        changed.less = HELD_MAX;
+        is_refused(w, &changed, step->want.answer, "no room");
+    } else if (least_room(step) > 0) {
+        changed.less = 1;
+        is_refused(w, &changed, TURN_SMALL_BUFFER, "a buffer that is too small");
+        changed.less = least_room(step);
+        is_refused(w, &changed, TURN_SMALL_BUFFER, "a buffer of no bytes");
+    }
+}
+
+/* While joined bytes wait, nothing comes. */
+static void refuse_unread(struct walker *w, const struct step *step)
+{
+    static const uint8_t some[1];
+    const turn_settings *settings = &w->exchange->settings;
+    struct step feed = {.call = CALL_FEED, .now = step->now, .from = settings->server, .to = settings->local,
+                        .bytes = {some, sizeof some}};
+    struct step pull = {.call = CALL_PULL, .now = step->now};
+    if (step->call != CALL_READ || step->want.answer != TURN_OK)
+        return;
+    is_refused(w, &feed, TURN_UNREAD, "joined bytes wait");
+    is_refused(w, &pull, TURN_UNREAD, "joined bytes wait");
+}
+
+/* The handle is open. */
+static void refuse_opening(struct walker *w, const struct step *step)
+{
+    struct step open = {.call = CALL_OPEN};
+    if (step->call != CALL_OPEN)
+        is_refused(w, &open, TURN_ALREADY_OPEN, "the handle is open");
+}
+
+/* ---- while the handle isn't open */
+
+static void refuse_all(struct walker *w, const char *when)
+{
+    static const uint8_t some[1];
+    struct step step = {.transport = TURN_UDP, .bytes = {some, sizeof some}};
+    const turn_client before = w->client;
+    step.from = w->exchange->settings.server;
+    step.to = w->exchange->settings.local;
+    for (step.call = CALL_CLOSE; step.call < CALLS; step.call++) {
+        int32_t want = step.call >= CALL_RELAYED || step.call == CALL_CLOSE ? 0 : TURN_NO_CLIENT;
+        is_refused(w, &step, want, when);
+    }
+    check(before.private_client == w->client.private_client && before.private_is_open == w->client.private_is_open,
+          "a handle that isn't open stays as it is");
+}
+
+/* ---- exchanges */
+
+/* Overwrites what earlier calls told, so that none of it counts as told now. */
+static void forget(struct walker *w)
+{
+    const size_t start = offsetof(struct walker, payload);
+    memset((char *)w + start, 0xee, sizeof *w - start);
+}
+
+static void walk_step(struct walker *w, const struct step *step)
+{
+    refuse_opening(w, step);
+    refuse_unread(w, step);
+    refuse_families(w, step);
+    refuse_transport(w, step);
+    refuse_room(w, step);
+    forget(w);
+    int32_t answer = step_call(w, step);
+    struct told told = step_told(w, step, answer);
+    count(call_names[step->call], step->name, step_difference(&step->want, &told), step->want.answer, answer);
+}
+
+static void walk_part(struct walker *w, const struct part *part)
+{
+    const unsigned long passed_before = passed, failed_before = failed;
+    part_name = part->name;
+    for (size_t i = 0; i < part->count; i++) {
+        const unsigned long failures = failed;
+        walk_step(w, &part->steps[i]);
+        if (failed > failures)
+            printf("  at step %zu of %zu\n", i + 1, part->count);
+    }
+    printf("%s: %lu passed, %lu failed\n", part->name, passed - passed_before, failed - failed_before);
+}
+
+static struct walker walker;
+
+static void walk(const struct exchange *exchange)
+{
+    walker.client = (turn_client)TURN_CLIENT_INIT;
+    walker.exchange = exchange;
+    refuse_all(&walker, "before the handle is open");
+    for (size_t i = 0; i < exchange->count; i++)
+        walk_part(&walker, &exchange->parts[i]);
+    refuse_all(&walker, "behind the close");
+    turn_client_close(&walker.client);
+}
+
+/* ---- opening */
+
+static void refuse_settings(const turn_settings *settings, int32_t want, const char *why)
+{
+    turn_client client = TURN_CLIENT_INIT;
+    check_answer(open_with(&client, settings, sample_user, sample_password), want, "open", why);
+    check(client.private_client == NULL && !client.private_is_open, "a handle that wasn't opened stays as it was");
+    turn_client_close(&client);
+}
+
+/* Each number of the settings that names nothing. */
+static void refuse_numbers(const turn_settings *good)
+{
+    static const struct {
+        size_t offset;
+        uint32_t value;
+    } wrong[] = {
+        {offsetof(turn_settings, transport), 5}, {offsetof(turn_settings, transport), 256 + 17},
+        {offsetof(turn_settings, peers), 5}, {offsetof(turn_settings, peers), TURN_TCP},
+        {offsetof(turn_settings, families), 4}, {offsetof(turn_settings, families), 1 | 8},
+        {offsetof(turn_settings, integrity), 8}, {offsetof(turn_settings, integrity), UINT32_MAX},
+        {offsetof(turn_settings, anonymous), 3}, {offsetof(turn_settings, anonymous), 256},
+    };
+    for (size_t i = 0; i < sizeof wrong / sizeof *wrong; i++) {
+        turn_settings settings = *good;
+        memcpy((char *)&settings + wrong[i].offset, &wrong[i].value, sizeof wrong[i].value);
+        refuse_settings(&settings, TURN_BAD_SETTING, "a number that names nothing");
+    }
+}
+
+static void refuse_addresses(const turn_settings *good)
+{
+    static const uint8_t families[] = {0, 1, 5, 7, 255};
+    for (size_t i = 0; i < sizeof families; i++) {
+        turn_settings settings = *good;
+        settings.local.family = families[i];
+        refuse_settings(&settings, TURN_BAD_FAMILY, "an own address of no family");
+        settings = *good;
+        settings.server.family = families[i];
+        refuse_settings(&settings, TURN_BAD_FAMILY, "a server's address of no family");
+    }
+}
+
+static void open_names(const turn_settings *good)
+{
+    static const uint8_t latin[] = {'M', 'u', 0xfc, 'l'}, cut[] = {'a', 0xe2, 0x82}, surrogate[] = {0xed, 0xa0, 0x80},
+                         overlong[] = {0xc0, 0xaf}, beyond[] = {0xf4, 0x90, 0x80, 0x80}, euro[] = {0xe2, 0x82, 0xac};
+    static uint8_t letters[TURN_NAME_MAX + 1];
+    const struct bytes wrong[] = {{latin, sizeof latin}, {cut, sizeof cut}, {surrogate, sizeof surrogate},
+                                  {overlong, sizeof overlong}, {beyond, sizeof beyond}};
+    turn_client client = TURN_CLIENT_INIT;
+    memset(letters, 'a', sizeof letters);
+    for (size_t i = 0; i < sizeof wrong / sizeof *wrong; i++) {
+        check_answer(open_with(&client, good, wrong[i], sample_password), TURN_BAD_TEXT, "open", "a name, no UTF-8");
+        check_answer(open_with(&client, good, sample_user, wrong[i]), TURN_BAD_TEXT, "open", "a password, no UTF-8");
+    }
+    check_answer(open_with(&client, good, (struct bytes){letters, TURN_NAME_MAX + 1}, sample_password), TURN_LONG_NAME,
+                 "open", "a name of 514 bytes");
+    const struct bytes right[] = {{letters, TURN_NAME_MAX}, {letters, 0}, {euro, sizeof euro}};
+    for (size_t i = 0; i < sizeof right / sizeof *right; i++) {
+        check_answer(open_with(&client, good, right[i], sample_password), TURN_OK, "open", "a name");
+        turn_client_close(&client);
+        check_answer(open_with(&client, good, sample_user, right[i]), TURN_OK, "open", "a password");
+        turn_client_close(&client);
+    }
+}
+
+static void openings(void)
+{
+    const unsigned long passed_before = passed, failed_before = failed;
+    const turn_settings *good = &exchanges[0].settings;
+    part_name = "openings";
+    refuse_numbers(good);
+    refuse_addresses(good);
+    open_names(good);
+    printf("openings: %lu passed, %lu failed\n", passed - passed_before, failed - failed_before);
+}
+
+/* ---- the longest payload */
+
+/* Walks the first parts of an exchange: the last step that sent something, at the moment of the last step. */
+static struct step walk_quietly(const struct exchange *exchange, size_t parts)
+{
+    struct step sent = {.call = CALL_SEND};
+    walker.client = (turn_client)TURN_CLIENT_INIT;
+    walker.exchange = exchange;
+    for (size_t i = 0; i < parts; i++) {
+        for (size_t k = 0; k < exchange->parts[i].count; k++) {
+            const struct step *step = &exchange->parts[i].steps[k];
+            step_call(&walker, step);
+            if (step->call == CALL_SEND && step->want.answer == TURN_OK)
+                sent = *step;
+            sent.now = step->now;
+        }
+    }
+    return sent;
+}
+
+/* Sends it as a step did, with so many bytes before the payload. */
+static void send_longest(struct step *step, size_t head, const char *how)
+{
+    static uint8_t payload[TURN_PAYLOAD_MAX];
+    for (size_t i = 0; i < sizeof payload; i++)
+        payload[i] = (uint8_t)(i * 7);
+    step->bytes = (struct bytes){payload, sizeof payload};
+    check_answer(step_call(&walker, step), TURN_OK, "send", how);
+    check(walker.transmit.size == head + sizeof payload && memcmp(walker.out + head, payload, sizeof payload) == 0,
+          "the longest payload stands in what is sent");
+    check(walker.out[head - 2] == 0xff && walker.out[head - 1] == 0xe0, "its length stands before it");
+}
+
+/* What was sent by a channel comes. */
+static void feed_longest(uint64_t now)
+{
+    const turn_settings *settings = &walker.exchange->settings;
+    int32_t answer = turn_client_feed(&walker.client, &settings->server, &settings->local, walker.out,
+                                      walker.transmit.size, now, &walker.payload);
+    check_answer(answer, TURN_PAYLOAD, "feed", "the longest payload");
+    check(!walker.payload.is_joined && walker.payload.start == 4 && walker.payload.size == TURN_PAYLOAD_MAX,
+          "the longest payload comes");
+}
+
+static void longest(void)
+{
+    const unsigned long passed_before = passed, failed_before = failed;
+    part_name = "the longest payload";
+    struct step sent = walk_quietly(&exchanges[0], 3);
+    send_longest(&sent, 36, "by an indication");
+    turn_client_close(&walker.client);
+    sent = walk_quietly(&exchanges[0], 4);
+    send_longest(&sent, 4, "by a channel");
+    feed_longest(sent.now);
+    turn_client_close(&walker.client);
+    printf("%s: %lu passed, %lu failed\n", part_name, passed - passed_before, failed - failed_before);
+}
+
+int main(void)
+{
+    openings();
+    for (size_t i = 0; i < exchange_count; i++)
+        walk(&exchanges[i]);
+    longest();
+    printf("exchange: %lu passed, %lu failed\n", passed, failed);
+    return failed == 0 ? 0 : 1;
+}

@@ -1,0 +1,150 @@
+"""What is run with each program, and what is wanted of it."""
+
+import time
+from dataclasses import dataclass, replace
+
+ALL_BACK, SOME_LOST, BAD_USAGE, FAILED, NO_ANSWER = range(5)  # exit status, as turn_client --help tells it
+LIMIT = 120  # seconds that a case may take
+MANY = 1000  # payloads each way
+
+REFRESHED, STALE = r"refreshed, .*lifetime=[1-9]", "error 438"
+PERMITTED, BOUND = "CREATE_PERMISSION processed, success", "CHANNEL_BIND processed, success"
+CONNECTED = "CONNECTION_BIND processed, success"
+
+# Renewals: allocations stand ten minutes. The client renews a permission after 240 seconds, an allocation and a channel
+# after 540; they would end after 300 and 600. Payloads that go at 650 show that all were. Each nonce is stale then.
+RENEWING_SERVER = ("--stale-nonce=50", "--max-allocate-lifetime=600")
+RENEWALS = ((REFRESHED, 1), (STALE, 3), (PERMITTED, 3))
+RENEWING_SECONDS, RENEWING_INTERVAL = 655, 10000
+
+PAUSED_AFTER, PAUSED_FOR = 1.0, 3.0  # seconds
+# While the server stands still: 600 payloads of 1,200 bytes, more than its socket holds; 60 of 100, which it holds.
+STEADY = {"count": 1000, "interval": 5, "size": 1200}
+SLOW = {"count": 100, "interval": 50}
+
+
+def pause(server, peer):
+    """The server stands still for a while, and goes on: how many payloads the peer had until then."""
+    time.sleep(PAUSED_AFTER)
+    server.pause()
+    time.sleep(PAUSED_FOR)
+    had = peer.count()
+    server.go_on()
+    return had
+
+
+def kill(server, _peer):
+    time.sleep(PAUSED_AFTER)
+    server.kill()
+    return 0
+
+
+def restart(server, peer):
+    """The server is killed, and another one that knows nothing of the allocation is at its place."""
+    kill(server, peer)
+    server.start()
+    return 0
+
+
+@dataclass(frozen=True)
+class Case:
+    name: str
+    want: int = ALL_BACK
+    transport: str = "udp"  # to the server
+    host: str = "127.0.0.1"  # the server's
+    count: int = 20  # payloads
+    size: int = 100  # bytes of each
+    interval: int = 0  # milliseconds between two; 0 is as the program does
+    is_even: bool = False  # it is nothing without that interval
+    seconds: int = 0  # that the address is kept
+    family: str = "4"  # of the relayed address, or `both`
+    algorithms: str = "sha1"
+    indications: bool = False  # no channel
+    peer: str = "run"  # who sends back: `run` (and counts), the program's own `echo`, `stream` over TCP, or `none`
+    options: tuple = ()  # more of them
+    server: tuple = ()  # options of the server
+    is_absent: bool = False  # there is no server
+    password: str = ""  # another one
+    logged: tuple = ()  # what is to stand in the server's log, and how often at least
+    during: object = None  # what is done to the server meanwhile
+    lasts: tuple = (0, LIMIT)  # seconds, at least and at most
+    is_idle: bool = False  # it waits more than it works, and runs beside others
+    is_long: bool = False  # it takes ten minutes
+
+
+def _both_ways(transport, host):
+    family = "6" if ":" in host else "4"
+    one = Case(f"1,000 by a channel, IPv{family}, {transport.upper()}", transport=transport, host=host, count=MANY,
+               interval=2, family=family, logged=((BOUND, 1),))
+    return [one, replace(one, name=one.name.replace("a channel", "indications"), indications=True,
+                         logged=((PERMITTED, 1),))]
+
+
+def payloads():
+    return [case for transport in ("udp", "tcp") for host in ("127.0.0.1", "::1")
+            for case in _both_ways(transport, host)]
+
+
+def settings():
+    large = Case("100 of 8,000 bytes, UDP", count=100, size=8000, interval=20)
+    return [
+        Case("HMAC-SHA1 and SHA-256 offered", algorithms="both"),
+        Case("SHA-256 alone: coturn has none", FAILED, algorithms="sha256"),
+        Case("both families asked for", family="both"),
+        Case("IPv6 address of a server over IPv4", family="6"),
+        Case("IPv4 address of a server over IPv6", host="::1"),
+        large,
+        replace(large, name="100 of 8,000 bytes, TCP", transport="tcp"),
+        Case("its own echo, UDP", peer="echo"),
+        Case("its own echo, TCP", transport="tcp", peer="echo"),
+    ]
+
+
+def refusals():
+    absent = Case("no server, UDP", NO_ANSWER, is_absent=True, lasts=(39, 42), is_idle=True)
+    return [
+        Case("a wrong password, UDP", FAILED, password="wrong", logged=(("error 401", 2),)),
+        Case("a wrong password, TCP", FAILED, transport="tcp", password="wrong", logged=(("error 401", 2),)),
+        Case("a peer that the server denies", FAILED, peer="none", options=("--peer", "192.0.2.1:9"),
+             server=("--denied-peer-ip=192.0.2.0-192.0.2.255",), logged=(("error 403", 1),)),
+        Case("an option without a value", BAD_USAGE, peer="none", options=("--user",), is_absent=True),
+        absent,
+        replace(absent, name="no server, TCP", transport="tcp", lasts=(0, 5)),
+    ]
+
+
+def troubles():
+    short = ("--max-allocate-lifetime=70",)
+    anew = Case("killed and started anew, UDP", SOME_LOST, seconds=15, during=restart, server=short, is_idle=True,
+                logged=(("error 437", 2),), **STEADY)
+    return [
+        Case("stands still 3 s, UDP: more than it holds", SOME_LOST, during=pause, **STEADY),
+        Case("stands still 3 s, UDP: as much as it holds", during=pause, is_even=True, **SLOW),
+        Case("stands still 3 s, TCP: as much as it holds", transport="tcp", during=pause, is_even=True, **SLOW),
+        Case("killed, UDP", SOME_LOST, during=kill, is_idle=True, lasts=(40, 110), **STEADY),
+        Case("killed, TCP", FAILED, transport="tcp", during=kill, **STEADY),
+        anew,
+        replace(anew, name="killed and started anew, TCP", want=FAILED, transport="tcp", logged=()),
+        Case("lifetimes of 70 s: not believed of a REFRESH", FAILED, seconds=90, server=short, lasts=(69, 75),
+             is_idle=True, logged=((REFRESHED, 1),)),
+    ]
+
+
+def connections():
+    """RFC 6062: an allocation over TCP, and a connection through it to a peer."""
+    one = Case("1,000 by a connection to a peer, IPv4", transport="tcp", count=MANY, peer="stream",
+               logged=((CONNECTED, 1),))
+    return [one, replace(one, name=one.name.replace("IPv4", "IPv6"), host="::1", family="6")]
+
+
+def renewals():
+    one = Case("renewed for 655 s, channel, UDP", count=RENEWING_SECONDS * 1000 // RENEWING_INTERVAL + 1,
+               interval=RENEWING_INTERVAL, seconds=RENEWING_SECONDS, server=RENEWING_SERVER,
+               logged=(*RENEWALS, (BOUND, 2)), lasts=(RENEWING_SECONDS, RENEWING_SECONDS + 10), is_idle=True,
+               is_long=True)
+    return [one, replace(one, name="renewed for 655 s, channel, TCP", transport="tcp"),
+            replace(one, name="renewed for 655 s, indications, UDP", indications=True, logged=RENEWALS)]
+
+
+def all_of_them(is_quick):
+    return [*([] if is_quick else renewals()), *troubles(), *refusals(), *payloads(), *settings(), *connections()]

@@ -1,0 +1,131 @@
+"""The programs that are run: how each is built, and which options it takes."""
+
+import os
+import re
+import shutil
+import subprocess
+import sys
+from dataclasses import dataclass
+
+ROOT = os.path.abspath(os.path.join(os.path.dirname(__file__), "..", ".."))
+LIBRARY = os.path.join(ROOT, "dist", "x86_64-linux-gnu")  # the folder of the released library
+OWN_INTERVAL = 1  # milliseconds between two payloads, of a program that has no such option
+PEERS = {"run": ["--peer"], "stream": ["--connect"], "echo": ["--echo"], "none": []}  # by which it learns its peer
+C_FILES = ("turn_client.c", "options.c", "sockets.c", "tally.c")
+SANITIZERS = ("-g", "-O1", "-fsanitize=address,undefined", "-fno-sanitize-recover=all", "-fno-omit-frame-pointer")
+
+
+@dataclass(frozen=True)
+class Program:
+    """One to run, over the transports to the server that it has."""
+
+    name: str
+    command: tuple
+    transports: tuple
+    takes: frozenset
+
+    def options(self, case):
+        """The options of a case, in those words that the program has. Lacks tells that it has none."""
+        given = ["--count", str(self._count(case)), "--size", str(case.size)]
+        if case.seconds:
+            given += ["--seconds", str(case.seconds)]
+        if case.is_even or (case.interval and "--interval" in self.takes):
+            given += ["--interval", str(case.interval)]
+        if "--family" in self.takes:
+            given += ["--family", case.family]
+        elif case.family == "both":
+            raise Lacks("--family")  # for one alone it goes by the peer's
+        given += self._algorithms(case)
+        if case.indications:
+            given.append("--indications")
+        if case.transport == "tcp" and len(self.transports) > 1:
+            given.append("--tcp")
+        given += [*case.options, *({"echo": ["--echo"]}.get(case.peer, []))]
+        for one in [*given, *PEERS[case.peer]]:
+            if one.startswith("--") and one not in self.takes:
+                raise Lacks(one)
+        return given
+
+    def _count(self, case):
+        """As many payloads as take the case's time where something is done meanwhile, and it can't be told."""
+        if "--interval" in self.takes or case.during is None:
+            return case.count
+        return case.count * case.interval // OWN_INTERVAL
+
+    def _algorithms(self, case):
+        if case.algorithms == "sha1":
+            return []
+        if case.algorithms == "sha256" and "--sha256" in self.takes:
+            return ["--sha256"]
+        return ["--algorithms", case.algorithms]
+
+
+class Lacks(Exception):
+    """A program has no such option."""
+
+
+@dataclass(frozen=True)
+class Absent:
+    """A program that can't be run, and why."""
+
+    name: str
+    why: str
+
+
+def _made(name, command, transports, cwd=None):
+    """A program whose options are those that its help names."""
+    told = subprocess.run([*command, "--help"], capture_output=True, text=True, check=False, cwd=cwd)
+    takes = frozenset(re.findall(r"--[a-z][a-z0-9-]*", told.stdout + told.stderr))
+    if told.returncode != 0 or "--server" not in takes:
+        return Absent(name, "its help names no options")
+    return Program(name, tuple(command), transports, takes)
+
+
+def _build(command, cwd, log):
+    with open(log, "ab") as out:
+        return subprocess.run(command, cwd=cwd, stdin=subprocess.DEVNULL, stdout=out, stderr=out,
+                              check=False).returncode == 0
+
+
+def of_c(archive, folder):
+    """bindings/c/turn_client.c under sanitizers. The archive is proved code, and isn't instrumented."""
+    name, made = "bindings/c/turn_client.c", os.path.join(folder, "turn_client")
+    compiler = os.environ.get("CC") or shutil.which("clang") or "cc"
+    library = os.path.join(archive, "libturn_client.a")
+    if not os.path.exists(library):
+        return [Absent(name, f"there is no {library}")]
+    command = [compiler, "-std=c11", *SANITIZERS, "-Wall", "-Wextra", "-I" + archive, *C_FILES, library, "-o", made]
+    if not _build(command, os.path.join(ROOT, "bindings", "c"), os.path.join(folder, "build-c.log")):
+        return [Absent(name, "it isn't built: see build-c.log")]
+    return [_made(name, [made], ("udp", "tcp"))]
+
+
+def of_rust(archive, folder):
+    """The examples of bindings/rust/, each over one transport."""
+    source = os.path.join(ROOT, "bindings", "rust")
+    names = {kind: f"bindings/rust/examples/{kind}.rs" for kind in ("udp", "tcp")}
+    if not os.path.isdir(source) or shutil.which("cargo") is None:
+        return [Absent(name, "no folder bindings/rust/, or no cargo") for name in names.values()]
+    target = os.path.join(folder, "rust-target")
+    build = ["env", "TURN_CLIENT_LIB=" + archive, "CARGO_TARGET_DIR=" + target,
+             "cargo", "build", "--offline", "--release", "--examples"]
+    if not _build(build, source, os.path.join(folder, "build-rust.log")):
+        return [Absent(name, "it isn't built: see build-rust.log") for name in names.values()]
+    return [_made(name, [os.path.join(target, "release", "examples", kind)], (kind,)) for kind, name in names.items()]
+
+
+def of_python(archive, folder):
+    """bindings/python/example.py, with the shared library that bindings/python/build makes of the archive."""
+    name, source = "bindings/python/example.py", os.path.join(ROOT, "bindings", "python")
+    if not os.path.isdir(source):
+        return [Absent(name, "no folder bindings/python/")]
+    copy = os.path.join(folder, "python")
+    shutil.copytree(source, copy, dirs_exist_ok=True, ignore=shutil.ignore_patterns(".*", "__pycache__"))
+    library = os.path.join(archive, "libturn_client.a")
+    if not _build([os.path.join(copy, "build"), library], copy, os.path.join(folder, "build-python.log")):
+        return [Absent(name, "it isn't built: see build-python.log")]
+    return [_made(name, [sys.executable, os.path.join(copy, "example.py")], ("udp", "tcp"))]
+
+
+def all_of_them(archive, folder):
+    return [*of_c(archive, folder), *of_rust(archive, folder), *of_python(archive, folder)]
