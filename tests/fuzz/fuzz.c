@@ -2,9 +2,9 @@
  *
  * The first byte chooses an exchange of tests/c/samples.h, whose bytes answer the client's own requests under its seed.
  * Then each byte is an operation with bytes behind it (`operate`): to walk on in the exchange, as it stands or with
- * other bytes or in pieces; any call with any arguments; another moment; an allocation that is to be refused. As long as
- * nothing but the exchange's own calls changed the client, each of them has to tell what is wanted: so a call that was
- * refused and did change something is seen later, too. What else is checked stands in calls.c. */
+ * other bytes or in pieces; any call with any arguments; another moment; an allocation that is to be refused. As long
+ * as nothing but the exchange's own calls changed the client, each of them has to tell what is wanted: so a call that
+ * was refused and did change something is seen later, too. What else is checked stands in calls.c. */
 #include "fuzz.h"
 
 #include <stdio.h>
