@@ -1,5 +1,5 @@
-"""Runs a program of a crate on its stored input, as `rt ci` does: `stdin`, `stdout`, `args`, `status` and `data/` beside
-its `src/`."""
+"""Runs a program of a crate on its stored input, as `rt ci` does: `stdin`, `stdout`, `args`, `status` and `data/`
+beside its `src/`."""
 
 import shutil
 import subprocess

@@ -1,5 +1,5 @@
-//! The client for C: each function of `include/turn_client.h`, exported. `turn_client_calls` has their bodies, and
-//! proves there what each contract here says again: a static library exports its own functions alone.
+//! The client for C: each function of `bindings/c/include/turn_client.h`, exported. `turn_client_calls` has their
+//! bodies, and proves there what each contract here says again: a static library exports its own functions alone.
 #![tactic(auto)]
 
 ghost use Rattle.std.specs.Net.Socket.{socket_ip};
