@@ -66,7 +66,7 @@ message_frame bytes is =
     let second = no_first (length_refusal bytes) (body_refusal bytes) first.1 in
     record { header = first.0; size = right_length bytes second.0 }
 
-whole_front : (bytes : List ℕ) → refusal bytes ≡ None → front bytes ≡ Message (length bytes)
+pub whole_front : (bytes : List ℕ) → refusal bytes ≡ None → front bytes ≡ Message (length bytes)
 whole_front bytes is = ap front (sym (append-nil bytes)) ∙ message_at bytes [] (message_frame bytes is)
 
 some_length : (bytes : List ℕ) → bytes ≢ [] → 0 < length bytes
@@ -74,7 +74,7 @@ some_length [] some = absurd (some refl)
 some_length (x ∷ rest) some = omega arith
 
 -- its first bytes are none yet
-part_front : (part message : List ℕ) → IsPartOf part message → front part ≡ Partial
+pub part_front : (part message : List ℕ) → IsPartOf part message → front part ≡ Partial
 part_front part message is =
     let whole : front (part ++ is.rest) ≡ Message (length message) = ap front (sym is.parts) ∙ whole_front message is.is_message in
     elim (front_cases part) [
@@ -92,7 +92,7 @@ part_front part message is =
     ]
 
 -- nothing stands at the front of nothing
-none_begun : IsNone (looked (alive []))
+pub none_begun : IsNone (looked (alive []))
 unfolding front
 none_begun = tt
 

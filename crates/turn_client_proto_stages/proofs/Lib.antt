@@ -3,6 +3,7 @@ mod Challenged
 mod Coming
 mod Ended
 mod First
+pub mod Frames
 mod Granted
 mod Only
 mod Polls

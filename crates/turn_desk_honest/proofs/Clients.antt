@@ -43,7 +43,7 @@ done c now Does p old new ret at is = by new (subst (λ (o : Option Kept). IsAtC
     by None is = absurd is
     by (Some q) is = record { after = q; there = refl; outcome = in_range now Does (over c p) q ret (is_in_range now) refl is }
 
-within : (now : ℕ) → now ≤ 2 ^ 62 → is_in_range now ≡ true
+pub within : (now : ℕ) → now ≤ 2 ^ 62 → is_in_range now ≡ true
 within now early = le-leb now (2 ^ 62) early
 
 -- it did, where the moment is in range

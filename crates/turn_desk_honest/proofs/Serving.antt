@@ -1,13 +1,18 @@
 -- What a desk that has challenged a client keeps of it.
-use Rattle.std.proofs.Common.{◌≡◌, inl, inr, [], ◌∷◌, ℕ, Bool, true, false, List, Some, None, refl, sym, ap, ◌∙◌, subst}
-use Rattle.std.specs.Prelude.{◌&&◌, if◌then◌else◌, IsSome}
+use Rattle.std.proofs.Common.{◌≡◌, inl, inr, [], ◌∷◌, ℕ, Bool, true, false, List, Option, Some, None, refl, sym, ap, ◌∙◌, subst}
+use Rattle.std.specs.Prelude.{◌&&◌, cond, if◌then◌else◌, IsSome}
+use Rattle.std.specs.Cmp.{eq_by_cmp_equiv}
 use Rattle.std.specs.FinMap as map
 use Rattle.std.specs.Option.{option_map}
 use Rattle.stun_types.specs.IntegrityAlgorithms.{IntegrityAlgorithm}
+use Rattle.stun_types.specs.SocketAddrs.{socket_addr_cmp_total}
 use Rattle.stun_types.specs.Userhashes.{userhash_of}
 use Rattle.stun_proto.specs.Challenges.{Told}
 use Rattle.stun_proto.specs.Choice.{supports, takes}
-use Rattle.stun_proto.specs.Server.{Client}
+use Rattle.stun_proto.specs.Client.{Standing, account_key, standing_key}
+use Rattle.stun_proto.specs.Knowledge.{Outcome}
+use Rattle.stun_proto.specs.Server.{Client, Server, set_outcome}
+use Rattle.stun_proto.specs.ServerSigning.{party_by_client, party_by_password}
 use Rattle.stun_proto.specs.SupportedAlgorithms.{list_of}
 use Rattle.stun_proto.specs.Users.{HashesDiffer}
 use Rattle.std.specs.declared.net.socket_addr.SocketAddr.{SocketAddr}
@@ -19,8 +24,10 @@ use Rattle.turn_client_proto_stages.specs.Coming.{IsUnserved}
 use Rattle.turn_client_proto_stages.specs.Stages.{IsSigning, signed_queued}
 use Rattle.turn_desk_world.specs.Model.{World}
 use Rattle.turn_client_proto_stages.specs.Choosing.{Choice, IsAnsweredBy, IsChoice, standing_by}
-use Rattle.turn_desk_handshake.specs.Handshakes.{IsOfServer, list_given}
+use Rattle.turn_desk_handshake.specs.Handshakes.{IsOfServer, list_given, user_of}
+use Rattle.turn_desk_handshake.specs.Users.{knowing}
 use Rattle.turn_desk_world.specs.State.{State}
+use Rattle.turn_desk_world.specs.Steps.{key_at, key_of_party}
 use Rattle.turn_desk_honest.specs.Scripts.{Plan}
 use Rattle.turn_desk_honest.specs.Standing.{HasDrawn, IsFirstReply, IsGranting, IsOfSettings, IsUnder}
 
@@ -70,6 +77,28 @@ module _ (plan : Plan) (old desk : State) where
       choice = ap (λ (l : List IntegrityAlgorithm). supports l c.algorithm) u.challenge.settings.algorithms ∙ chosen_supported;
     }
 
+-- ---- the key
+
+-- the desk that has taken a request for a user's keeps that user's key for its address
+pub keeps_key : (server new : Server) (from : SocketAddr) (s : Standing) → IsOfServer server from s → new ≡ knowing server from (user_of s) → key_at new from ≡ Some (standing_key s)
+keeps_key server new from s own is = by (map.get server.clients from) refl own.nonce
+  where
+    outcome : Outcome
+    outcome = record { name = s.account.username; algorithm = s.challenge.choice }
+
+    by : (found : Option Client) → map.get server.clients from ≡ found → option_map (λ (k : Client). k.nonce) found ≡ Some s.challenge.nonce → key_at new from ≡ Some (standing_key s)
+    by None at has = absurd (Prim.cc has)
+    by (Some old) at has =
+        let kept : Client = record old { outcome = Some outcome } in
+        let after : Server = record server { clients = map.insert server.clients from kept } in
+        let there : map.get after.clients from ≡ Some kept = map.get-insert socket_addr_cmp_total server.clients from kept from
+        ∙ ap (λ (b : Bool). cond b (Some kept) (map.get server.clients from)) ((eq_by_cmp_equiv socket_addr_cmp_total).refl from) in
+        let is_after : new ≡ after = is ∙ ap (λ (f : Option Client). record server { clients = set_outcome server.clients from (Some outcome) f }) at in
+        ap (λ (x : Server). key_at x from) is_after
+        ∙ ap (λ (c : Option Client). key_of_party (party_by_client after c)) there
+        ∙ ap (λ (o : Option (List ℕ)). key_of_party (party_by_password after old.nonce outcome o)) own.present
+        ∙ ap (λ (r : List ℕ). Some (account_key s.account r s.challenge.choice)) (sym own.realm)
+
 -- ---- the client, once its signed request was drawn
 
 pub choice_of : (plan : Plan) (c : Choice) (p : Protocol) → HasDrawn plan c p → IsChoice plan.client c
@@ -98,5 +127,7 @@ granting_on plan old w v c request address lifetime reply same is = record {
   request_right = is.request_right;
   message = is.message;
   grant = is.grant;
+  no_challenge = is.no_challenge;
+  keeps = ap (λ (d : State). key_at d.auth plan.client.here) same ∙ is.keeps;
   granted = ap (λ (d : State). d.grants) same ∙ is.granted;
 }

@@ -1,6 +1,7 @@
 pub mod Promises
 pub mod Scripts
 pub mod Standing
+pub mod Unforged
 -- What stands above this crate has these through it.
 pub use Rattle.turn_desk_world.specs.AskedFor
 pub use Rattle.turn_desk_world.specs.Beginning

@@ -1,9 +1,9 @@
 -- How a world stands at each place of an honest network.
-use Rattle.std.specs.Prelude.{◌≡◌, ◌⊎◌, ◌++◌, ℕ, List, [], ◌∷◌, None}
+use Rattle.std.specs.Prelude.{◌≡◌, ◌⊎◌, ◌++◌, ℕ, List, [], ◌∷◌, None, Some}
 use Rattle.std.specs.declared.net.socket_addr.SocketAddr.{SocketAddr}
 use Rattle.stun_types.specs.Grammar.{refusal}
 use Rattle.stun_types.specs.IntegrityAlgorithms.{IntegrityAlgorithm}
-use Rattle.stun_proto.specs.Challenges.{Told}
+use Rattle.stun_proto.specs.Challenges.{Told, challenge_shown}
 use Rattle.stun_proto.specs.Choice.{supports, takes}
 use Rattle.stun_proto.specs.Client.{standing_key}
 use Rattle.stun_proto.specs.Digests.{IsRight}
@@ -21,6 +21,7 @@ use Rattle.turn_client_proto_stages.specs.Coming.{IsPartOf}
 use Rattle.turn_client_proto_stages.specs.Stages.{IsAsking, IsGrant, created, failures, first_asked}
 use Rattle.turn_desk_handshake.specs.Challenged.{IsFirstChallenge}
 use Rattle.turn_desk_world.specs.State.{State}
+use Rattle.turn_desk_world.specs.Steps.{key_at}
 use Rattle.turn_desk_world.specs.Model.{World}
 use Rattle.turn_desk_honest.specs.Promises.{HasClient, allocation_granted}
 use Rattle.turn_desk_honest.specs.Scripts.{Plan, Place, Start, Asked, Challenged, Came}
@@ -96,7 +97,8 @@ pub record IsSigned (plan : Plan) (old : World) (request : Sent) (w : World) : T
   pub request_is : request ≡ signed_sent plan.client choice
   pub chosen : IsChosen plan old choice (HasDrawn plan choice) w
 
--- the desk has granted what the client asked for
+-- the desk has granted what the client asked for: it keeps the client's key for its address, and the reply is right
+-- under that
 pub record IsGranting (plan : Plan) (old : World) (choice : Choice) (request : Sent) (address : SocketAddr)
     (lifetime : ℕ) (reply : List ℕ) (w : World) : Type 0 where
   pub request_is : request ≡ signed_sent plan.client choice
@@ -107,6 +109,8 @@ pub record IsGranting (plan : Plan) (old : World) (choice : Choice) (request : S
   pub request_right : IsRight request.bytes (standing_key (standing_by plan.client choice))
   pub message : refusal reply ≡ None
   pub grant : IsGrant plan.client choice address lifetime reply
+  pub no_challenge : challenge_shown reply ≡ None
+  pub keeps : key_at w.desk.auth plan.client.here ≡ Some (standing_key (standing_by plan.client choice))
   pub granted : w.desk.grants ≡ old.desk.grants ++ allocation_granted plan request.bytes address lifetime ∷ []
 
 -- of its reply this front has come

@@ -10,6 +10,7 @@
 #![tactic(auto)]
 
 pub mod fresh;
+pub mod unforged;
 
 // What stands above this crate has these through it.
 ghost use Rattle.std.specs.Prelude.{◌≡◌, ◌≢◌, ◌++◌, ◌<◌, ◌≤◌, List, [], ◌∷◌, Vec, ℕ};
@@ -35,7 +36,7 @@ ghost use Rattle.turn_desk_world.specs.Model.{World};
 ghost use Rattle.turn_desk_world.specs.Runs.{IsRun, IsStep};
 ghost use Rattle.turn_desk_honest.specs.Promises.{HasCome, IsFresh, event_in, events_in};
 ghost use Rattle.turn_desk_honest.specs.Scripts.{Asked, Barred, BringsOn, Came, Challenged};
-ghost use Rattle.turn_desk_honest.specs.Scripts.{Done, Granted, IsCut, IsLook, IsPolledAt, IsScript};
+ghost use Rattle.turn_desk_honest.specs.Scripts.{Done, Follows, Granted, IsCut, IsLook, IsPolledAt, IsScript};
 ghost use Rattle.turn_desk_honest.specs.Scripts.{Place, Plan, Signed, Start, brought_first};
 ghost use Rattle.turn_desk_honest.specs.Scripts.{brought_second, drawn_first, drawn_second};
 ghost use Rattle.turn_desk_honest.specs.Scripts.{given, replied_first, replied_second};
@@ -91,6 +92,21 @@ pub fn honest_runs_allocate()
         → IsRun old pairs new
         → IsScript plan Start pairs place
         → Stands plan old (events_in pairs) place new }
+{
+    events_lead_on();
+    ended_worlds_rest();
+}
+
+/// What comes at a place of an honest network leads a world from how it stands there to how it stands at the
+/// place behind it.
+pub fn events_lead_on()
+    ensures { (plan : Plan) (old w v : World) (told : List TurnEvent) (place next : Place)
+        (event : Event) (ret : Answer)
+        → IsFresh plan old
+        → Follows plan place event ret next
+        → Stands plan old told place w
+        → IsStep event w ret v
+        → Stands plan old (told ++ event_in ret) next v }
 {
     first_requests_are_drawn();
     first_requests_are_challenged();

@@ -14,43 +14,15 @@ use Rattle.turn_client_proto_stages.specs.Stages.{first_asked}
 use Rattle.turn_desk_world.specs.declared.answer.Answer.{Answer}
 use Rattle.turn_desk_world.specs.declared.event.Event.{Event}
 use Rattle.turn_desk_world.specs.Model.{World}
-use Rattle.turn_desk_world.specs.Runs.{IsRun, IsStep}
+use Rattle.turn_desk_world.specs.Runs.{IsRun}
 use Rattle.turn_desk_honest.specs.Promises.{IsOwnSent, AreApart, HasCome, IsAllocated, IsFresh, IsTurnedAway, event_in, events_in}
-use Rattle.turn_desk_honest.specs.Scripts.{AskFirst, AskSecond, Asked, Barred, Came, Challenged, Done, DrawFirst, DrawSecond, DrawsOn, Follows, GiveFirst, GiveSecond, Granted, IsScript, Looks, Place, Plan, Polls, Receives, Signed, Silent, Start}
+use Rattle.turn_desk_honest.specs.Scripts.{Asked, Barred, Came, Challenged, Done, Granted, IsScript, Place, Plan, Signed, Silent, Start}
 use Rattle.turn_desk_honest.specs.Standing.{IsChosen, IsHeld, IsOver, Stands}
 use Rattle.turn_desk_honest.proofs.Meeting.{are_apart, strongest_of_both, together}
 use Rattle.turn_desk_honest.proofs.Serving.{of_settings}
 use Rattle.turn_desk_honest.proofs.honest_runs_allocate.Goals as goal
 
 module _ (c : goal.After-ended_worlds_rest) (plan : Plan) (old : World) (fresh : IsFresh plan old) where
-  -- ---- one event
-
-  module _ (w v : World) (told : List TurnEvent) (place next : Place) (event : Event) (ret : Answer) where
-    -- with the place, the event and the next place as a constructor says them
-    abbrev At : Place → Event → Place → Type 0
-    At from happening to = Stands plan old told from w → IsStep happening w ret v → Stands plan old (told ++ event_in ret) to v
-
-    as_said : (from : Place) (happening : Event) (to : Place) → place ≡ from → event ≡ happening → next ≡ to → At from happening to → At place event next
-    as_said from happening to one two three is = λ stands step.
-        subst (λ (n : Place). Stands plan old (told ++ event_in ret) n v) (sym three)
-        (is (subst (λ (p : Place). Stands plan old told p w) one stands) (subst (λ (e : Event). IsStep e w ret v) two step))
-
-    one : Follows plan place event ret next → At place event next
-    one (DrawFirst at is to) = as_said _ _ _ at is to (λ stands step. c.first_requests_are_drawn.ensures plan old w v told ret fresh stands step)
-    one (AskFirst request bytes decision seed at same is to) =
-        as_said _ _ _ at is to (λ stands step. c.first_requests_are_challenged.ensures plan old w v told ret request bytes decision seed fresh stands same step)
-    one (GiveFirst request reply front rest bytes at on is to) =
-        as_said _ _ _ at is to (λ stands step. c.first_replies_are_taken.ensures plan old w v told ret request reply front rest bytes fresh stands on step)
-    one (DrawSecond at is to) = as_said _ _ _ at is to (λ stands step. c.second_requests_are_drawn.ensures plan old w v told ret fresh stands step)
-    one (AskSecond request bytes address lifetime seed at same asks whole is to) =
-        as_said _ _ _ at is to (λ stands step. c.second_requests_are_granted.ensures plan old w v told ret request bytes address lifetime seed fresh stands same asks whole step)
-    one (GiveSecond request address lifetime reply front rest bytes at on is to) =
-        as_said _ _ _ at is to (λ stands step. c.second_replies_are_taken.ensures plan old w v told ret request address lifetime reply front rest bytes fresh stands on step)
-    one (Looks what now look is to) = as_said _ _ _ refl is to (λ stands step. c.worlds_stand_still.ensures.looks plan old w v told ret place what now stands look step)
-    one (Polls now at before is to) = as_said _ _ _ refl is to (λ stands step. c.worlds_stand_still.ensures.polls plan old w v told ret place now stands at before step)
-    one (Receives now is to) = as_said _ _ _ refl is to (λ stands step. c.worlds_give_nothing.ensures plan old w v told ret place now fresh stands step)
-    one (DrawsOn now at is to) = as_said _ _ _ at is to (λ stands step. c.ended_worlds_rest.ensures.rests plan old w v told ret now stands step)
-
   -- ---- all of them
 
   all : (w new : World) (told : List TurnEvent) (place last : Place) (pairs : List (Event × Answer)) → Stands plan old told place w → IsRun w pairs new → IsScript plan place pairs last → Stands plan old (told ++ events_in pairs) last new
@@ -59,7 +31,7 @@ module _ (c : goal.After-ended_worlds_rest) (plan : Plan) (old : World) (fresh :
       subst (λ (l : List TurnEvent). Stands plan old l last new) (sym (append-nil told))
       (subst (λ (p : Place). Stands plan old told p new) (sym is) (subst (λ (x : World). Stands plan old told place x) (sym run) stands))
   all w new told place last (pair ∷ pairs) stands run is =
-      let behind = one w run.0 told place is.0 pair.0 pair.1 is.1 stands run.1 in
+      let behind = c.events_lead_on.ensures plan old w run.0 told place is.0 pair.0 pair.1 fresh is.1 stands run.1 in
       subst (λ (l : List TurnEvent). Stands plan old l last new) (append_assoc told (event_in pair.1) (events_in pairs))
       (all run.0 new (told ++ event_in pair.1) is.0 last pairs behind run.2 is.2)
 

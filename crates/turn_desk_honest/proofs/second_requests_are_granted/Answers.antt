@@ -22,7 +22,7 @@ use Rattle.turn_desk_honest.specs.Scripts.{Plan, replied_second}
 use Rattle.turn_desk_honest.specs.Standing.{IsSigned, Stands}
 use Rattle.turn_desk_honest.proofs.Coming.{none_yet}
 use Rattle.turn_desk_honest.proofs.Places.{untold}
-use Rattle.turn_desk_honest.proofs.Serving.{choice_of, differ_still, is_user, of_settings}
+use Rattle.turn_desk_honest.proofs.Serving.{choice_of, differ_still, is_user, keeps_key, of_settings}
 use Rattle.turn_desk_honest.proofs.second_requests_are_granted.Goals as goal
 
 module _ (c : goal.After-messages_are_told_alike) (plan : Plan) (old w v : World) (told : List TurnEvent) (fresh : IsFresh plan old) (none : told ≡ []) (request : Sent) (is : IsSigned plan old request w)
@@ -55,7 +55,8 @@ module _ (c : goal.After-messages_are_told_alike) (plan : Plan) (old w v : World
       let g = c.signed_allocates_are_granted.ensures w.desk v.desk plan.client.here (signer_by plan.client is.choice) plan.client.config.transport plan.client.config.families is.choice.number plan.second
       (words_of seed) (standing_by plan.client is.choice) (address ∷ []) lifetime reply.items short reads fresh.room.1 choice_is.fits (c.signed_allocates_answer.ensures.stands plan.client is.choice) own
       (differ_still plan old.desk w.desk is.choice.told is.chosen.under fresh.hashes) (is.chosen.under.challenge.stands plan.second fresh.stands) refl
-      (c.relayed_addresses_are_told.ensures.relayed is.choice.number (address ∷ []) (whole, tt)) four replied.answer in (
+      (c.relayed_addresses_are_told.ensures.relayed is.choice.number (address ∷ []) (whole, tt)) four replied.answer in
+      let right = c.successes_are_right.ensures w.desk v.desk plan.client.here bytes reply.items plan.client.config.transport (address ∷ []) lifetime (standing_by plan.client is.choice) own g in (
         untold told [] none refl,
         record {
           choice = is.choice;
@@ -71,10 +72,12 @@ module _ (c : goal.After-messages_are_told_alike) (plan : Plan) (old w v : World
             grant = record {
               number = g.number ∙ signed.number;
               success = g.success;
-              right = (c.successes_are_right.ensures w.desk v.desk plan.client.here bytes reply.items plan.client.config.transport (address ∷ []) lifetime (standing_by plan.client is.choice) own g).0;
+              right = right.0;
               relayed = c.messages_are_told_alike.ensures.relayed reply.items g.each ∙ g.shows;
               lifetime_is = c.messages_are_told_alike.ensures.lifetime reply.items ∙ g.tells;
             };
+            no_challenge = right.1;
+            keeps = keeps_key w.desk.auth v.desk.auth plan.client.here (standing_by plan.client is.choice) own g.kept;
             granted = granted_grants v.desk.grants g.granted;
           };
           part = none_yet reply.items g.message;
