@@ -12,6 +12,7 @@ use Rattle.turn_desk_honest.specs.declared.decision.Decision.{Decision}
 use Rattle.turn_desk_honest.specs.declared.event.Event.{Event}
 use Rattle.turn_desk_honest.specs.Model.{World}
 use Rattle.turn_desk_honest.specs.Runs.{IsRun}
+use Rattle.turn_desk_honest.specs.Unforged.{IsEachUnforged}
 use Rattle.turn_met.specs.Exchanges.{IsSent, IsUnsent}
 use Rattle.turn_met.specs.Meetings.{HasComeTo, HasGoneOn, HasMet}
 use Rattle.turn_met.specs.declared.exchange.Carried.TheVariants.{Unanswered, Replied}
@@ -20,14 +21,17 @@ use Rattle.turn_met.specs.declared.meeting.Outcome.TheVariants as outcome
 use Rattle.turn_met.specs.declared.meeting.TheConstants.{LIFETIME}
 use Rattle.turn_met.proofs.Leading.{Leads, allocated, barred, mute, replied, silent, unanswered}
 
--- the law
+-- the laws
 abbrev pub Promises : Type 0
 Promises = (plan : Plan) (old new : World) (pairs : List (Event × Answer)) (place : Place) → IsFresh plan old → IsRun old pairs new → IsScript plan Start pairs place → HasCome plan old (events_in pairs) place new
 
 abbrev pub Standing : Type 0
 Standing = (plan : Plan) (old new : World) (pairs : List (Event × Answer)) (place : Place) → IsFresh plan old → IsRun old pairs new → IsScript plan Start pairs place → Stands plan old (events_in pairs) place new
 
-module _ (promises : Promises) (standing : Standing) (plan : Plan) (old : World) (fresh : IsFresh plan old) (address : SocketAddr) where
+abbrev pub Unforged : Type 0
+Unforged = (plan : Plan) (old new : World) (pairs : List (Event × Answer)) (place : Place) → IsFresh plan old → IsScript plan Start pairs place → IsEachUnforged plan old pairs new
+
+module _ (promises : Promises) (standing : Standing) (unforged : Unforged) (plan : Plan) (old : World) (fresh : IsFresh plan old) (address : SocketAddr) where
   law : (new : World) (pairs : List (Event × Answer)) (place : Place) → IsRun old pairs new → IsScript plan Start pairs place → Stands plan old (events_in pairs) place new
   law new pairs place run script = standing plan old new pairs place fresh run script
 
@@ -39,6 +43,7 @@ module _ (promises : Promises) (standing : Standing) (plan : Plan) (old : World)
     run = leads.run;
     script = leads.script;
     promised = promises plan old new leads.pairs place fresh leads.run leads.script;
+    unforged = unforged plan old new leads.pairs place fresh leads.script;
   }
 
   module _ (made : ℕ) (made_is : plan.client.made ≡ made) where

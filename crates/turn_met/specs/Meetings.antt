@@ -12,6 +12,7 @@ use Rattle.turn_desk_honest.specs.declared.decision.Decision.TheVariants as by
 use Rattle.turn_desk_honest.specs.declared.event.Event.{Event}
 use Rattle.turn_desk_honest.specs.Model.{World}
 use Rattle.turn_desk_honest.specs.Runs.{IsRun}
+use Rattle.turn_desk_honest.specs.Unforged.{IsEachUnforged}
 use Rattle.turn_met.specs.Exchanges.{IsCarried}
 use Rattle.turn_met.specs.Settings.{config_of}
 use Rattle.turn_met.specs.declared.exchange.Carried.{Carried}
@@ -45,7 +46,7 @@ HasGoneOn now address old came new = IsCarried now (by.Allocate (address ∷ [])
     carried_for outcome.TurnedAway = Unsent
     carried_for outcome.Allocated = Replied
 
--- what happened is a script of an honest network, so all that the law on it says holds
+-- what happened is a script of an honest network, so all that the law on it says holds, and nothing was forged in it
 pub record HasMet (plan : Plan) (address : SocketAddr) (old : World) (came : Outcome) (new : World) : Type 0 where
   pub pairs : List (Event × Answer)
   pub place : Place
@@ -53,3 +54,4 @@ pub record HasMet (plan : Plan) (address : SocketAddr) (old : World) (came : Out
   pub run : IsRun old pairs new
   pub script : IsScript plan Start pairs place
   pub promised : HasCome plan old (events_in pairs) place new
+  pub unforged : IsEachUnforged plan old pairs new

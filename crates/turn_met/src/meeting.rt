@@ -28,6 +28,7 @@ use turn_desk_honest::core_desk::Desk;
 use turn_desk_honest::decision::Decision;
 use turn_desk_honest::fresh::worlds_begin_fresh;
 use turn_desk_honest::honest_runs_allocate;
+use turn_desk_honest::unforged::honest_runs_are_unforged;
 use turn_desk_honest::world::World;
 
 /// What a meeting came to.
@@ -48,7 +49,8 @@ pub(crate) const SECOND: u64 = 50_000_000;
 pub(crate) const LIFETIME: u32 = 600;
 
 /// Lets a client and a desk of these settings meet: what they are made of meets what the law on an honest network
-/// takes for granted (`IsFresh`), and what happens is a script of it (`HasMet`).
+/// takes for granted (`IsFresh`), and what happens is a script of it (`HasMet`). So the premise of `World::run` that
+/// nothing was forged holds of it, too (`unforged`).
 pub(crate) fn meet(
     alloc: Global,
     setting: &Setting<'_>,
@@ -86,6 +88,7 @@ pub(crate) fn shake(
         → IfOk result (λ outcome. HasMet plan address world.old outcome world.new) }
 {
     honest_runs_allocate();
+    honest_runs_are_unforged();
     match carry(alloc, world, made, Decision::Refuse(400))? {
         Carried::Replied => go_on(alloc, world, second, address),
         Carried::Unsent => Ok(Outcome::Silent),
