@@ -1,4 +1,4 @@
-// Times the library through the static library stun_bench, and counts what it allocates. `run` builds
+// Times the library through the static library bench_codec, and counts what it allocates. `run` builds
 // and runs it; docs/SPEED.md says how its lines are read.
 #include <float.h>
 #include <stdio.h>

@@ -34,7 +34,7 @@ def script(path):
     return made
 
 
-release, replay = script(TOP / "tools/release"), script(TOP / "replay")
+release, replay, layout = (script(TOP / it) for it in ("tools/release", "replay", "tools/layout"))
 
 
 class Dist(unittest.TestCase):
@@ -201,6 +201,27 @@ class Commands(unittest.TestCase):
         # RFC 8656, section 12.4: channel 0x4000, the length of the data, the data, padded over TCP alone
         status, printed, _ = self.run_it("./inspect", "frame", "4000000568656c6c6f")
         self.assertEqual((status, printed.splitlines()[1:3]), (0, ["channel 0x4000", "data 68656c6c6f"]))
+
+
+class Layout(unittest.TestCase):
+    """What breaks a rule of the layout."""
+
+    def test_code_above_theorems_is_seen(self):
+        crates = layout.listed("a_laws:\nb: a_laws  # a word\nc: b\ntest_d: c\nbench_e staticlib: c\nf_laws: a_laws\ng:")
+        self.assertEqual([*layout.laws_below(crates)], ["b stands above a_laws", "c stands above a_laws"])
+
+    def test_each_import_is_read(self):
+        text = "use std::fmt;\nuse crate::a::{One, Two as Other};\npub use b::c::Three;\n// use d::Four;\n"
+        read = {("fmt", "std"), ("One", "me::a"), ("Two", "me::a"), ("Three", "b::c")}
+        self.assertEqual({*layout.imports(text, "me")}, read)
+
+    def test_another_path_is_seen(self):
+        with tempfile.TemporaryDirectory() as room:
+            source = Path(room, "crates", "a", "src")
+            source.mkdir(parents=True)
+            source.joinpath("lib.rt").write_text("use b::Instant;\nuse stun_types_base::memory::NoMemory;\n")
+            found = [*layout.other_paths(Path(room), {"a": [], "b": [], "stun_types_base": []})]
+        self.assertEqual(found, ["crates/a/src/lib.rt imports Instant from b, not from stun_types_base::instant"])
 
 
 if __name__ == "__main__":

@@ -60,7 +60,7 @@ def end_of(text, at, brackets="{}"):
 def tellers():
     """What in an answer can tell that memory is refused."""
     found = set(REFUSED)
-    for text in (*sources().values(), (CRATES / "program_lines/src/status.rt").read_text(encoding="utf-8")):
+    for text in (*sources().values(), (CRATES / "line_io/src/status.rt").read_text(encoding="utf-8")):
         for enum in re.finditer(r"pub enum (\w+)[^{;]*\{", text):
             if "NoMemory" in text[enum.end() : end_of(text, enum.end() - 1)]:
                 found.add(enum[1])
@@ -153,7 +153,7 @@ def rows():
 def stored(program):
     """The stored input and output of a program; of tests their sources."""
     folder = CRATES / program
-    if program == "turn_tests":
+    if program == "test_tables":
         text = "".join(it.read_text(encoding="utf-8") for it in sorted((folder / "src").iterdir()))
         return text, text
     given = folder / "stdin"
@@ -189,7 +189,7 @@ def of_lines(given, printed):
 
 
 ANSWERED = {
-    "turn_rows_wire": of_lines, "turn_rows_client": of_lines, "turn_rows_proto": of_sections, "turn_replay": of_traces,
+    "test_rows_wire": of_lines, "test_rows_client": of_lines, "test_rows_proto": of_sections, "turn_replay": of_traces,
 }
 
 

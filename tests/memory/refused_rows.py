@@ -1,4 +1,4 @@
-"""Rows of `turn_rows_wire` that write, and what such a row may print where it is refused memory.
+"""Rows of `test_rows_wire` that write, and what such a row may print where it is refused memory.
 
 Chosen are the shortest rows of each kind that writes an attribute, a message or a frame: of messages, in a
 vector and in a slice, one with each way to begin and each add. Of a row that is refused memory it is said

@@ -1,5 +1,5 @@
 #!/usr/bin/env python3
-"""What `turn_met` prints: what each client and desk come to over an honest network, by RFC 8489. They come
+"""What `test_honest_network` prints: what each client and desk come to over an honest network, by RFC 8489. They come
 together if and only if they have an algorithm in common (section 9.2.5), and the client's name need not be
 hidden from a desk that takes no hash of a name (section 9.2.3)."""
 

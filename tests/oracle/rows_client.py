@@ -1,5 +1,5 @@
 #!/usr/bin/env python3
-"""Makes the rows of `turn_rows_client`: what it is asked, and what it is to answer.
+"""Makes the rows of `test_rows_client`: what it is asked, and what it is to answer.
 
 Nothing here knows the repository's code. What is to be answered is worked out by RFC 8489 and RFC 8656, and by what
 the calls of a client's settings, errors, payloads and sends are documented to do and to print. Waits are those of
@@ -19,7 +19,7 @@ from rows_wire_frames import TCP_WAY
 from traces_base import INDICATION, MS, PEER, message, xored
 from traces_payloads import DATA, SEND, frame
 
-CRATE = Path(__file__).resolve().parents[2] / "crates/turn_rows_client"
+CRATE = Path(__file__).resolve().parents[2] / "crates/test_rows_client"
 
 
 # ---- settings, and the agent that they make

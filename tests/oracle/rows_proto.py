@@ -1,5 +1,5 @@
 #!/usr/bin/env python3
-"""Makes the stored run of `turn_rows_proto`: its lines, and what each is answered.
+"""Makes the stored run of `test_rows_proto`: its lines, and what each is answered.
 
 It knows nothing of the repository's code. What an agent of requests answers is worked out in
 `rows_proto_agent.py`; what digests, keys and nonces answer, in `rows_proto_values.py`; and what the
@@ -56,7 +56,7 @@ def sections():
 
 def main():
     made = list(sections())
-    crate = TOP / "crates/turn_rows_proto"
+    crate = TOP / "crates/test_rows_proto"
     given = "%".join("".join(f"{line}\n" for line in it.lines) for it in made)
     printed = "".join(f"{answer}\n" for it in made for answer in it.answers)
     (crate / "stdin").write_text(given, encoding="utf-8")

@@ -1,4 +1,4 @@
-"""The rows of `turn_rows_proto` for an agent of requests, and for the moments and waits that it goes by.
+"""The rows of `test_rows_proto` for an agent of requests, and for the moments and waits that it goes by.
 
 What an agent answers is worked out by RFC 8489, section 6.2, and by what its calls are documented to do.
 """

@@ -1,4 +1,4 @@
-"""The rows of `turn_rows_proto` for the authenticators of a client and of a server.
+"""The rows of `test_rows_proto` for the authenticators of a client and of a server.
 
 What they answer, keep and sign is worked out by RFC 8489, sections 9.1 and 9.2, and by what their calls are
 documented to do.

@@ -1,4 +1,4 @@
-"""What the rows of `turn_rows_proto` are made of: sections of lines and answers, messages, and waits."""
+"""What the rows of `test_rows_proto` are made of: sections of lines and answers, messages, and waits."""
 
 import struct
 from typing import NamedTuple, Optional

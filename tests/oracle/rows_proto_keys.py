@@ -1,4 +1,4 @@
-"""Keys, what is signed by them, what a message claims, and nonces, for the rows of `turn_rows_proto`.
+"""Keys, what is signed by them, what a message claims, and nonces, for the rows of `test_rows_proto`.
 
 By RFC 8489, sections 9, 14.3 to 14.12 and 18.5, over Python's hmac and hashlib.
 """

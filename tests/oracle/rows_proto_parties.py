@@ -1,4 +1,4 @@
-"""What reaches the authenticators in the rows of `turn_rows_proto`: challenges, replies and requests."""
+"""What reaches the authenticators in the rows of `test_rows_proto`: challenges, replies and requests."""
 
 from rows_proto_auth import (
     BOTH,

@@ -1,4 +1,4 @@
-"""What reaches agents and authenticators that know three algorithms, in the rows of `turn_rows_proto`."""
+"""What reaches agents and authenticators that know three algorithms, in the rows of `test_rows_proto`."""
 
 import struct
 

@@ -1,4 +1,4 @@
-"""The rows of `turn_rows_proto` for digests, keys and nonces, and for requests that other programs sent.
+"""The rows of `test_rows_proto` for digests, keys and nonces, and for requests that other programs sent.
 
 The vectors are those of RFC 2202, RFC 4231 and RFC 5769; what else is wanted is worked out by Python's hmac,
 hashlib and zlib.

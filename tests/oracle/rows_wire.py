@@ -1,5 +1,5 @@
 #!/usr/bin/env python3
-"""Makes the rows of `turn_rows_wire`: what it is asked, and what it is to answer.
+"""Makes the rows of `test_rows_wire`: what it is asked, and what it is to answer.
 
 Nothing here knows the repository's code. What is to be answered is worked out by RFC 8489, RFC 8656 and RFC
 6062, with Python's hmac, hashlib and zlib, and where a call is refused by what its documentation says. Bytes
@@ -20,7 +20,7 @@ import rows_wire_messages
 import rows_wire_written
 from rows_wire_base import write
 
-CRATE = Path(__file__).resolve().parents[2] / "crates/turn_rows_wire"
+CRATE = Path(__file__).resolve().parents[2] / "crates/test_rows_wire"
 
 
 def main():

@@ -3,8 +3,8 @@ use Rattle.std.proofs.Common.{ℕ, List, subst}
 use Rattle.std.specs.Prelude.{Result, Ok, Err, IfOk}
 use Rattle.stun_inspect.specs.declared.line.Line.{Line}
 use Rattle.stun_inspect.specs.InspectLines.{IsLine, IsLineOf}
-use Rattle.program_lines.specs.LineWords.{AreWords}
-use Rattle.program_lines.proofs.WordLemmas.{same_words}
+use Rattle.line_io.specs.LineWords.{AreWords}
+use Rattle.line_io.proofs.WordLemmas.{same_words}
 
 -- the words of a line spell it
 pub line_ok : {E : Type 0} (text : List ℕ) (words : List (List ℕ)) (r : Result Line E)

@@ -2,12 +2,12 @@
 use Rattle.std.proofs.Common.{ℕ, ◌≡◌, ◌≢◌, List, [], ◌++◌}
 use Rattle.std.specs.Prelude.{Option, Result, Ok, Err, codes}
 use Rattle.std.specs.Io.KnownBytes.{Appends}
-use Rattle.program_lines.specs.declared.status.Status.{Status}
-use Rattle.program_lines.specs.declared.status.Status.TheVariants.{Done, BadTrace, NoMemory, Fault}
-use Rattle.program_lines.specs.declared.stop.Stop.{Stop}
-use Rattle.program_lines.specs.declared.stop.Stop.TheVariants as Stops
-use Rattle.program_lines.specs.Stop.{bad_text, status_of, stop_text}
-use Rattle.program_lines.proofs.AppendLemmas.{appends_nothing, appends_on}
+use Rattle.line_io.specs.declared.status.Status.{Status}
+use Rattle.line_io.specs.declared.status.Status.TheVariants.{Done, BadTrace, NoMemory, Fault}
+use Rattle.line_io.specs.declared.stop.Stop.{Stop}
+use Rattle.line_io.specs.declared.stop.Stop.TheVariants as Stops
+use Rattle.line_io.specs.Stop.{bad_text, status_of, stop_text}
+use Rattle.line_io.proofs.AppendLemmas.{appends_nothing, appends_on}
 use Rattle.stun_inspect.specs.Printed.{Prints, PrintsText, PrintsTextAnd}
 
 -- nothing is printed

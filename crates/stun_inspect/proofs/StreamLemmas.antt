@@ -1,10 +1,10 @@
 -- What stands whole at the front of a stream is there.
 use Rattle.std.proofs.Common.{◌≡◌, ℕ, ◌+◌, ◌≤◌, leb, List, length, refl, sym, ◌∙◌, arith, inl, inr}
 use Rattle.std.proofs.lemmas.Bool.{cases_Bool, leb-true}
-use Rattle.stun_types.specs.Attributes.{length_at, padded}
-use Rattle.stun_types.specs.Grammar.{may_begin}
-use Rattle.turn_types.specs.FrontKinds.{Message, Channel, Partial, Broken}
-use Rattle.turn_types.specs.StreamFronts.{front, is_channel_top}
+use Rattle.stun_types_wire.specs.Attributes.{length_at, padded}
+use Rattle.stun_types_wire.specs.Grammar.{may_begin}
+use Rattle.turn_types_frame.specs.declared.front.Front.TheVariants.{Message, Channel, Partial, Broken}
+use Rattle.turn_types_frame.specs.StreamFronts.{front, is_channel_top}
 
 data FrontCase (bytes : List ℕ) : Type 0 where
   message : 20 + length_at bytes ≤ length bytes → front bytes ≡ Message (20 + length_at bytes) → FrontCase bytes

@@ -1,8 +1,8 @@
 -- The lines of the input.
 use Rattle.std.specs.Prelude.{ℕ, ◌≡◌, ◌⊎◌, List, [], ◌∷◌, codes, true, Some}
-use Rattle.program_lines.specs.Cut.{says_nothing}
-use Rattle.program_lines.specs.LowerHex.{word_bytes}
-use Rattle.program_lines.specs.LineWords.{AreWords}
+use Rattle.line_io.specs.Cut.{says_nothing}
+use Rattle.line_io.specs.LowerHex.{word_bytes}
+use Rattle.line_io.specs.LineWords.{AreWords}
 use Rattle.stun_inspect.specs.declared.line.Line.{Line}
 use Rattle.stun_inspect.specs.declared.line.Line.TheVariants.{User, Password, Message, Raw, Frame, Stream}
 

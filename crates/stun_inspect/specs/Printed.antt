@@ -1,9 +1,9 @@
 -- What is printed, of a writer whose bytes are known.
 use Rattle.std.specs.Prelude.{ℕ, List, ◌++◌, codes, Option, ⊤}
 use Rattle.std.specs.Io.KnownBytes.{Appends}
-use Rattle.program_lines.specs.Stop.{bad_text}
-use Rattle.program_lines.specs.declared.status.Status.{Status}
-use Rattle.program_lines.specs.declared.status.Status.TheVariants.{Done, BadTrace, NoMemory, Fault}
+use Rattle.line_io.specs.Stop.{bad_text}
+use Rattle.line_io.specs.declared.status.Status.{Status}
+use Rattle.line_io.specs.declared.status.Status.TheVariants.{Done, BadTrace, NoMemory, Fault}
 
 -- some text was printed
 abbrev pub PrintsText : Option (List ℕ) → Option (List ℕ) → Type 0

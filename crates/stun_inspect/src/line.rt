@@ -4,9 +4,9 @@ ghost use Rattle.std.specs.Prelude.{◌≡◌, Err, IfOk, List, codes, map, ℕ}
 ghost use Rattle.stun_inspect.specs.declared.line.Line.{Line};
 ghost use Rattle.stun_inspect.specs.InspectLines.{IsLine, IsLineOf, IsNamed, SpellBytes};
 
-use program_lines::lower_hex::read_hex;
-use program_lines::refusal::LineError;
-use program_lines::word::read_words;
+use line_io::lower_hex::read_hex;
+use line_io::refusal::LineError;
+use line_io::word::read_words;
 use std::alloc::Global;
 
 /// A line that says something.

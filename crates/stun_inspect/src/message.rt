@@ -1,19 +1,24 @@
 //! One message: what its header tells, what it shows, and whether it holds.
 
-use program_lines::lower_hex::write_hex;
+use line_io::lower_hex::write_hex;
 use std::alloc::Global;
-use stun_types::attribute::{
-    Attribute, AttributeStaticType, Fingerprint, MessageIntegrity, MessageIntegritySha256,
-    MessageIntegritySha512, RawAttribute,
-};
-use stun_types::message::{
-    IntegrityAlgorithm, Message, MessageHeader, MessageIntegrityCredentials, StunParseError,
-    TransactionId, ValidateError,
-};
-use stun_types::{Names, NoMemory};
-use stun_words::attribute::push_attribute;
-use stun_words::names::{algorithm_name, class_name};
-use stun_words::refusal::{Objection, Refusal};
+use stun_describe::attribute::push_attribute;
+use stun_describe::names::{algorithm_name, class_name};
+use stun_describe::refusal::{Objection, Refusal};
+use stun_types_add::attribute::Fingerprint;
+use stun_types_base::memory::NoMemory;
+use stun_types_integrity::credentials::MessageIntegrityCredentials;
+use stun_types_integrity::integrity_sha1::MessageIntegrity;
+use stun_types_integrity::integrity_sha256::MessageIntegritySha256;
+use stun_types_integrity::integrity_sha512::MessageIntegritySha512;
+use stun_types_message::parsed::Message;
+use stun_types_wire::algorithm::IntegrityAlgorithm;
+use stun_types_wire::attribute::RawAttribute;
+use stun_types_wire::error::{StunParseError, ValidateError};
+use stun_types_wire::header::MessageHeader;
+use stun_types_wire::names::Names;
+use stun_types_wire::transaction::TransactionId;
+use stun_types_write::attribute::{Attribute, AttributeStaticType};
 
 /// Appends what bytes are as a message, under some credentials where there are any.
 pub(crate) fn push_message(

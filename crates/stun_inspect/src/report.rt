@@ -2,23 +2,26 @@
 
 ghost use Rattle.std.specs.Prelude.{◌≡◌, ◌≢◌, ◌+◌, Err, OnOk};
 ghost use Rattle.std.specs.List.{AllByRecursion};
-ghost use Rattle.program_lines.specs.Cut.{lines_of};
-ghost use Rattle.program_lines.specs.Input.{TakesAll, TakesAtMost, TakesLines};
+ghost use Rattle.line_io.specs.Cut.{lines_of};
+ghost use Rattle.line_io.specs.Input.{TakesAll, TakesAtMost, TakesLines};
 ghost use Rattle.stun_inspect.specs.InspectLines.{IsReadable};
 ghost use Rattle.stun_inspect.specs.Printed.{Prints, PrintsText};
 
 use crate::line::{Line, read_line};
 use crate::message::{push_message, push_raw};
 use crate::stream::{push_frame, push_stream};
-use program_lines::cut::{cut_line, is_skipped};
-use program_lines::input::{InputError, MAX_INPUT, read_input};
-use program_lines::status::Status;
-use program_lines::stop::{Stop, flush, print_stop, stop_at};
+use line_io::cut::{cut_line, is_skipped};
+use line_io::input::{InputError, MAX_INPUT, read_input};
+use line_io::status::Status;
+use line_io::stop::{Stop, flush, print_stop, stop_at};
 use std::alloc::Global;
 use std::io::{Read, Write};
-use stun_types::message::{LongTermCredentials, MessageIntegrityCredentials, ShortTermCredentials};
-use stun_types::{Names, NoMemory};
-use stun_words::names::names;
+use stun_describe::names::names;
+use stun_types_base::memory::NoMemory;
+use stun_types_integrity::credentials::{
+    LongTermCredentials, MessageIntegrityCredentials, ShortTermCredentials,
+};
+use stun_types_wire::names::Names;
 
 /// Reads an input whole, and prints of each line that gives bytes what they are. At the first bad
 /// line it prints `bad trace: line N`, lines counted from 1; where memory is refused `no memory`;

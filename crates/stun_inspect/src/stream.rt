@@ -2,12 +2,13 @@
 
 use crate::message::{push_message, push_named, push_refused};
 use std::alloc::Global;
-use stun_types::attribute::pad_attribute_len;
-use stun_types::message::MessageIntegrityCredentials;
-use stun_types::{Names, NoMemory};
-use turn_types::channel::ChannelData;
-use turn_types::registry::CHANNEL_HEADER_LENGTH;
-use turn_types::tcp::{Front, front_of};
+use stun_types_base::memory::NoMemory;
+use stun_types_integrity::credentials::MessageIntegrityCredentials;
+use stun_types_wire::attribute::pad_attribute_len;
+use stun_types_wire::names::Names;
+use turn_types_attributes::registry::CHANNEL_HEADER_LENGTH;
+use turn_types_frame::channel::ChannelData;
+use turn_types_frame::front::{Front, front_of};
 
 /// Appends what bytes are as one channel frame: its channel, its data, and what stands behind that.
 pub(crate) fn push_frame(alloc: Global, text: &mut String, bytes: &[u8]) -> Result<(), NoMemory> {

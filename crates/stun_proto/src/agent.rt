@@ -5,4 +5,4 @@ pub use stun_proto_agent::agent::{StunAgent, StunAgentPollRet};
 pub use stun_proto_agent::builder::StunAgentBuilder;
 pub use stun_proto_agent::error::StunError;
 pub use stun_proto_agent::request::{StunRequest, StunRequestMut};
-pub use stun_types::transmit::Transmit;
+pub use stun_types_base::transmit::Transmit;

@@ -1,16 +1,16 @@
 //! Authentication (RFC 8489, section 9): short-term and long-term credentials as a client has them, and
 //! long-term ones as a server sees them.
 
+pub use stun_proto_auth::feature::Feature;
+pub use stun_proto_auth::nonce::{
+    LONG_TERM_RFC8489_NONCE_COOKIE, NONCE_WORDS, NonceFeatures, ServerNonce,
+};
+pub use stun_proto_auth::supported::SupportedIntegrity;
 pub use stun_proto_client::error::{LongTermClientAuthError, LongTermClientAuthErrorReason};
 pub use stun_proto_client::long_term::LongTermClientAuth;
 pub use stun_proto_client::short_term::ShortTermAuth;
 pub use stun_proto_client::validation::LongTermClientValidation;
-pub use stun_proto_server::error::{LongTermServerAuthError, LongTermServerAuthErrorReason};
-pub use stun_proto_server::feature::Feature;
 pub use stun_proto_server::long_term::{LongTermServerAuth, MIN_NONCE_EXPIRY};
-pub use stun_proto_server::nonce::{
-    LONG_TERM_RFC8489_NONCE_COOKIE, NONCE_WORDS, NonceFeatures, ServerNonce,
-};
-pub use stun_proto_server::supported::SupportedIntegrity;
-pub use stun_proto_server::user::ValidatedUser;
 pub use stun_proto_server::validation::LongTermServerValidation;
+pub use stun_proto_verify::error::{LongTermServerAuthError, LongTermServerAuthErrorReason};
+pub use stun_proto_verify::user::ValidatedUser;

@@ -9,5 +9,5 @@ pub mod agent;
 pub mod auth;
 pub mod laws;
 
-pub use stun_proto_agent::instant::Instant;
 pub use stun_types as types;
+pub use stun_types_base::instant::Instant;

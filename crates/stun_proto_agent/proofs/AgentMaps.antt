@@ -7,13 +7,13 @@ use Rattle.std.specs.Option.{option_map}
 use Rattle.std.specs.Ordering.{nat_cmp}
 use Rattle.std.specs.declared.net.socket_addr.SocketAddr.{SocketAddr}
 use Rattle.stun_types_base.proofs.MapView.{get-finite_map, insert-finite_map}
-use Rattle.stun_proto_transaction.specs.SocketAddrs.{socket_addr_cmp, socket_addr_cmp_total, socket_addr_cmp-IsAntisymmetric}
+use Rattle.stun_types_base.specs.SocketAddrs.{socket_addr_cmp, socket_addr_cmp_total, socket_addr_cmp-IsAntisymmetric}
 use Rattle.stun_proto_transaction.specs.Agents.{Transaction, integrity_of, is_due, is_ended, is_over, transmitted}
-use Rattle.stun_proto_transaction.specs.IntegrityAlgorithms.{IntegrityAlgorithm}
+use Rattle.stun_types_wire.specs.declared.algorithm.IntegrityAlgorithm.{IntegrityAlgorithm}
 use Rattle.stun_proto_transaction.specs.KeptRequests as kept
 use Rattle.stun_proto_transaction.specs.KeptRequests.{Requests, with_number}
-use Rattle.stun_proto_agent.specs.Least.{IsLeast}
-use Rattle.stun_proto_transaction.specs.Moments.{moment_after}
+use Rattle.stun_proto_transaction.specs.Least.{IsLeast}
+use Rattle.stun_types_base.specs.Moments.{moment_after}
 use Rattle.stun_proto_transaction.specs.Schedule.{Waits}
 use Rattle.stun_proto_agent.specs.Sending.{begun, kept_under}
 use Rattle.stun_proto_transaction.specs.declared.transaction.Cancelled.TheVariants.{Nothing}

@@ -6,10 +6,10 @@ use Rattle.std.specs.Cmp.{eq_by_cmp_equiv, nat_cmp_total}
 use Rattle.std.specs.FinMap as map
 use Rattle.std.specs.Ordering.{is_eq, nat_cmp}
 use Rattle.std.specs.declared.net.socket_addr.SocketAddr.{SocketAddr}
-use Rattle.stun_proto_transaction.specs.Grammar.{number_at}
-use Rattle.stun_proto_transaction.specs.declared.transmit.Transmit.{Transmit}
+use Rattle.stun_types_wire.specs.Grammar.{number_at}
+use Rattle.stun_types_base.specs.declared.transmit.Transmit.{Transmit}
 use Rattle.stun_proto_transaction.specs.Agents.{Transaction, has_left, transmitted}
-use Rattle.stun_proto_agent.specs.Least.{IsLeast}
+use Rattle.stun_proto_transaction.specs.Least.{IsLeast}
 use Rattle.stun_proto_agent.specs.Sending.{IsDueSent, IsSent, NoneDue, begun, is_due_of, kept_under, with_request}
 use Rattle.stun_proto_agent.specs.State.{Agent, is_tcp}
 

@@ -1,14 +1,12 @@
 pub mod AgentChanges
 pub mod AgentRest
-pub use Rattle.stun_proto_transaction.specs.Agents
 pub mod Codes
 pub mod Handling
-pub use Rattle.stun_proto_transaction.specs.Least
 pub mod Numbers
-pub use Rattle.stun_proto_transaction.specs.Moments
-pub use Rattle.stun_proto_transaction.specs.Schedule
 pub mod RequestLending
 pub mod Requests
 pub mod Sending
 pub mod State
 pub mod View
+-- What stands above this crate has these through it.
+pub use Rattle.stun_proto_transaction.specs as Transaction

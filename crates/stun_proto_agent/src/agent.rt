@@ -5,22 +5,24 @@ ghost use Rattle.std.specs.FinMap as finite;
 ghost use Rattle.std.specs.Option.{option_map};
 ghost use Rattle.std.specs.declared.net.socket_addr.SocketAddr.{SocketAddr};
 ghost use Rattle.stun_proto_transaction.specs.Agents.{Transaction, changed, integrity_of, is_ended, is_over, transmitted};
-ghost use Rattle.stun_proto_agent.specs.Least.{IsLeast};
+ghost use Rattle.stun_proto_transaction.specs.Least.{IsLeast};
 ghost use Rattle.stun_proto_agent.specs.Sending.{NoneDue, begun, is_due_of, kept_under};
 ghost use Rattle.stun_proto_agent.specs.State.{IsNext, IsPolled, NoneEnded, is_tcp, longest_wait};
-ghost use Rattle.stun_proto_transaction.specs.Moments.{moment_after};
+ghost use Rattle.stun_types_base.specs.Moments.{moment_after};
 
 use std::alloc::Global;
 use std::collections::BTreeMap;
 use std::marker::Model;
 use std::net::SocketAddr;
 use std::time::Duration;
-use stun_proto_transaction::instant::Instant;
-use stun_proto_transaction::message::{IntegrityAlgorithm, TransactionId};
 use stun_proto_transaction::outstanding::Outstanding;
 use stun_proto_transaction::transaction::{Change, Transaction};
 use stun_proto_transaction::waits::Waits;
-use stun_proto_transaction::{NoMemory, TransportType};
+use stun_types_base::instant::Instant;
+use stun_types_base::memory::NoMemory;
+use stun_types_base::transport::TransportType;
+use stun_types_wire::algorithm::IntegrityAlgorithm;
+use stun_types_wire::transaction::TransactionId;
 
 /// The longest that an agent tells to wait, in seconds.
 const LONGEST_WAIT: u64 = 3600;
@@ -42,7 +44,7 @@ pub enum StunAgentPollRet {
 /// up (RFC 8489, section 6.2.1). It performs no input or output, and reads no clock: the caller sends what
 /// it answers, and tells it the moment. After each call that changes it, this loop drives it:
 ///
-/// <!-- crates/turn_rows_proto/src/agent.rt: drive -->
+/// <!-- crates/test_rows_proto/src/agent.rt: drive -->
 /// ```rust
 /// for _ in 0..MOST_TURNS {
 ///     write!(text, "{} ", now.as_nanos())?;

@@ -11,8 +11,8 @@ use std::collections::BTreeMap;
 use std::marker::Model;
 use std::net::SocketAddr;
 use std::time::Duration;
-use stun_proto_transaction::TransportType;
 use stun_proto_transaction::waits::Waits;
+use stun_types_base::transport::TransportType;
 
 /// What an agent is made of, by `StunAgent::builder`. Contracts see the record `Agent`, with nothing
 /// outstanding and no validated address.

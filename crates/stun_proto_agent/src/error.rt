@@ -1,8 +1,8 @@
 //! Why an agent refuses.
 
 use std::alloc::AllocError;
-use stun_proto_transaction::NoMemory;
-use stun_proto_transaction::message::{StunParseError, StunWriteError};
+use stun_types_base::memory::NoMemory;
+use stun_types_wire::error::{StunParseError, StunWriteError};
 use thiserror::Error;
 
 /// Why an agent refuses a call. A refused call changes nothing.

@@ -5,9 +5,9 @@ ghost use Rattle.stun_proto_agent.specs.Handling.{after_message, ends_one, is_ta
 
 use crate::agent::StunAgent;
 use std::net::SocketAddr;
-use stun_proto_transaction::NoMemory;
-use stun_proto_transaction::instant::Instant;
-use stun_proto_transaction::message::Message;
+use stun_types_base::instant::Instant;
+use stun_types_base::memory::NoMemory;
+use stun_types_message::parsed::Message;
 
 impl StunAgent {
     /// Whether a message that came from an address is one to look at (RFC 8489, sections 6.3.1 to 6.3.4).

@@ -12,9 +12,9 @@ ghost use Rattle.stun_proto_agent.specs.Sending.{IsAfterTransmit, IsCounted, beg
 ghost use Rattle.stun_proto_agent.specs.State.{Agent, IsEnd, IsNext, IsPolled, NoneEnded};
 ghost use Rattle.stun_proto_agent.specs.declared.agent.StunAgentPollRet.{StunAgentPollRet};
 ghost use Rattle.stun_proto_transaction.specs.declared.transaction.Change.{Change};
-ghost use Rattle.stun_proto_transaction.specs.Moments.{moment_after};
+ghost use Rattle.stun_types_base.specs.Moments.{moment_after};
 ghost use Rattle.stun_proto_transaction.specs.Schedule.{Waits, slot_at, wait_at};
-ghost use Rattle.stun_proto_transaction.specs.Grammar.{number_at};
+ghost use Rattle.stun_types_wire.specs.Grammar.{number_at};
 
 /// When an agent sends. A transmission comes no earlier than the moment of the one before and the wait
 /// that is then configured behind it, whatever the moments. Before the moment until which it tells to

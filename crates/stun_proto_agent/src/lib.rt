@@ -5,9 +5,6 @@ pub mod agent;
 pub mod builder;
 pub mod error;
 pub mod handling;
-
-pub use stun_proto_transaction::instant;
-
 pub mod laws;
 pub mod request;
 pub mod sending;

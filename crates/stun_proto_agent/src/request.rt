@@ -12,9 +12,10 @@ ghost use Rattle.stun_proto_transaction.specs.declared.transaction.Change.TheVar
 use crate::agent::StunAgent;
 use std::net::SocketAddr;
 use std::time::Duration;
-use stun_proto_transaction::message::{IntegrityAlgorithm, TransactionId};
 use stun_proto_transaction::transaction::Change;
 use stun_proto_transaction::waits::Waits;
+use stun_types_wire::algorithm::IntegrityAlgorithm;
+use stun_types_wire::transaction::TransactionId;
 
 /// A request that is outstanding, to be looked at. It borrows the agent, so that nothing changes meanwhile.
 #[derive(Debug, Drop)]

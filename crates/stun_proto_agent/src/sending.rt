@@ -4,18 +4,20 @@ ghost use Rattle.std.specs.Prelude.{◌≡◌, ◌≢◌, ⊤, IfOk, MatchOption
 ghost use Rattle.std.specs.Borrow.{sem};
 ghost use Rattle.std.specs.FinMap as finite;
 ghost use Rattle.stun_proto_agent.specs.AgentRest.{AgentRests};
-ghost use Rattle.stun_proto_transaction.specs.Data.{data_bytes};
-ghost use Rattle.stun_proto_transaction.specs.Grammar.{number_at};
-ghost use Rattle.stun_proto_transaction.specs.Refusals.{RefusesFor};
+ghost use Rattle.stun_types_base.specs.Data.{data_bytes};
+ghost use Rattle.stun_types_wire.specs.Grammar.{number_at};
+ghost use Rattle.stun_types_base.specs.Refusals.{RefusesFor};
 ghost use Rattle.stun_proto_agent.specs.Sending.{IsSent, begun, is_request, request_refusal, send_refusal, with_request};
 
 use crate::agent::StunAgent;
 use crate::error::StunError;
 use std::convert::AsSlice;
 use std::net::SocketAddr;
-use stun_proto_transaction::instant::Instant;
-use stun_proto_transaction::message::{Message, MessageClass, TransactionId};
-use stun_proto_transaction::transmit::Transmit;
+use stun_types_base::instant::Instant;
+use stun_types_base::transmit::Transmit;
+use stun_types_message::parsed::Message;
+use stun_types_wire::class::MessageClass;
+use stun_types_wire::transaction::TransactionId;
 
 impl StunAgent {
     /// Bytes that go to an address as they are, by the agent's transport and from its own address. They are

@@ -5,14 +5,14 @@ ghost use Rattle.std.specs.Borrow.{sem};
 ghost use Rattle.std.specs.FinMap as finite;
 ghost use Rattle.stun_proto_agent.specs.AgentRest.{AgentRests};
 ghost use Rattle.stun_proto_transaction.specs.Agents.{Transaction, transmitted};
-ghost use Rattle.stun_proto_agent.specs.Least.{IsLeast};
+ghost use Rattle.stun_proto_transaction.specs.Least.{IsLeast};
 ghost use Rattle.stun_proto_agent.specs.Sending.{IsAfterTransmit, IsDueSent, IsSent, NoneDue, is_due_of, kept_under};
 ghost use Rattle.stun_proto_agent.specs.State.{is_tcp};
 
 use crate::agent::StunAgent;
-use stun_proto_transaction::instant::Instant;
-use stun_proto_transaction::message::TransactionId;
-use stun_proto_transaction::transmit::Transmit;
+use stun_types_base::instant::Instant;
+use stun_types_base::transmit::Transmit;
+use stun_types_wire::transaction::TransactionId;
 
 impl StunAgent {
     /// What is due to be sent again at a moment (RFC 8489, section 6.2.1): the request of least number of

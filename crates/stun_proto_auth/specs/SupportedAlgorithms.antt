@@ -1,10 +1,11 @@
 -- Lists of integrity algorithms.
 use Rattle.std.specs.Prelude.{ℕ, Bool, nat_eq, true, false, if◌then◌else◌, List, [], ◌∷◌, ◌++◌, map}
 use Rattle.std.specs.List.{list_any}
-use Rattle.stun_types.specs.IntegrityAlgorithms.{IntegrityAlgorithm, Sha1, Sha256, Sha512}
-use Rattle.stun_types.specs.Registry.{md5_number, sha256_number, sha512_number}
-use Rattle.stun_types.specs.Entries.{entries}
-use Rattle.stun_types.specs.Strength.{strength}
+use Rattle.stun_types_wire.specs.declared.algorithm.IntegrityAlgorithm.{IntegrityAlgorithm}
+use Rattle.stun_types_wire.specs.declared.algorithm.IntegrityAlgorithm.TheVariants.{Sha1, Sha256, Sha512}
+use Rattle.stun_types_wire.specs.Registry.{md5_number, sha256_number, sha512_number}
+use Rattle.stun_types_auth_attributes.specs.Entries.{entries}
+use Rattle.stun_types_wire.specs.Strength.{strength}
 
 -- whether two algorithms are the same: no two are equally strong
 abbrev pub is_same_algorithm : IntegrityAlgorithm → IntegrityAlgorithm → Bool

@@ -1,11 +1,16 @@
-//! Authentication of STUN messages: what both sides of long-term credentials share (RFC 8489,
-//! section 9.2). It performs no input or output.
+//! What both sides of long-term authentication share (RFC 8489, section 9.2): the nonce's text and
+//! features, supported algorithms, what a message claims of its sender, and what is added to a message
+//! that goes out.
 #![tactic(auto)]
 
+pub mod algorithms;
+pub mod claim;
 pub mod feature;
+mod last;
 pub mod nonce;
 pub mod number;
+pub mod part;
+mod room;
+pub mod signing;
+pub mod size;
 pub mod supported;
-
-// What stands above this crate has these through it.
-pub use stun_types::{NoMemory, attribute, message, registry, room};

@@ -2,7 +2,7 @@
 //! 9.2).
 
 ghost use Rattle.std.specs.Prelude.{◌≡◌, ◌<◌, ◌≤◌, IfOk, ℕ, List, length};
-ghost use Rattle.stun_types.specs.Registry.{longest_text};
+ghost use Rattle.stun_types_wire.specs.Registry.{longest_text};
 ghost use Rattle.stun_proto_auth.specs.Nonce.{nonce_character, nonce_text, features_told};
 ghost use Rattle.stun_proto_auth.specs.declared.nonce.NonceFeatures.{NonceFeatures};
 
@@ -11,8 +11,8 @@ use crate::supported::SupportedIntegrity;
 use base64::engine::general_purpose::STANDARD;
 use std::alloc::Global;
 use std::marker::Model;
-use stun_types::NoMemory;
-use stun_types::message::IntegrityAlgorithm;
+use stun_types_base::memory::NoMemory;
+use stun_types_wire::algorithm::IntegrityAlgorithm;
 
 /// What the nonce of a server begins with, where the server tells of its security features.
 pub const LONG_TERM_RFC8489_NONCE_COOKIE: &str = "obMatJos2";
@@ -115,7 +115,7 @@ pub struct ServerNonce {
 impl Model for ServerNonce {
     ghost use Rattle.std.specs.Prelude.{List, ℕ, ◌≤◌, length};
     ghost use Rattle.std.specs.String.{string_bytes};
-    ghost use Rattle.stun_types.specs.Registry.{longest_text};
+    ghost use Rattle.stun_types_wire.specs.Registry.{longest_text};
 
     ghost Value = { List ℕ };
 

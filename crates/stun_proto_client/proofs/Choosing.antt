@@ -1,7 +1,8 @@
 -- Which algorithm is the strongest of those in common.
 use Rattle.std.proofs.Common.{◌≡◌, ℕ, true, false, List, Option, refl}
-use Rattle.stun_proto_claim.specs.IntegrityAlgorithms.{IntegrityAlgorithm, Sha1, Sha256, Sha512}
-use Rattle.stun_proto_claim.specs.Strength.{is_stronger}
+use Rattle.stun_types_wire.specs.declared.algorithm.IntegrityAlgorithm.{IntegrityAlgorithm}
+use Rattle.stun_types_wire.specs.declared.algorithm.IntegrityAlgorithm.TheVariants.{Sha1, Sha256, Sha512}
+use Rattle.stun_types_wire.specs.Strength.{is_stronger}
 use Rattle.stun_proto_client.specs.Choice.{HasNoneCommon, IsStrongest, is_common}
 
 -- nothing is stronger than SHA-512

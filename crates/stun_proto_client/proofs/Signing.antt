@@ -3,23 +3,24 @@ use Rattle.std.proofs.Common.{◌≡◌, ℕ, ◌<◌, ◌≤◌, ◌^◌, Bool,
 use Rattle.std.specs.List.{AllByRecursion}
 use Rattle.std.specs.Option.{option_or}
 use Rattle.std.proofs.lemmas.Bool.{cases_Bool, ltb-false}
-use Rattle.stun_proto_claim.specs.IntegrityAlgorithms.{IntegrityAlgorithm}
-use Rattle.stun_proto_claim.specs.MessageClasses.{MessageClass, Request, Indication, Success, Error}
-use Rattle.stun_proto_claim.specs.WriteErrors.{StunWriteError}
-use Rattle.stun_proto_claim.specs.Credentials.{Key}
-use Rattle.stun_proto_claim.specs.Drafts.{Draft}
-use Rattle.stun_proto_claim.specs.Outcomes.{added}
-use Rattle.stun_proto_claim.specs.Shape.{rank}
-use Rattle.stun_proto_claim.specs.Texts.{text_refusal}
-use Rattle.stun_proto_claim.specs.Signing.{text_to_sign}
-use Rattle.stun_proto_claim.specs.Text.{message_text}
-use Rattle.stun_proto_claim.specs.Calls.{Add, Integrity, IsLawful, IsWritten, after_calls, attributes_of}
-use Rattle.stun_proto_claim.specs.MessageReading.{IsReadAs}
-use Rattle.stun_proto_claim.proofs.Composed.{calls_read, calls_validate}
-use Rattle.stun_proto_claim.specs.declared.feature.Feature.{Feature}
-use Rattle.stun_proto_sign.specs.Addition.{Addition, PartOf, addition_refusal, attr_of_part, calls_of, calls_of_parts, calls_of_signer, one_refusal, parts_refusal, signer_refusal}
-use Rattle.stun_proto_sign.specs.AdditionStages.{IsMade}
-use Rattle.stun_proto_sign.proofs.Making.{made_written}
+use Rattle.stun_types_wire.specs.declared.algorithm.IntegrityAlgorithm.{IntegrityAlgorithm}
+use Rattle.stun_types_wire.specs.declared.class.MessageClass.{MessageClass}
+use Rattle.stun_types_wire.specs.declared.class.MessageClass.TheVariants.{Request, Indication, Success, Error}
+use Rattle.stun_types_wire.specs.declared.error.StunWriteError.{StunWriteError}
+use Rattle.stun_types_integrity.specs.Credentials.{Key}
+use Rattle.stun_types_write.specs.Drafts.{Draft}
+use Rattle.stun_types_write.specs.Outcomes.{added}
+use Rattle.stun_types_wire.specs.Shape.{rank}
+use Rattle.stun_types_auth_attributes.specs.Texts.{text_refusal}
+use Rattle.stun_types_integrity.specs.Signing.{text_to_sign}
+use Rattle.stun_types_wire.specs.Text.{message_text}
+use Rattle.stun_types_add.specs.Calls.{Add, Integrity, IsLawful, IsWritten, after_calls, attributes_of}
+use Rattle.stun_types_wire.specs.MessageReading.{IsReadAs}
+use Rattle.stun_types_message.proofs.Composed.{calls_read, calls_validate}
+use Rattle.stun_proto_auth.specs.declared.feature.Feature.{Feature}
+use Rattle.stun_proto_auth.specs.Addition.{Addition, PartOf, addition_refusal, attr_of_part, calls_of, calls_of_parts, calls_of_signer, one_refusal, parts_refusal, signer_refusal}
+use Rattle.stun_proto_auth.specs.AdditionStages.{IsMade}
+use Rattle.stun_proto_auth.proofs.Making.{made_written}
 use Rattle.stun_proto_client.specs.Client.{Client, Standing, standing_of}
 use Rattle.stun_proto_client.specs.ClientSigning.{addition_by, addition_for, choice_parts, name_part, request_parts}
 use Rattle.stun_proto_client.specs.Digests.{IsRight}

@@ -1,10 +1,11 @@
 -- What a validation keeps and accepts, and under which key a client signs.
 use Rattle.std.proofs.Common.{◌≡◌, ℕ, List, Option, Some, None, refl, sym, ap, ◌∙◌, subst, inl, inr}
 use Rattle.std.specs.Prelude.{Result, Ok, Err, MatchResult}
-use Rattle.stun_proto_claim.specs.IntegrityAlgorithms.{IntegrityAlgorithm}
-use Rattle.stun_proto_claim.specs.MessageClasses.{MessageClass, Request, Indication, Success, Error}
-use Rattle.stun_proto_claim.specs.Credentials.{Key, NameAndPassword}
-use Rattle.stun_proto_claim.proofs.Validating.{validates_last}
+use Rattle.stun_types_wire.specs.declared.algorithm.IntegrityAlgorithm.{IntegrityAlgorithm}
+use Rattle.stun_types_wire.specs.declared.class.MessageClass.{MessageClass}
+use Rattle.stun_types_wire.specs.declared.class.MessageClass.TheVariants.{Request, Indication, Success, Error}
+use Rattle.stun_types_integrity.specs.Credentials.{Key, NameAndPassword}
+use Rattle.stun_types_message.proofs.Validating.{validates_last}
 use Rattle.stun_proto_client.specs.Challenges.{challenge_shown}
 use Rattle.stun_proto_client.specs.Client.{Challenge, Client, Standing, standing_by, standing_key, standing_of}
 use Rattle.stun_proto_client.specs.ClientSigning.{addition_by, addition_for}

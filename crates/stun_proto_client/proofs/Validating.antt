@@ -1,11 +1,11 @@
 -- Which messages are right under a key.
 use Rattle.std.proofs.Common.{◌≡◌, ◌≢◌, ℕ, List, Some, None}
-use Rattle.stun_proto_claim.specs.IntegrityAlgorithms.{IntegrityAlgorithm}
-use Rattle.stun_proto_claim.specs.Credentials.{Key}
-use Rattle.stun_proto_claim.specs.Grammar.{shown}
-use Rattle.stun_proto_claim.specs.Integrity.{IsSigned}
-use Rattle.stun_proto_claim.specs.MessageValidation.{last_algorithm}
-use Rattle.stun_proto_claim.proofs.Validating.{none_validates, signed_validates, validates_last}
+use Rattle.stun_types_wire.specs.declared.algorithm.IntegrityAlgorithm.{IntegrityAlgorithm}
+use Rattle.stun_types_integrity.specs.Credentials.{Key}
+use Rattle.stun_types_wire.specs.Grammar.{shown}
+use Rattle.stun_types_integrity.specs.Integrity.{IsSigned}
+use Rattle.stun_types_message.specs.MessageValidation.{last_algorithm}
+use Rattle.stun_types_message.proofs.Validating.{none_validates, signed_validates, validates_last}
 use Rattle.stun_proto_client.specs.Digests.{IsRight, IsWrong}
 
 -- a message that shows no integrity attribute, or whose last one is of another algorithm

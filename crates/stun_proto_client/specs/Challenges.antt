@@ -1,13 +1,14 @@
 -- What a server's challenge tells (RFC 8489, sections 9.2.4 and 9.2.5).
 use Rattle.std.specs.Prelude.{ℕ, ◌==◌, Bool, ◌&&◌, ◌||◌, true, false, if◌then◌else◌, List, Option, Some, None}
-use Rattle.stun_proto_claim.specs.Attributes.{kind_at}
-use Rattle.stun_proto_claim.specs.Types.{class_of}
-use Rattle.stun_proto_claim.specs.MessageClasses.{MessageClass, Request, Indication, Success, Error}
-use Rattle.stun_proto_claim.specs.Registry.{stale_nonce_code, unauthorized_code}
-use Rattle.stun_proto_claim.specs.Nonce.{features_told}
-use Rattle.stun_proto_claim.specs.declared.feature.Feature.{Feature}
-use Rattle.stun_proto_claim.specs.declared.feature.Feature.TheVariants.{Auto, Required, Disabled}
-use Rattle.stun_proto_claim.specs.Claims.{Claimed, claimed, code_shown}
+use Rattle.stun_types_wire.specs.Attributes.{kind_at}
+use Rattle.stun_types_wire.specs.Types.{class_of}
+use Rattle.stun_types_wire.specs.declared.class.MessageClass.{MessageClass}
+use Rattle.stun_types_wire.specs.declared.class.MessageClass.TheVariants.{Request, Indication, Success, Error}
+use Rattle.stun_types_wire.specs.Registry.{stale_nonce_code, unauthorized_code}
+use Rattle.stun_proto_auth.specs.Nonce.{features_told}
+use Rattle.stun_proto_auth.specs.declared.feature.Feature.{Feature}
+use Rattle.stun_proto_auth.specs.declared.feature.Feature.TheVariants.{Auto, Required, Disabled}
+use Rattle.stun_proto_auth.specs.Claims.{Claimed, claimed, code_shown}
 
 -- a challenge: realm, nonce, and the value of the list of password algorithms, where the nonce tells of one and it is
 -- there

@@ -1,10 +1,11 @@
 -- Which algorithm a client chooses of those that it has in common with a server (RFC 8489, sections 9.2.5 and 14.11).
 use Rattle.std.specs.Prelude.{◌≡◌, ℕ, Bool, ◌&&◌, true, false, List, Option, Some, None}
 use Rattle.std.specs.List.{list_any}
-use Rattle.stun_proto_claim.specs.IntegrityAlgorithms.{IntegrityAlgorithm, Sha1}
-use Rattle.stun_proto_claim.specs.Strength.{is_stronger}
-use Rattle.stun_proto_claim.specs.SupportedAlgorithms.{is_same_algorithm}
-use Rattle.stun_proto_claim.specs.Offers.{offers}
+use Rattle.stun_types_wire.specs.declared.algorithm.IntegrityAlgorithm.{IntegrityAlgorithm}
+use Rattle.stun_types_wire.specs.declared.algorithm.IntegrityAlgorithm.TheVariants.{Sha1}
+use Rattle.stun_types_wire.specs.Strength.{is_stronger}
+use Rattle.stun_proto_auth.specs.SupportedAlgorithms.{is_same_algorithm}
+use Rattle.stun_proto_auth.specs.Offers.{offers}
 
 -- an algorithm is among a client's own
 abbrev pub supports : List IntegrityAlgorithm → IntegrityAlgorithm → Bool

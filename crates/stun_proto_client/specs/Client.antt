@@ -1,9 +1,9 @@
 -- What contracts see of a client's side of long-term authentication (RFC 8489, section 9.2).
 use Rattle.std.specs.Prelude.{ℕ, List, Option, Some, None}
 use Rattle.std.specs.Option.{option_map}
-use Rattle.stun_proto_claim.specs.IntegrityAlgorithms.{IntegrityAlgorithm}
-use Rattle.stun_proto_claim.specs.Credentials.{Key, NameAndPassword, long_term_key}
-use Rattle.stun_proto_claim.specs.declared.feature.Feature.{Feature}
+use Rattle.stun_types_wire.specs.declared.algorithm.IntegrityAlgorithm.{IntegrityAlgorithm}
+use Rattle.stun_types_integrity.specs.Credentials.{Key, NameAndPassword, long_term_key}
+use Rattle.stun_proto_auth.specs.declared.feature.Feature.{Feature}
 
 -- a challenge that is kept: realm, nonce, the value of the list of which the choice was made, and the choice
 pub record Challenge : Type 0 where

@@ -1,14 +1,15 @@
 -- What a client adds to a message that goes out (RFC 8489, sections 9.2.3 and 9.2.5).
 use Rattle.std.specs.Prelude.{ℕ, Bool, false, if◌then◌else◌, List, [], ◌∷◌, Option, Some, None}
-use Rattle.stun_proto_claim.specs.IntegrityAlgorithms.{IntegrityAlgorithm}
-use Rattle.stun_proto_claim.specs.MessageClasses.{MessageClass, Request, Indication, Success, Error}
-use Rattle.stun_proto_claim.specs.Entries.{entry}
-use Rattle.stun_proto_claim.specs.Userhashes.{userhash_of}
-use Rattle.stun_proto_claim.specs.Nonce.{features_told}
-use Rattle.stun_proto_claim.specs.SupportedAlgorithms.{number_by}
-use Rattle.stun_proto_claim.specs.declared.feature.Feature.{Feature}
-use Rattle.stun_proto_claim.specs.declared.feature.Feature.TheVariants.{Auto, Required, Disabled}
-use Rattle.stun_proto_sign.specs.Addition.{Addition, PartOf, algorithm_of, algorithms_of, hash_of, no_addition, nonce_of, realm_of, username_of}
+use Rattle.stun_types_wire.specs.declared.algorithm.IntegrityAlgorithm.{IntegrityAlgorithm}
+use Rattle.stun_types_wire.specs.declared.class.MessageClass.{MessageClass}
+use Rattle.stun_types_wire.specs.declared.class.MessageClass.TheVariants.{Request, Indication, Success, Error}
+use Rattle.stun_types_auth_attributes.specs.Entries.{entry}
+use Rattle.stun_types_auth_attributes.specs.Userhashes.{userhash_of}
+use Rattle.stun_proto_auth.specs.Nonce.{features_told}
+use Rattle.stun_proto_auth.specs.SupportedAlgorithms.{number_by}
+use Rattle.stun_proto_auth.specs.declared.feature.Feature.{Feature}
+use Rattle.stun_proto_auth.specs.declared.feature.Feature.TheVariants.{Auto, Required, Disabled}
+use Rattle.stun_proto_auth.specs.Addition.{Addition, PartOf, algorithm_of, algorithms_of, hash_of, no_addition, nonce_of, realm_of, username_of}
 use Rattle.stun_proto_client.specs.Client.{Client, Standing, standing_key, standing_of}
 
 -- whether the name is hidden: the nonce tells that the server takes a hash of it, and the client doesn't forbid it

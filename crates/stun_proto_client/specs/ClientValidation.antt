@@ -1,8 +1,8 @@
 -- What a client answers to a message, and how it is afterwards (RFC 8489, sections 9.2.4 and 9.2.5). The cases exclude
 -- each other, and each says when it comes.
 use Rattle.std.specs.Prelude.{◌≡◌, ◌⊎◌, ℕ, true, false, List, Option, Some, None}
-use Rattle.stun_proto_claim.specs.IntegrityAlgorithms.{IntegrityAlgorithm}
-use Rattle.stun_proto_claim.specs.Claims.{claimed}
+use Rattle.stun_types_wire.specs.declared.algorithm.IntegrityAlgorithm.{IntegrityAlgorithm}
+use Rattle.stun_proto_auth.specs.Claims.{claimed}
 use Rattle.stun_proto_client.specs.Challenges.{Told, challenge_shown, is_anonymous_enough}
 use Rattle.stun_proto_client.specs.Choice.{HasNoneCommon, IsStrongest}
 use Rattle.stun_proto_client.specs.Client.{Client, Standing, standing_key, standing_of}

@@ -1,7 +1,7 @@
 -- Whether a message is one that a holder of a key has signed (RFC 8489, sections 14.5 and 14.6).
 use Rattle.std.specs.Prelude.{ℕ, List}
-use Rattle.stun_proto_claim.specs.Credentials.{Key}
-use Rattle.stun_proto_claim.specs.Integrity.{Validates}
+use Rattle.stun_types_integrity.specs.Credentials.{Key}
+use Rattle.stun_types_integrity.specs.Integrity.{Validates}
 
 -- the last integrity attribute is of the key's algorithm and right under it, and this is the text that it covers
 pub record IsRight (bytes : List ℕ) (key : Key) : Type 0 where

@@ -8,5 +8,5 @@ pub mod ClientValidation
 pub mod Digests
 pub mod ShortTerm
 -- What stands above this crate has these through it.
-pub use Rattle.stun_proto_claim.specs.Claims
-pub use Rattle.stun_proto_claim.specs.Offers
+pub use Rattle.stun_types_integrity.specs as StunTypesIntegrity
+pub use Rattle.stun_types_message.specs as StunTypesMessage

@@ -1,8 +1,8 @@
 -- What contracts see of short-term authentication (RFC 8489, section 9.1).
 use Rattle.std.specs.Prelude.{◌≡◌, ℕ, List, [], Option, Some, None}
-use Rattle.stun_proto_claim.specs.IntegrityAlgorithms.{IntegrityAlgorithm}
-use Rattle.stun_proto_claim.specs.Credentials.{Key, ShortTermSecret, short_term_key}
-use Rattle.stun_proto_sign.specs.Addition.{Addition, no_addition}
+use Rattle.stun_types_wire.specs.declared.algorithm.IntegrityAlgorithm.{IntegrityAlgorithm}
+use Rattle.stun_types_integrity.specs.Credentials.{Key, ShortTermSecret, short_term_key}
+use Rattle.stun_proto_auth.specs.Addition.{Addition, no_addition}
 use Rattle.stun_proto_client.specs.Digests.{IsRight, IsWrong}
 
 -- a password, and the algorithm by which it is used

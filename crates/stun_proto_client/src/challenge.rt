@@ -2,15 +2,16 @@
 
 ghost use Rattle.std.specs.Prelude.{◌≡◌, ◌↔◌};
 ghost use Rattle.std.specs.Option.{option_copied};
-ghost use Rattle.stun_proto_claim.specs.Claims.{claimed};
+ghost use Rattle.stun_proto_auth.specs.Claims.{claimed};
 ghost use Rattle.stun_proto_client.specs.Challenges.{asks_again, challenge_shown, is_anonymous_enough, list_by, told_of};
 
 use std::marker::Model;
-use stun_proto_claim::claim::{Claim, error_code_of};
-use stun_proto_claim::feature::Feature;
-use stun_proto_claim::message::{Message, MessageClass};
-use stun_proto_claim::nonce::NonceFeatures;
-use stun_proto_claim::registry::{STALE_NONCE, UNAUTHORIZED};
+use stun_proto_auth::claim::{Claim, error_code_of};
+use stun_proto_auth::feature::Feature;
+use stun_proto_auth::nonce::NonceFeatures;
+use stun_types_message::parsed::Message;
+use stun_types_wire::class::MessageClass;
+use stun_types_wire::registry::{STALE_NONCE, UNAUTHORIZED};
 
 /// What a challenge tells: a realm, a nonce, and the value of the list of password algorithms, where
 /// the nonce tells of one and it is there. Contracts see the record `Told`.

@@ -3,8 +3,8 @@
 ghost use Rattle.std.specs.Prelude.{◌≡◌};
 ghost use Rattle.stun_proto_client.specs.ClientErrors.{integrity_of, reason_of};
 
-use stun_proto_claim::NoMemory;
-use stun_proto_claim::message::IntegrityAlgorithm;
+use stun_types_base::memory::NoMemory;
+use stun_types_wire::algorithm::IntegrityAlgorithm;
 use thiserror::Error;
 
 /// Why a message is not validated, without what goes with it.

@@ -7,8 +7,10 @@ ghost use Rattle.stun_proto_client.specs.Client.{key_by, standing_key};
 use crate::challenge::Told;
 use std::alloc::Global;
 use std::marker::Model;
-use stun_proto_claim::NoMemory;
-use stun_proto_claim::message::{IntegrityAlgorithm, IntegrityKey, LongTermCredentials};
+use stun_types_base::memory::NoMemory;
+use stun_types_integrity::credentials::LongTermCredentials;
+use stun_types_integrity::key::IntegrityKey;
+use stun_types_wire::algorithm::IntegrityAlgorithm;
 
 /// A challenge that is kept: its realm and nonce, the value of its list of password algorithms, where
 /// the choice was made of one, and the chosen algorithm. Contracts see the record `Challenge`.

@@ -3,17 +3,19 @@
 ghost use Rattle.std.specs.Prelude.{◌≡◌, ◌≢◌, [], ◌∷◌, Some, None};
 ghost use Rattle.std.specs.List.{IsDistinct};
 ghost use Rattle.std.specs.Option.{option_copied, option_map};
-ghost use Rattle.stun_proto_claim.specs.IntegrityAlgorithms.{Sha1};
-ghost use Rattle.stun_proto_claim.specs.SupportedAlgorithms.{is_same_algorithm, with_algorithm};
-ghost use Rattle.stun_proto_claim.specs.declared.feature.Feature.TheVariants.{Auto};
+ghost use Rattle.stun_types_wire.specs.declared.algorithm.IntegrityAlgorithm.TheVariants.{Sha1};
+ghost use Rattle.stun_proto_auth.specs.SupportedAlgorithms.{is_same_algorithm, with_algorithm};
+ghost use Rattle.stun_proto_auth.specs.declared.feature.Feature.TheVariants.{Auto};
 ghost use Rattle.stun_proto_client.specs.Client.{Standing, standing_key, standing_of};
 
 use crate::kept::{KeptChallenge, key_of_both};
 use std::alloc::Global;
 use std::marker::Model;
-use stun_proto_claim::feature::Feature;
-use stun_proto_claim::message::{IntegrityAlgorithm, IntegrityKey, LongTermCredentials};
-use stun_proto_claim::supported::SupportedIntegrity;
+use stun_proto_auth::feature::Feature;
+use stun_proto_auth::supported::SupportedIntegrity;
+use stun_types_integrity::credentials::LongTermCredentials;
+use stun_types_integrity::key::IntegrityKey;
+use stun_types_wire::algorithm::IntegrityAlgorithm;
 
 /// The client's side of long-term authentication: its credentials, what it supports, and the last
 /// challenge that it took. Without credentials it acts as if no challenge were kept. It keeps the key

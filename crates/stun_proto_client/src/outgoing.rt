@@ -2,35 +2,38 @@
 
 ghost use Rattle.std.specs.Prelude.{◌≡◌, [], ◌∷◌, None, IsSome, IfOk, min};
 ghost use Rattle.std.specs.Result.{IsOk};
-ghost use Rattle.stun_proto_claim.specs.Refusals.{RefusesFor};
-ghost use Rattle.stun_proto_claim.specs.RawBytes.{greatest_len};
-ghost use Rattle.stun_proto_claim.specs.Attributes.{kind_at};
-ghost use Rattle.stun_proto_claim.specs.Types.{class_of};
-ghost use Rattle.stun_proto_claim.specs.MessageClasses.{Request};
-ghost use Rattle.stun_proto_claim.specs.Adding.{IsBegun};
-ghost use Rattle.stun_proto_claim.specs.Outcomes.{TakesNoMemory};
-ghost use Rattle.stun_proto_claim.specs.Entries.{entry};
-ghost use Rattle.stun_proto_claim.specs.SupportedAlgorithms.{number_by};
-ghost use Rattle.stun_proto_sign.specs.Addition.{addition_refusal, algorithm_of, algorithms_of, nonce_of, realm_of};
-ghost use Rattle.stun_proto_sign.specs.AdditionStages.{IsMade};
-ghost use Rattle.stun_proto_sign.specs.Sizes.{size_of};
+ghost use Rattle.stun_types_base.specs.Refusals.{RefusesFor};
+ghost use Rattle.stun_types_wire.specs.RawBytes.{greatest_len};
+ghost use Rattle.stun_types_wire.specs.Attributes.{kind_at};
+ghost use Rattle.stun_types_wire.specs.Types.{class_of};
+ghost use Rattle.stun_types_wire.specs.declared.class.MessageClass.TheVariants.{Request};
+ghost use Rattle.stun_types_write.specs.Adding.{IsBegun};
+ghost use Rattle.stun_types_write.specs.Outcomes.{TakesNoMemory};
+ghost use Rattle.stun_types_auth_attributes.specs.Entries.{entry};
+ghost use Rattle.stun_proto_auth.specs.SupportedAlgorithms.{number_by};
+ghost use Rattle.stun_proto_auth.specs.Addition.{addition_refusal, algorithm_of, algorithms_of, nonce_of, realm_of};
+ghost use Rattle.stun_proto_auth.specs.AdditionStages.{IsMade};
+ghost use Rattle.stun_proto_auth.specs.Sizes.{size_of};
 ghost use Rattle.stun_proto_client.specs.Client.{standing_key};
 ghost use Rattle.stun_proto_client.specs.ClientSigning.{addition_for, hides_name, name_part, standing_addition};
 
 use crate::kept::KeptChallenge;
 use crate::long_term::LongTermClientAuth;
-use stun_proto_claim::NoMemory;
-use stun_proto_claim::attribute::Userhash;
-use stun_proto_claim::feature::Feature;
-use stun_proto_claim::message::{
-    IntegrityAlgorithm, IntegrityKey, LongTermCredentials, MessageClass, MessageWrite,
-    MessageWriteExt, StunWriteError,
-};
-use stun_proto_claim::nonce::NonceFeatures;
-use stun_proto_claim::number::number_by;
-use stun_proto_sign::part::Part;
-use stun_proto_sign::signing::sign;
-use stun_proto_sign::size::signature_bytes;
+use stun_proto_auth::feature::Feature;
+use stun_proto_auth::nonce::NonceFeatures;
+use stun_proto_auth::number::number_by;
+use stun_proto_auth::part::Part;
+use stun_proto_auth::signing::sign;
+use stun_proto_auth::size::signature_bytes;
+use stun_types_add::ext::MessageWriteExt;
+use stun_types_auth_attributes::userhash::Userhash;
+use stun_types_base::memory::NoMemory;
+use stun_types_integrity::credentials::LongTermCredentials;
+use stun_types_integrity::key::IntegrityKey;
+use stun_types_wire::algorithm::IntegrityAlgorithm;
+use stun_types_wire::class::MessageClass;
+use stun_types_wire::error::StunWriteError;
+use stun_types_write::writer::MessageWrite;
 
 impl LongTermClientAuth {
     /// Signs a message, and gives the writer back (RFC 8489, sections 9.2.3 and 9.2.5). Where

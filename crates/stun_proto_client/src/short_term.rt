@@ -2,27 +2,29 @@
 
 ghost use Rattle.std.specs.Prelude.{◌≡◌, Some, None, IfOk, IsSome, MatchResult};
 ghost use Rattle.std.specs.Result.{IsOk};
-ghost use Rattle.stun_proto_claim.specs.Refusals.{RefusesFor};
-ghost use Rattle.stun_proto_claim.specs.Adding.{IsBegun};
-ghost use Rattle.stun_proto_claim.specs.Outcomes.{TakesNoMemory};
-ghost use Rattle.stun_proto_sign.specs.Addition.{addition_refusal};
-ghost use Rattle.stun_proto_sign.specs.AdditionStages.{IsMade};
-ghost use Rattle.stun_proto_sign.specs.Sizes.{size_of};
+ghost use Rattle.stun_types_base.specs.Refusals.{RefusesFor};
+ghost use Rattle.stun_types_write.specs.Adding.{IsBegun};
+ghost use Rattle.stun_types_write.specs.Outcomes.{TakesNoMemory};
+ghost use Rattle.stun_proto_auth.specs.Addition.{addition_refusal};
+ghost use Rattle.stun_proto_auth.specs.AdditionStages.{IsMade};
+ghost use Rattle.stun_proto_auth.specs.Sizes.{size_of};
 ghost use Rattle.std.specs.Bool.{MatchBool};
 ghost use Rattle.stun_proto_client.specs.Digests.{IsRight, IsWrong};
 ghost use Rattle.std.specs.Option.{option_map};
-ghost use Rattle.stun_proto_claim.specs.ValidateErrors as invalid;
+ghost use Rattle.stun_types_wire.specs.declared.error.ValidateError.TheVariants as invalid;
 ghost use Rattle.stun_proto_client.specs.ShortTerm.{IsShortAnswer, IsShortRefused, short_addition, short_key};
 
 use crate::validation::is_right;
 use std::marker::Model;
-use stun_proto_claim::NoMemory;
-use stun_proto_claim::message::{
-    IntegrityAlgorithm, IntegrityKey, Message, MessageWrite, ShortTermCredentials,
-    ShortTermKeyCredentials, StunWriteError, ValidateError,
-};
-use stun_proto_claim::room::hmac_length;
-use stun_proto_sign::signing::sign;
+use stun_proto_auth::signing::sign;
+use stun_types_base::memory::NoMemory;
+use stun_types_integrity::algorithm::hmac_length;
+use stun_types_integrity::credentials::{ShortTermCredentials, ShortTermKeyCredentials};
+use stun_types_integrity::key::IntegrityKey;
+use stun_types_message::parsed::Message;
+use stun_types_wire::algorithm::IntegrityAlgorithm;
+use stun_types_wire::error::{StunWriteError, ValidateError};
+use stun_types_write::writer::MessageWrite;
 
 /// Authentication by a password that counts in one session, which both sides know. It keeps what the
 /// HMACs under its key begin with. Contracts see the record `ShortTerm` of `specs/ShortTerm.antt`.

@@ -4,9 +4,9 @@ ghost use Rattle.std.specs.Prelude.{◌≡◌, MatchOption};
 ghost use Rattle.std.specs.Option.{option_copied};
 ghost use Rattle.stun_proto_client.specs.Choice.{HasNoneCommon, IsStrongest, is_common, takes};
 
-use stun_proto_claim::algorithms::offers;
-use stun_proto_claim::message::IntegrityAlgorithm;
-use stun_proto_claim::supported::SupportedIntegrity;
+use stun_proto_auth::algorithms::offers;
+use stun_proto_auth::supported::SupportedIntegrity;
+use stun_types_wire::algorithm::IntegrityAlgorithm;
 
 /// The strongest algorithm that a client supports and a server takes, where they have one in common:
 /// the server takes those that its PASSWORD-ALGORITHMS lists, or without such a list `Sha1` alone.

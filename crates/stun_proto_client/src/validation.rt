@@ -1,7 +1,7 @@
 //! The validation of what comes in, and what is kept of it.
 
 ghost use Rattle.std.specs.Prelude.{◌≡◌, MatchResult, MatchOption, Some, None};
-ghost use Rattle.stun_proto_claim.specs.Claims.{claimed};
+ghost use Rattle.stun_proto_auth.specs.Claims.{claimed};
 ghost use Rattle.std.specs.Bool.{MatchBool};
 ghost use Rattle.stun_proto_client.specs.Challenges.{challenge_shown};
 ghost use Rattle.stun_proto_client.specs.ClientValidation.{IsAnswerable, IsTaken, IsTurnedDown, IsUnanswerable};
@@ -12,8 +12,10 @@ use crate::error::LongTermClientAuthError;
 use crate::kept::{KeptChallenge, key_of_both};
 use crate::long_term::LongTermClientAuth;
 use crate::strongest::strongest;
-use stun_proto_claim::claim::Claim;
-use stun_proto_claim::message::{IntegrityAlgorithm, IntegrityKey, Message};
+use stun_proto_auth::claim::Claim;
+use stun_types_integrity::key::IntegrityKey;
+use stun_types_message::parsed::Message;
+use stun_types_wire::algorithm::IntegrityAlgorithm;
 
 /// What a client answers to a message that it takes.
 #[derive(Clone, Copy, Debug, PartialEq, Eq)]

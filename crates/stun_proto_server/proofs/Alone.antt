@@ -3,9 +3,9 @@ use Rattle.std.proofs.Common.{◌≡◌, ℕ, List, [], ◌∷◌, Bool, true, f
 use Rattle.std.specs.FinMap as finite
 use Rattle.std.specs.declared.net.socket_addr.SocketAddr.{SocketAddr}
 use Rattle.rand_core.specs.Stream.{Stream}
-use Rattle.stun_proto_judge.specs.Claims.{Claimed, claimed}
-use Rattle.stun_proto_judge.specs.Judgement.{is_response}
-use Rattle.stun_proto_judge.specs.Knowledge.{Outcome}
+use Rattle.stun_proto_auth.specs.Claims.{Claimed, claimed}
+use Rattle.stun_proto_verify.specs.Judgement.{is_response}
+use Rattle.stun_proto_verify.specs.Knowledge.{Outcome}
 use Rattle.stun_proto_server.specs.declared.validation.LongTermServerValidation.TheVariants.{Validated}
 use Rattle.stun_proto_server.specs.AuthCalls.{AuthAnswer, AuthCall, IsCalled, IsJudged}
 use Rattle.stun_proto_server.specs.AuthCalls as call

@@ -6,9 +6,9 @@ use Rattle.std.specs.declared.cmp.Ordering.{Ordering}
 use Rattle.std.specs.declared.cmp.Ordering.TheVariants.{Less, Equal, Greater}
 use Rattle.std.specs.declared.net.socket_addr.SocketAddr.{SocketAddr}
 use Rattle.rand_core.specs.Stream.{Stream}
-use Rattle.stun_proto_judge.specs.Knowledge.{Outcome}
+use Rattle.stun_proto_verify.specs.Knowledge.{Outcome}
 use Rattle.stun_proto_server.specs.Server.{Client, Server, set_outcome, with_new_nonce, with_outcome, SameFor}
-use Rattle.stun_proto_sign.specs.SocketAddrs.{socket_addr_cmp, socket_addr_cmp_total, socket_addr_cmp-IsAntisymmetric}
+use Rattle.stun_types_base.specs.SocketAddrs.{socket_addr_cmp, socket_addr_cmp_total, socket_addr_cmp-IsAntisymmetric}
 
 -- a comparison that ties answers equal
 pub tie : (answer : Ordering) → is_eq answer ≡ true → answer ≡ Equal

@@ -7,16 +7,16 @@ use Rattle.std.specs.Ordering.{is_eq}
 use Rattle.std.specs.Option.{option_and_then, option_map}
 use Rattle.std.specs.declared.net.socket_addr.SocketAddr.{SocketAddr}
 use Rattle.rand_core.specs.Stream.{Stream}
-use Rattle.stun_proto_sign.specs.IntegrityAlgorithms.{IntegrityAlgorithm}
-use Rattle.stun_proto_sign.specs.GeneratorWords.{words_of}
-use Rattle.stun_proto_sign.specs.SocketAddrs.{socket_addr_cmp, socket_addr_cmp_total}
-use Rattle.stun_proto_judge.specs.Nonce.{features_offered, nonce_text}
-use Rattle.stun_proto_judge.specs.SupportedAlgorithms.{with_algorithm}
+use Rattle.stun_types_wire.specs.declared.algorithm.IntegrityAlgorithm.{IntegrityAlgorithm}
+use Rattle.stun_types_base.specs.GeneratorWords.{words_of}
+use Rattle.stun_types_base.specs.SocketAddrs.{socket_addr_cmp, socket_addr_cmp_total}
+use Rattle.stun_proto_auth.specs.Nonce.{features_offered, nonce_text}
+use Rattle.stun_proto_auth.specs.SupportedAlgorithms.{with_algorithm}
 use Rattle.stun_proto_auth.specs.declared.nonce.TheConstants.{NONCE_WORDS}
-use Rattle.stun_proto_judge.specs.Claims.{Claimed, claimed}
-use Rattle.stun_proto_judge.specs.declared.error.LongTermServerAuthError.{LongTermServerAuthError}
-use Rattle.stun_proto_judge.specs.Knowledge.{Knowledge, Named, Outcome}
-use Rattle.stun_proto_judge.specs.Judgement.{IsRefused, ServerAccepts}
+use Rattle.stun_proto_auth.specs.Claims.{Claimed, claimed}
+use Rattle.stun_proto_verify.specs.declared.error.LongTermServerAuthError.{LongTermServerAuthError}
+use Rattle.stun_proto_verify.specs.Knowledge.{Knowledge, Named, Outcome}
+use Rattle.stun_proto_verify.specs.Judgement.{IsRefused, ServerAccepts}
 use Rattle.stun_proto_server.specs.Isolation.{AnswersAlike, LeavesAlike, LeavesAlone, SetsAlike}
 use Rattle.stun_proto_server.specs.Server.{Client, SameFor, Server, has_standing_nonce, is_standing, new_client, refreshed, set_outcome, with_new_nonce, with_outcome}
 use Rattle.stun_proto_server.specs.ServerSigning.{Party, addition, party_at, party_by_client, party_by_outcome, party_by_password}

@@ -3,12 +3,12 @@ use Rattle.std.proofs.Common.{◌≡◌, ℕ, List, Option, Some, None, refl, sy
 use Rattle.std.specs.Prelude.{IsSome}
 use Rattle.std.specs.FinMap as map
 use Rattle.std.specs.declared.net.socket_addr.SocketAddr.{SocketAddr}
-use Rattle.stun_proto_sign.specs.IntegrityAlgorithms.{IntegrityAlgorithm}
-use Rattle.stun_proto_judge.specs.Claims.{Claimed, claimed}
-use Rattle.stun_proto_judge.specs.declared.error.LongTermServerAuthError.{LongTermServerAuthError}
-use Rattle.stun_proto_judge.specs.Knowledge.{Named}
-use Rattle.stun_proto_judge.specs.Judgement.{IsAccepted, IsRefused, ServerAccepts}
-use Rattle.stun_proto_judge.proofs.Judging.{not_both}
+use Rattle.stun_types_wire.specs.declared.algorithm.IntegrityAlgorithm.{IntegrityAlgorithm}
+use Rattle.stun_proto_auth.specs.Claims.{Claimed, claimed}
+use Rattle.stun_proto_verify.specs.declared.error.LongTermServerAuthError.{LongTermServerAuthError}
+use Rattle.stun_proto_verify.specs.Knowledge.{Named}
+use Rattle.stun_proto_verify.specs.Judgement.{IsAccepted, IsRefused, ServerAccepts}
+use Rattle.stun_proto_verify.proofs.Judging.{not_both}
 use Rattle.stun_proto_server.specs.Server.{Server}
 use Rattle.stun_proto_server.specs.ServerValidation.{Accepts, AcceptsSome, Refuses, known_of}
 use Rattle.stun_proto_server.specs.Users.{HashesDiffer, IsClaimedName, IsFound, IsUser, Names, NamesOne}

@@ -11,8 +11,8 @@ use Rattle.std.specs.Ordering.{is_eq, nat_cmp}
 use Rattle.std.specs.String.{string_bytes, string_cmp}
 use Rattle.std.specs.declared.alloc.Global.{Global}
 use Rattle.std.specs.declared.string.String.{String}
-use Rattle.stun_proto_sign.specs.Userhashes.{userhash_of}
-use Rattle.stun_proto_judge.specs.Knowledge.{Named}
+use Rattle.stun_types_auth_attributes.specs.Userhashes.{userhash_of}
+use Rattle.stun_proto_verify.specs.Knowledge.{Named}
 use Rattle.stun_proto_server.specs.KeptKeys.{AllHaveKeys, HasKeys}
 use Rattle.stun_proto_server.specs.Server.{Server}
 use Rattle.stun_proto_server.specs.Users.{IsClaimedName, IsFoundBy, IsUser, is_hash_of}

@@ -3,8 +3,8 @@ use Rattle.std.specs.Prelude.{◌≡◌, Bool, true, List, [], ◌∷◌, filter
 use Rattle.std.specs.FinMap as finite
 use Rattle.std.specs.Ordering.{eq_by_cmp}
 use Rattle.std.specs.declared.net.socket_addr.SocketAddr.{SocketAddr}
-use Rattle.stun_proto_sign.specs.SocketAddrs.{socket_addr_cmp}
-use Rattle.stun_proto_judge.specs.Claims.{claimed}
+use Rattle.stun_types_base.specs.SocketAddrs.{socket_addr_cmp}
+use Rattle.stun_proto_auth.specs.Claims.{claimed}
 use Rattle.stun_proto_server.specs.AuthCalls.{AuthAnswer, AuthCall, IsCalled}
 use Rattle.stun_proto_server.specs.AuthCalls as call
 use Rattle.stun_proto_server.specs.Server.{SameFor, Server}

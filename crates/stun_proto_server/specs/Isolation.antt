@@ -3,12 +3,12 @@ use Rattle.std.specs.Prelude.{◌≡◌, ◌↔◌, ℕ, List, [], ◌∷◌, Op
 use Rattle.std.specs.FinMap as map
 use Rattle.std.specs.declared.net.socket_addr.SocketAddr.{SocketAddr}
 use Rattle.rand_core.specs.Stream.{Stream}
-use Rattle.stun_proto_sign.specs.IntegrityAlgorithms.{IntegrityAlgorithm}
-use Rattle.stun_proto_sign.specs.MessageClasses.{MessageClass}
-use Rattle.stun_proto_judge.specs.SupportedAlgorithms.{with_algorithm}
-use Rattle.stun_proto_judge.specs.declared.feature.Feature.{Feature}
-use Rattle.stun_proto_judge.specs.declared.error.LongTermServerAuthError.{LongTermServerAuthError}
-use Rattle.stun_proto_judge.specs.Knowledge.{Outcome}
+use Rattle.stun_types_wire.specs.declared.algorithm.IntegrityAlgorithm.{IntegrityAlgorithm}
+use Rattle.stun_types_wire.specs.declared.class.MessageClass.{MessageClass}
+use Rattle.stun_proto_auth.specs.SupportedAlgorithms.{with_algorithm}
+use Rattle.stun_proto_auth.specs.declared.feature.Feature.{Feature}
+use Rattle.stun_proto_verify.specs.declared.error.LongTermServerAuthError.{LongTermServerAuthError}
+use Rattle.stun_proto_verify.specs.Knowledge.{Outcome}
 use Rattle.stun_proto_server.specs.Server.{SameFor, Server, nonce_at, outcome_at, refreshed, with_outcome, words_drawn}
 use Rattle.stun_proto_server.specs.ServerSigning.{addition_for}
 use Rattle.stun_proto_server.specs.ServerValidation.{Accepts, Refuses, WantsMemory}

@@ -3,7 +3,7 @@ use Rattle.std.specs.Prelude.{ℕ, List, IfSome}
 use Rattle.std.specs.BTreeMap as tree
 use Rattle.std.specs.declared.alloc.Global.{Global}
 use Rattle.std.specs.declared.string.String.{String}
-use Rattle.stun_proto_judge.specs.UserKeys.{AreKeysOf}
+use Rattle.stun_proto_verify.specs.UserKeys.{AreKeysOf}
 use Rattle.stun_proto_server.specs.declared.users.KeyedUser.{KeyedUser}
 
 -- the keys of a user of this name in a realm

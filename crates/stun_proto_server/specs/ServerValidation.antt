@@ -2,11 +2,11 @@
 use Rattle.std.specs.Prelude.{◌≡◌, ◌⊎◌, ℕ, false, List, Option, Some, None, if◌then◌else◌}
 use Rattle.std.specs.declared.net.socket_addr.SocketAddr.{SocketAddr}
 use Rattle.rand_core.specs.Stream.{Stream}
-use Rattle.stun_proto_sign.specs.IntegrityAlgorithms.{IntegrityAlgorithm}
-use Rattle.stun_proto_judge.specs.Claims.{claimed}
-use Rattle.stun_proto_judge.specs.Knowledge.{Knowledge, Named}
-use Rattle.stun_proto_judge.specs.Judgement.{IsRefused, ServerAccepts, is_response}
-use Rattle.stun_proto_judge.specs.declared.error.LongTermServerAuthError.{LongTermServerAuthError}
+use Rattle.stun_types_wire.specs.declared.algorithm.IntegrityAlgorithm.{IntegrityAlgorithm}
+use Rattle.stun_proto_auth.specs.Claims.{claimed}
+use Rattle.stun_proto_verify.specs.Knowledge.{Knowledge, Named}
+use Rattle.stun_proto_verify.specs.Judgement.{IsRefused, ServerAccepts, is_response}
+use Rattle.stun_proto_verify.specs.declared.error.LongTermServerAuthError.{LongTermServerAuthError}
 use Rattle.stun_proto_server.specs.declared.validation.LongTermServerValidation.{LongTermServerValidation}
 use Rattle.stun_proto_server.specs.declared.validation.LongTermServerValidation.TheVariants.{Validated}
 use Rattle.stun_proto_server.specs.Users.{IsFound, Names}

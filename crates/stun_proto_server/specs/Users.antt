@@ -2,9 +2,9 @@
 use Rattle.std.specs.Prelude.{◌≡◌, ℕ, nat_eq, Bool, List, Option, Some, None, IsSome, MatchOption}
 use Rattle.std.specs.Cmp.Lexicographic.{pointwise}
 use Rattle.std.specs.FinMap as map
-use Rattle.stun_proto_sign.specs.Userhashes.{userhash_of}
-use Rattle.stun_proto_judge.specs.Claims.{Claimed}
-use Rattle.stun_proto_judge.specs.Knowledge.{Named}
+use Rattle.stun_types_auth_attributes.specs.Userhashes.{userhash_of}
+use Rattle.stun_proto_auth.specs.Claims.{Claimed}
+use Rattle.stun_proto_verify.specs.Knowledge.{Named}
 use Rattle.stun_proto_server.specs.Server.{Server}
 
 -- a name is the claimed one: the one that is shown, or, where none is, one whose hash in the realm is shown

@@ -5,7 +5,7 @@ use Rattle.std.specs.FinMap as finite
 use Rattle.std.specs.String.{string_bytes}
 use Rattle.std.specs.declared.alloc.Global.{Global}
 use Rattle.std.specs.declared.string.String.{String}
-use Rattle.stun_proto_judge.specs.Knowledge.{Named}
+use Rattle.stun_proto_verify.specs.Knowledge.{Named}
 use Rattle.stun_proto_server.specs.Server.{Client, Server}
 use Rattle.stun_proto_server.specs.declared.long_term.ClientRecord.{ClientRecord}
 use Rattle.stun_proto_server.specs.declared.long_term.LongTermServerAuth.TheInside.{Inside}

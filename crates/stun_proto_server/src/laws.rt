@@ -3,9 +3,9 @@
 
 ghost use Rattle.std.specs.Prelude.{◌≡◌, ◌≢◌, ℕ, List};
 ghost use Rattle.std.specs.declared.net.socket_addr.SocketAddr.{SocketAddr as Addr};
-ghost use Rattle.stun_proto_judge.specs.Claims.{claimed};
-ghost use Rattle.stun_proto_judge.specs.declared.error.LongTermServerAuthError.{LongTermServerAuthError as Error};
-ghost use Rattle.stun_proto_sign.specs.IntegrityAlgorithms.{IntegrityAlgorithm};
+ghost use Rattle.stun_proto_auth.specs.Claims.{claimed};
+ghost use Rattle.stun_proto_verify.specs.declared.error.LongTermServerAuthError.{LongTermServerAuthError as Error};
+ghost use Rattle.stun_types_wire.specs.declared.algorithm.IntegrityAlgorithm.{IntegrityAlgorithm};
 ghost use Rattle.stun_proto_server.specs.AuthCalls.{AuthAnswer, AuthCall};
 ghost use Rattle.stun_proto_server.specs.AuthRuns.{AreAnsweredAlike, EachNamesOne, IsAuthRun, StandsAlone, calls_concerning};
 ghost use Rattle.stun_proto_server.specs.Isolation.{AnswersAlike, LeavesAlike, LeavesAlone, SetsAlike};

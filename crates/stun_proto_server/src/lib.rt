@@ -8,6 +8,3 @@ pub mod outgoing;
 mod party;
 mod users;
 pub mod validation;
-
-// What stands above this crate has these through it.
-pub use stun_proto_judge::{error, feature, nonce, supported, user};

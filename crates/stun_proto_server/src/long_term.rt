@@ -8,17 +8,17 @@ ghost use Rattle.std.specs.List.{IsDistinct};
 ghost use Rattle.std.specs.Option.{option_copied, option_map};
 ghost use Rattle.std.specs.String.{string_bytes};
 ghost use Rattle.std.specs.declared.net.socket_addr.SocketAddr.{SocketAddr};
-ghost use Rattle.stun_proto_schedule.specs.Moments.{moment_after};
-ghost use Rattle.stun_proto_judge.specs.SupportedAlgorithms.{is_same_algorithm, with_algorithm};
-ghost use Rattle.stun_proto_sign.specs.SocketAddrs.{socket_addr_cmp};
-ghost use Rattle.stun_proto_sign.specs.GeneratorWords.{stream_after};
-ghost use Rattle.stun_proto_sign.specs.Registry.{longest_text};
-ghost use Rattle.stun_proto_sign.specs.IntegrityAlgorithms.{Sha1};
-ghost use Rattle.stun_proto_judge.specs.declared.feature.Feature.TheVariants.{Auto};
+ghost use Rattle.stun_types_base.specs.Moments.{moment_after};
+ghost use Rattle.stun_proto_auth.specs.SupportedAlgorithms.{is_same_algorithm, with_algorithm};
+ghost use Rattle.stun_types_base.specs.SocketAddrs.{socket_addr_cmp};
+ghost use Rattle.stun_types_base.specs.GeneratorWords.{stream_after};
+ghost use Rattle.stun_types_wire.specs.Registry.{longest_text};
+ghost use Rattle.stun_types_wire.specs.declared.algorithm.IntegrityAlgorithm.TheVariants.{Sha1};
+ghost use Rattle.stun_proto_auth.specs.declared.feature.Feature.TheVariants.{Auto};
 ghost use Rattle.stun_proto_server.specs.Server.{nonce_at, has_standing_nonce, outcome_at, words_drawn, with_new_nonce, with_outcome, refreshed, SameFor};
 ghost use Rattle.stun_proto_server.specs.KeptKeys.{HasKeys};
 ghost use Rattle.stun_proto_server.specs.Users.{IsFound, IsFoundBy};
-ghost use Rattle.stun_proto_sign.specs.Userhashes.{userhash_of};
+ghost use Rattle.stun_types_auth_attributes.specs.Userhashes.{userhash_of};
 
 use crate::users::{KeyedUser, user_hashed};
 use rand_core::Rng;
@@ -27,16 +27,18 @@ use std::collections::BTreeMap;
 use std::marker::Model;
 use std::net::SocketAddr;
 use std::time::Duration;
-use stun_proto_judge::claim::Claim;
-use stun_proto_judge::feature::Feature;
-use stun_proto_judge::keys::UserKeys;
-use stun_proto_judge::known::NamedUser;
-use stun_proto_judge::nonce::{NONCE_WORDS, NonceFeatures, ServerNonce, write_nonce};
-use stun_proto_judge::supported::SupportedIntegrity;
-use stun_proto_judge::user::ValidatedUser;
-use stun_proto_schedule::instant::Instant;
-use stun_proto_sign::message::{IntegrityAlgorithm, LongTermCredentials};
-use stun_proto_sign::{NoMemory, draw_words};
+use stun_proto_auth::claim::Claim;
+use stun_proto_auth::feature::Feature;
+use stun_proto_auth::nonce::{NONCE_WORDS, NonceFeatures, ServerNonce, write_nonce};
+use stun_proto_auth::supported::SupportedIntegrity;
+use stun_proto_verify::keys::UserKeys;
+use stun_proto_verify::known::NamedUser;
+use stun_proto_verify::user::ValidatedUser;
+use stun_types_base::instant::Instant;
+use stun_types_base::memory::NoMemory;
+use stun_types_base::words::draw_words;
+use stun_types_integrity::credentials::LongTermCredentials;
+use stun_types_wire::algorithm::IntegrityAlgorithm;
 
 /// The least time that a nonce stands, in seconds.
 pub const MIN_NONCE_EXPIRY: u64 = 30;
@@ -77,7 +79,7 @@ impl Model for LongTermServerAuth {
 
     ghost use Rattle.std.specs.Prelude.{◌≤◌, length};
     ghost use Rattle.std.specs.String.{string_bytes};
-    ghost use Rattle.stun_proto_sign.specs.Registry.{longest_text};
+    ghost use Rattle.stun_types_wire.specs.Registry.{longest_text};
     ghost use Rattle.stun_proto_server.specs.KeptKeys.{AllHaveKeys};
 
     ghost invariant = { λ server. (length (string_bytes server.realm) ≤ longest_text)

@@ -2,20 +2,22 @@
 
 ghost use Rattle.std.specs.Prelude.{◌≡◌, None, IsSome, IsSomeAnd, IfOk, false};
 ghost use Rattle.std.specs.Result.{IsOk};
-ghost use Rattle.stun_proto_sign.specs.Refusals.{RefusesFor};
-ghost use Rattle.stun_proto_sign.specs.Attributes.{kind_at};
-ghost use Rattle.stun_proto_sign.specs.Types.{class_of};
-ghost use Rattle.stun_proto_sign.specs.Adding.{IsBegun};
-ghost use Rattle.stun_proto_sign.specs.AdditionStages.{IsMade};
-ghost use Rattle.stun_proto_sign.specs.MessageClasses.{Success};
+ghost use Rattle.stun_types_base.specs.Refusals.{RefusesFor};
+ghost use Rattle.stun_types_wire.specs.Attributes.{kind_at};
+ghost use Rattle.stun_types_wire.specs.Types.{class_of};
+ghost use Rattle.stun_types_write.specs.Adding.{IsBegun};
+ghost use Rattle.stun_proto_auth.specs.AdditionStages.{IsMade};
+ghost use Rattle.stun_types_wire.specs.declared.class.MessageClass.TheVariants.{Success};
 ghost use Rattle.stun_proto_server.specs.ServerSigning.{addition_for, class_asked as class_of_size, party_at, signing_refusal_for, size_for};
-ghost use Rattle.stun_proto_sign.specs.Outcomes.{TakesNoMemory};
+ghost use Rattle.stun_types_write.specs.Outcomes.{TakesNoMemory};
 
 use crate::long_term::LongTermServerAuth;
 use crate::party::{Party, SigningUser};
 use std::net::SocketAddr;
-use stun_proto_sign::NoMemory;
-use stun_proto_sign::message::{MessageClass, MessageWrite, StunWriteError};
+use stun_types_base::memory::NoMemory;
+use stun_types_wire::class::MessageClass;
+use stun_types_wire::error::StunWriteError;
+use stun_types_write::writer::MessageWrite;
 
 impl LongTermServerAuth {
     /// Signs a message that goes to an address, by what is kept for the address, and gives the writer

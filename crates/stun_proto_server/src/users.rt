@@ -10,9 +10,9 @@ ghost use Rattle.stun_proto_server.specs.View.{pair_of};
 ghost use Rattle.stun_proto_server.specs.declared.users.KeyedUser.{KeyedUser as Keyed};
 
 use std::collections::BTreeMap;
-use stun_proto_judge::keys::UserKeys;
-use stun_proto_sign::attribute::Userhash;
-use stun_proto_sign::message::LongTermCredentials;
+use stun_proto_verify::keys::UserKeys;
+use stun_types_auth_attributes::userhash::Userhash;
+use stun_types_integrity::credentials::LongTermCredentials;
 
 /// A user, and its keys in the server's realm, which go with it. They have memory of their own, so that
 /// the map moves no keys.

@@ -2,10 +2,10 @@
 
 ghost use Rattle.std.specs.Prelude.{◌≡◌, ◌≢◌, ℕ, List, None, IfOk, IfErr, MatchResult, false};
 ghost use Rattle.std.specs.declared.net.socket_addr.SocketAddr.{SocketAddr};
-ghost use Rattle.stun_proto_sign.specs.IntegrityAlgorithms.{IntegrityAlgorithm as Algorithm};
-ghost use Rattle.stun_proto_sign.specs.GeneratorWords.{stream_after};
-ghost use Rattle.stun_proto_judge.specs.Claims.{claimed};
-ghost use Rattle.stun_proto_judge.specs.Judgement.{is_response};
+ghost use Rattle.stun_types_wire.specs.declared.algorithm.IntegrityAlgorithm.{IntegrityAlgorithm as Algorithm};
+ghost use Rattle.stun_types_base.specs.GeneratorWords.{stream_after};
+ghost use Rattle.stun_proto_auth.specs.Claims.{claimed};
+ghost use Rattle.stun_proto_verify.specs.Judgement.{is_response};
 ghost use Rattle.stun_proto_server.specs.Server.{SameFor, refreshed, with_outcome};
 ghost use Rattle.stun_proto_server.specs.ServerValidation.{Accepts, AcceptsSome, IsAfterNoMemory, IsValidated, Refuses, WantsMemory, after_refusal, words_of_validation};
 ghost use Rattle.stun_proto_server.specs.Users.{NamesOne};
@@ -13,13 +13,14 @@ ghost use Rattle.stun_proto_server.specs.Users.{NamesOne};
 use crate::long_term::LongTermServerAuth;
 use rand_core::Rng;
 use std::net::SocketAddr;
-use stun_proto_judge::claim::Claim;
-use stun_proto_judge::error::LongTermServerAuthError;
-use stun_proto_judge::judgement::judge_message;
-use stun_proto_judge::known::Known;
-use stun_proto_judge::user::ValidatedUser;
-use stun_proto_schedule::instant::Instant;
-use stun_proto_sign::message::{IntegrityAlgorithm, Message};
+use stun_proto_auth::claim::Claim;
+use stun_proto_verify::error::LongTermServerAuthError;
+use stun_proto_verify::judgement::judge_message;
+use stun_proto_verify::known::Known;
+use stun_proto_verify::user::ValidatedUser;
+use stun_types_base::instant::Instant;
+use stun_types_message::parsed::Message;
+use stun_types_wire::algorithm::IntegrityAlgorithm;
 
 /// What a server answers to a message that it takes.
 #[derive(Clone, Copy, Debug, PartialEq, Eq)]

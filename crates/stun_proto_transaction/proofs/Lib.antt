@@ -1,12 +1,11 @@
-mod Bounds
-mod Edits
-mod Finds
-mod Firsts
+pub mod Summing
+pub mod Bounds
+pub mod Edits
+pub mod Finds
+pub mod Firsts
 pub mod Leasts
-mod Maps
-mod Nexts
+pub mod Maps
+pub mod Nexts
 pub mod Slots
-mod Sounds
-mod Views
--- What stands above this crate has these through it.
-pub use Rattle.stun_proto_schedule.proofs.Summing
+pub mod Sounds
+pub mod Views

@@ -3,8 +3,8 @@ use Rattle.std.proofs.Common.{◌≡◌, suc, ◌+◌, ◌-◌, ◌≤◌, arith
 use Rattle.std.specs.Prelude.{nat_lt, ◌&&◌}
 use Rattle.std.specs.List.{sum}
 use Rattle.std.proofs.lemmas.Bool.{leb-true}
-use Rattle.stun_proto_schedule.specs.Schedule.{Waits, end_at, transmissions, waits_behind}
-use Rattle.stun_proto_schedule.proofs.Summing.{sum_grows}
+use Rattle.stun_proto_transaction.specs.Schedule.{Waits, end_at, transmissions, waits_behind}
+use Rattle.stun_proto_transaction.proofs.Summing.{sum_grows}
 use Rattle.stun_proto_transaction.specs.Agents.{Transaction, goes_on, has_left, next_slot}
 
 -- how often is transmitted over TCP is no more than over UDP

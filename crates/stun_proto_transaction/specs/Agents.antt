@@ -1,16 +1,16 @@
 -- What an agent keeps, and what it does next (RFC 8489, section 6.2).
 use Rattle.std.specs.Prelude.{ℕ, ◌+◌, nat_lt, nat_le, Bool, ◌&&◌, ◌||◌, true, false, List, if◌then◌else◌, Option, Some, None}
 use Rattle.std.specs.declared.net.socket_addr.SocketAddr.{SocketAddr}
-use Rattle.stun_types.specs.Grammar.{refusal, shown}
-use Rattle.stun_types.specs.IntegrityAlgorithms.{IntegrityAlgorithm}
-use Rattle.stun_types.specs.MessageValidation.{last_algorithm}
-use Rattle.stun_types.specs.ParseErrors.{StunParseError}
+use Rattle.stun_types_wire.specs.Grammar.{refusal, shown}
+use Rattle.stun_types_wire.specs.declared.algorithm.IntegrityAlgorithm.{IntegrityAlgorithm}
+use Rattle.stun_types_message.specs.MessageValidation.{last_algorithm}
+use Rattle.stun_types_wire.specs.declared.error.StunParseError.{StunParseError}
 use Rattle.stun_proto_transaction.specs.declared.transaction.Change.{Change}
 use Rattle.stun_proto_transaction.specs.declared.transaction.Change.TheVariants.{Cancel, CancelRetransmissions, ConfigureTimeout}
 use Rattle.stun_proto_transaction.specs.declared.transaction.Cancelled.{Cancelled}
 use Rattle.stun_proto_transaction.specs.declared.transaction.Cancelled.TheVariants.{Nothing, Retransmissions, Whole}
-use Rattle.stun_proto_schedule.specs.Moments.{greatest_moment}
-use Rattle.stun_proto_schedule.specs.Schedule.{Waits, end_at, slot_at, transmissions}
+use Rattle.stun_types_base.specs.Moments.{greatest_moment}
+use Rattle.stun_proto_transaction.specs.Schedule.{Waits, end_at, slot_at, transmissions}
 
 -- a request that is outstanding: its bytes and where they go, the moment at which it was sent, how many
 -- of its transmissions were made, how long is waited, and what of it is cancelled

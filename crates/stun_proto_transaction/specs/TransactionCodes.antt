@@ -3,7 +3,7 @@ use Rattle.std.specs.Prelude.{ℕ, List, Option, refl}
 use Rattle.std.specs.Coded.{Coded, code_by, coded×, coded_ℕ, coded_list, coded_option}
 use Rattle.std.specs.contracts.net.socket_addr.SocketAddr as addr
 use Rattle.std.specs.declared.net.socket_addr.SocketAddr.{SocketAddr}
-use Rattle.stun_proto_schedule.specs.Schedule.{Waits}
+use Rattle.stun_proto_transaction.specs.Schedule.{Waits}
 use Rattle.stun_proto_transaction.specs.Agents.{Transaction}
 use Rattle.stun_proto_transaction.specs.contracts.transaction.Cancelled as cancelled
 use Rattle.stun_proto_transaction.specs.declared.transaction.Cancelled.{Cancelled}

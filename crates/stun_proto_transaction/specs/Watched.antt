@@ -1,6 +1,6 @@
 -- What is known of moments by place: a bound of those before a cursor.
 use Rattle.std.specs.Prelude.{◌≡◌, ◌⊎◌, ℕ, ◌<◌, ◌≤◌, Bool, true, List, length, slice_index}
-use Rattle.stun_proto_schedule.specs.Moments.{greatest_moment}
+use Rattle.stun_types_base.specs.Moments.{greatest_moment}
 use Rattle.stun_proto_transaction.specs.declared.moments.Moments.TheInside.{Inside}
 
 -- a moment is no later than the first moments, so many

@@ -6,7 +6,7 @@ ghost use Rattle.stun_proto_transaction.specs.Agents.{changed, transmitted};
 use crate::transaction::{Change, Transaction};
 use std::alloc::Global;
 use std::marker::Model;
-use stun_types::NoMemory;
+use stun_types_base::memory::NoMemory;
 
 /// A request in a box. Contracts see the request.
 #[derive(Debug, Drop)]

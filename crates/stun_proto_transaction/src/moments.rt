@@ -4,12 +4,12 @@ ghost use Rattle.std.specs.Prelude.{◌≡◌, ◌<◌, ◌≤◌, [], OnErr, On
 ghost use Rattle.std.specs.List.{insert, remove};
 ghost use Rattle.stun_proto_transaction.specs.KeptMoments.{AllLater, IsFirst};
 ghost use Rattle.stun_proto_transaction.specs.Least.{IsLeastOf};
-ghost use Rattle.stun_proto_schedule.specs.Moments.{greatest_moment};
+ghost use Rattle.stun_types_base.specs.Moments.{greatest_moment};
 
 use std::alloc::Global;
 use std::marker::Model;
-use stun_proto_schedule::instant::Instant;
-use stun_types::NoMemory;
+use stun_types_base::instant::Instant;
+use stun_types_base::memory::NoMemory;
 
 /// Moments by place. Contracts see the list of them.
 ///

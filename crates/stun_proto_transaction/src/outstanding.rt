@@ -3,7 +3,7 @@
 ghost use Rattle.std.specs.Prelude.{◌≡◌, ◌≤◌, IfErr, IfOk, MatchOption, None, OnErr, OnOk, Some, length, max, min};
 ghost use Rattle.std.specs.FinMap as finite;
 ghost use Rattle.std.specs.List.{insert};
-ghost use Rattle.stun_proto_schedule.specs.Moments.{greatest_moment};
+ghost use Rattle.stun_types_base.specs.Moments.{greatest_moment};
 ghost use Rattle.stun_proto_transaction.specs.Agents.{Transaction, changed, is_due, is_ended, is_over, transmitted};
 ghost use Rattle.stun_proto_transaction.specs.KeptRequests.{IsFirstFrom, IsNext, NoneDue, NoneEnded, NoneFrom, with_number};
 ghost use Rattle.stun_proto_transaction.specs.Least.{IsLeast};
@@ -14,9 +14,9 @@ use crate::moments::Moments;
 use crate::transaction::{Change, Transaction};
 use std::alloc::Global;
 use std::marker::Model;
-use stun_proto_schedule::instant::Instant;
-use stun_types::NoMemory;
-use stun_types::message::TransactionId;
+use stun_types_base::instant::Instant;
+use stun_types_base::memory::NoMemory;
+use stun_types_wire::transaction::TransactionId;
 
 /// The requests that are outstanding, of one transport. Contracts see the record `Requests` of
 /// `specs/KeptRequests.antt`, a map of requests by number.

@@ -2,16 +2,17 @@
 //! crates name `Cancelled` and `Change`.
 
 ghost use Rattle.std.specs.Prelude.{◌≡◌, ◌+◌, ◌<◌, ◌≤◌, ◌^◌, true};
-ghost use Rattle.stun_types.specs.Grammar.{shown};
-ghost use Rattle.stun_types.specs.MessageValidation.{last_algorithm};
+ghost use Rattle.stun_types_wire.specs.Grammar.{shown};
+ghost use Rattle.stun_types_message.specs.MessageValidation.{last_algorithm};
 ghost use Rattle.stun_proto_transaction.specs.Agents.{changed, ends_from, goes_on, has_left, integrity_of, is_due, is_over, next_slot, sends_from, transmitted, without_retransmissions};
-ghost use Rattle.stun_proto_schedule.specs.Schedule.{transmissions};
+ghost use Rattle.stun_proto_transaction.specs.Schedule.{transmissions};
 
+use crate::waits::Waits;
 use std::marker::Model;
 use std::net::SocketAddr;
-use stun_proto_schedule::instant::Instant;
-use stun_proto_schedule::waits::Waits;
-use stun_types::message::{IntegrityAlgorithm, Message};
+use stun_types_base::instant::Instant;
+use stun_types_message::parsed::Message;
+use stun_types_wire::algorithm::IntegrityAlgorithm;
 
 /// What of a transaction is cancelled. Contracts name it; no call answers it.
 #[derive(Clone, Copy, Debug, PartialEq, Eq)]

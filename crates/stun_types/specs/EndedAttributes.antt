@@ -1,2 +1,2 @@
 -- Which ending attributes a writer holds.
-pub use Rattle.stun_types_message.specs.declared.ended.Ended.{Ended}
+pub use Rattle.stun_types_write.specs.declared.ended.Ended.{Ended}

@@ -1,3 +1,3 @@
 -- The kinds of credentials, by name.
-pub use Rattle.stun_types_message.specs.declared.credentials.MessageIntegrityCredentials.{MessageIntegrityCredentials}
-pub use Rattle.stun_types_message.specs.declared.credentials.MessageIntegrityCredentials.TheVariants.{ShortTerm, LongTerm}
+pub use Rattle.stun_types_integrity.specs.declared.credentials.MessageIntegrityCredentials.{MessageIntegrityCredentials}
+pub use Rattle.stun_types_integrity.specs.declared.credentials.MessageIntegrityCredentials.TheVariants.{ShortTerm, LongTerm}

@@ -1,3 +1,3 @@
 //! Bytes that are borrowed or owned.
 
-pub use stun_types_wire::data::{Data, DataOwned, DataSlice};
+pub use stun_types_base::data::{Data, DataOwned, DataSlice};

@@ -9,19 +9,17 @@
 
 pub mod attribute;
 pub mod data;
-pub mod family;
 pub mod laws;
 pub mod message;
 pub mod prelude;
 pub mod registry;
 pub mod room;
-pub mod transmit;
-pub mod transport;
 
-pub use crate::family::AddressFamily;
-pub use crate::transmit::Transmit;
-pub use crate::transport::{ParseTransportTypeError, TransportType};
-pub use stun_types_wire::list::ListOf;
-pub use stun_types_wire::memory::NoMemory;
+pub use stun_types_base::family::AddressFamily;
+pub use stun_types_base::list::ListOf;
+pub use stun_types_base::memory::NoMemory;
+pub use stun_types_base::transmit::Transmit;
+pub use stun_types_base::transport::{ParseTransportTypeError, TransportType};
+pub use stun_types_base::words::draw_words;
+pub use stun_types_base::{family, transmit, transport};
 pub use stun_types_wire::names::Names;
-pub use stun_types_wire::words::draw_words;

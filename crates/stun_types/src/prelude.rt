@@ -1,7 +1,7 @@
 //! The traits that a caller of this crate wants in scope.
 
-pub use stun_types_message::attribute::{
+pub use stun_types_add::ext::MessageWriteExt;
+pub use stun_types_write::attribute::{
     Attribute, AttributeFromRaw, AttributeStaticType, AttributeWrite,
 };
-pub use stun_types_message::ext::MessageWriteExt;
-pub use stun_types_message::writer::MessageWrite;
+pub use stun_types_write::writer::MessageWrite;

@@ -1,4 +1,4 @@
 //! What a call takes of a writer's room, and whether it may be made, before it is made.
 
-pub use stun_types_message::algorithm::hmac_length;
-pub use stun_types_message::room::{end_of_add, may_sign};
+pub use stun_types_add::room::{end_of_add, may_sign};
+pub use stun_types_integrity::algorithm::hmac_length;

@@ -2,12 +2,12 @@
 -- at least 16, in fours; and a MESSAGE-INTEGRITY-SHA512: that of an HMAC of 64, built in the same way.
 use Rattle.std.specs.Prelude.{ℕ, Bool, ◌==◌, ◌&&◌, ◌%◌, nat_le, nat_lt, List, length, Option, Some, None, if◌then◌else◌}
 use Rattle.std.specs.Option.{option_or}
-use Rattle.stun_types_write.specs.declared.error.StunParseError.{StunParseError}
-use Rattle.stun_types_write.specs.declared.error.StunParseError.TheVariants.{InvalidAttributeData}
-use Rattle.stun_types_write.specs.declared.error.StunWriteError.{StunWriteError}
-use Rattle.stun_types_write.specs.declared.error.StunWriteError.TheVariants.{IntegrityFailed, TooLarge, TooSmall}
-use Rattle.stun_types_write.specs.Attributes.{Attr}
-use Rattle.stun_types_write.specs.Registry.{sha256_kind, least_sha256_length, sha256_length, sha512_kind, least_sha512_length, sha512_length}
+use Rattle.stun_types_wire.specs.declared.error.StunParseError.{StunParseError}
+use Rattle.stun_types_wire.specs.declared.error.StunParseError.TheVariants.{InvalidAttributeData}
+use Rattle.stun_types_wire.specs.declared.error.StunWriteError.{StunWriteError}
+use Rattle.stun_types_wire.specs.declared.error.StunWriteError.TheVariants.{IntegrityFailed, TooLarge, TooSmall}
+use Rattle.stun_types_wire.specs.Attributes.{Attr}
+use Rattle.stun_types_wire.specs.Registry.{sha256_kind, least_sha256_length, sha256_length, sha512_kind, least_sha512_length, sha512_length}
 use Rattle.stun_types_write.specs.ValueReading.{value_refusal}
 
 -- so many bytes are a front that is taken of an HMAC

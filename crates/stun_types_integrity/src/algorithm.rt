@@ -4,12 +4,12 @@ ghost use Rattle.std.specs.Prelude.{◌≡◌};
 ghost use Rattle.stun_types_integrity.specs.Integrity.{algorithm_of as algorithm_of_kind, attribute_kind, is_lawful_length as is_lawful};
 ghost use Rattle.stun_types_integrity.specs.Signing.{hmac_length as length_of_hmac};
 
-use stun_types_write::algorithm::IntegrityAlgorithm;
-use stun_types_write::registry;
-use stun_types_write::registry::{
+use stun_types_wire::algorithm::IntegrityAlgorithm;
+use stun_types_wire::attribute::AttributeType;
+use stun_types_wire::registry;
+use stun_types_wire::registry::{
     MESSAGE_INTEGRITY, MESSAGE_INTEGRITY_SHA256, MESSAGE_INTEGRITY_SHA512,
 };
-use stun_types_write::wire_attribute::AttributeType;
 
 /// The type of the attribute that holds the HMAC of an algorithm.
 pub fn attribute_type(algorithm: IntegrityAlgorithm) -> AttributeType

@@ -3,8 +3,8 @@
 ghost use Rattle.std.specs.Prelude.{◌≡◌};
 ghost use Rattle.stun_types_integrity.specs.Begun.{HasKey, HasNoKey, hmac_algorithm};
 
-use stun_types_write::algorithm::IntegrityAlgorithm;
-use stun_types_write::hmac::{HmacSha1, HmacSha256, HmacSha512};
+use stun_types_digest::hmac::{HmacSha1, HmacSha256, HmacSha512};
+use stun_types_wire::algorithm::IntegrityAlgorithm;
 
 /// An HMAC by one of the algorithms, which has taken a key, or none yet, and no byte of a text.
 #[derive(Drop)]

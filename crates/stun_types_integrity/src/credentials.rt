@@ -9,8 +9,8 @@ use crate::key::IntegrityKey;
 use std::alloc::Global;
 use std::fmt;
 use std::marker::Model;
-use stun_types_write::algorithm::IntegrityAlgorithm;
-use stun_types_write::memory::NoMemory;
+use stun_types_base::memory::NoMemory;
+use stun_types_wire::algorithm::IntegrityAlgorithm;
 
 /// A user's name and password, which count in many sessions, and in each realm by another key
 /// (RFC 8489, section 9.2). Contracts see the two texts.

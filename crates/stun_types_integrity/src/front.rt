@@ -5,9 +5,9 @@ ghost use Rattle.std.specs.Prelude.{◌≡◌, length, MatchResult, IsTrue, None
 ghost use Rattle.stun_types_write.specs.ValueReading.{IsNamed};
 ghost use Rattle.stun_types_integrity.specs.HmacFronts.{front_read_refusal, front_refusal, is_front_length};
 
-use stun_types_write::error::{StunParseError, StunWriteError};
+use stun_types_wire::attribute::{AttributeType, RawAttribute};
+use stun_types_wire::error::{StunParseError, StunWriteError};
 use stun_types_write::reading::value_of;
-use stun_types_write::wire_attribute::{AttributeType, RawAttribute};
 
 /// Whether so many bytes are a front that is taken of an HMAC. Refused, in this order: `TooSmall` where
 /// there are fewer than the least number, `TooLarge` where there are more than the whole has,

@@ -2,25 +2,25 @@
 
 ghost use Rattle.std.specs.Prelude.{◌≡◌, ◌≢◌, ◌↔◌, ◌++◌, length, MatchResult, IsOk, IfErr};
 ghost use Rattle.stun_types_write.specs.ValueReading.{IsNamed};
-ghost use Rattle.stun_types_write.specs.declared.algorithm.IntegrityAlgorithm.TheVariants.{Sha1};
+ghost use Rattle.stun_types_wire.specs.declared.algorithm.IntegrityAlgorithm.TheVariants.{Sha1};
 ghost use Rattle.stun_types_integrity.specs.Integrity.{integrity_hmac};
-ghost use Rattle.stun_types_write.specs.Registry.{integrity_kind, sha1_length};
+ghost use Rattle.stun_types_wire.specs.Registry.{integrity_kind, sha1_length};
 
 use crate::hmac::IntegrityHmac;
 use crate::key::IntegrityKey;
 use std::alloc::Global;
 use std::convert::TryFrom;
 use std::marker::Model;
+use stun_types_base::memory::NoMemory;
+use stun_types_wire::attribute::{AttributeType, RawAttribute};
+use stun_types_wire::error::{StunParseError, StunWriteError, ValidateError};
+use stun_types_wire::registry;
+use stun_types_wire::registry::MESSAGE_INTEGRITY;
 use stun_types_write::attribute::{
     Attribute, AttributeFromRaw, AttributeStaticType, AttributeWrite,
 };
-use stun_types_write::error::{StunParseError, StunWriteError, ValidateError};
-use stun_types_write::memory::NoMemory;
 use stun_types_write::reading::value_of;
-use stun_types_write::registry;
-use stun_types_write::registry::MESSAGE_INTEGRITY;
 use stun_types_write::text::write_attribute;
-use stun_types_write::wire_attribute::{AttributeType, RawAttribute};
 
 /// The HMAC-SHA1 of a message under a key. Contracts see its twenty bytes.
 #[derive(Debug, Drop)]
@@ -29,7 +29,7 @@ pub struct MessageIntegrity {
 }
 
 impl Model for MessageIntegrity {
-    ghost use Rattle.stun_types_write.specs.Registry.{sha1_length};
+    ghost use Rattle.stun_types_wire.specs.Registry.{sha1_length};
     ghost use Rattle.std.specs.Prelude.{◌≡◌, ℕ, List, length};
 
     ghost Value = { List ℕ };

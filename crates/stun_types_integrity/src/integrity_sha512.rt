@@ -3,10 +3,10 @@
 
 ghost use Rattle.std.specs.Prelude.{◌≡◌, ◌≢◌, ◌↔◌, ◌++◌, length, MatchResult, IsOk, IsTrue, IfErr, None, Some};
 ghost use Rattle.stun_types_write.specs.ValueReading.{IsNamed};
-ghost use Rattle.stun_types_write.specs.declared.algorithm.IntegrityAlgorithm.TheVariants.{Sha512};
+ghost use Rattle.stun_types_wire.specs.declared.algorithm.IntegrityAlgorithm.TheVariants.{Sha512};
 ghost use Rattle.stun_types_integrity.specs.Integrity.{IsFront, integrity_hmac, is_lawful_length as is_lawful};
 ghost use Rattle.stun_types_integrity.specs.HmacFronts.{sha512_len_refusal, sha512_read_refusal};
-ghost use Rattle.stun_types_write.specs.Registry.{sha512_kind, sha512_length};
+ghost use Rattle.stun_types_wire.specs.Registry.{sha512_kind, sha512_length};
 
 use crate::algorithm::is_lawful_length;
 use crate::front::{check_front, front_of};
@@ -15,17 +15,17 @@ use crate::key::IntegrityKey;
 use std::alloc::Global;
 use std::convert::TryFrom;
 use std::marker::Model;
-use stun_types_write::algorithm::IntegrityAlgorithm;
+use stun_types_base::memory::NoMemory;
+use stun_types_wire::algorithm::IntegrityAlgorithm;
+use stun_types_wire::attribute::{AttributeType, RawAttribute};
+use stun_types_wire::error::{StunParseError, StunWriteError, ValidateError};
+use stun_types_wire::registry::{
+    HMAC_SHA512_LENGTH as WHOLE, MESSAGE_INTEGRITY_SHA512, MIN_HMAC_SHA512_LENGTH as LEAST,
+};
 use stun_types_write::attribute::{
     Attribute, AttributeFromRaw, AttributeStaticType, AttributeWrite,
 };
-use stun_types_write::error::{StunParseError, StunWriteError, ValidateError};
-use stun_types_write::memory::NoMemory;
-use stun_types_write::registry::{
-    HMAC_SHA512_LENGTH as WHOLE, MESSAGE_INTEGRITY_SHA512, MIN_HMAC_SHA512_LENGTH as LEAST,
-};
 use stun_types_write::text::write_attribute;
-use stun_types_write::wire_attribute::{AttributeType, RawAttribute};
 
 /// The HMAC-SHA512 of a message under a key, or the front of it: 16 to 64 bytes, in fours.
 /// Contracts see these bytes.
@@ -36,9 +36,9 @@ pub struct MessageIntegritySha512 {
 }
 
 impl Model for MessageIntegritySha512 {
-    ghost use Rattle.stun_types_write.specs.Registry.{sha512_length};
+    ghost use Rattle.stun_types_wire.specs.Registry.{sha512_length};
     ghost use Rattle.std.specs.Prelude.{◌≡◌, ℕ, IsTrue, List, length, take};
-    ghost use Rattle.stun_types_write.specs.declared.algorithm.IntegrityAlgorithm.TheVariants.{Sha512};
+    ghost use Rattle.stun_types_wire.specs.declared.algorithm.IntegrityAlgorithm.TheVariants.{Sha512};
     ghost use Rattle.stun_types_integrity.specs.Integrity.{is_lawful_length};
 
     ghost Value = { List ℕ };

@@ -18,8 +18,8 @@ use sha2::{Sha256, Sha512};
 use std::alloc::AllocError;
 use std::fmt;
 use std::marker::Model;
-use stun_types_write::algorithm::IntegrityAlgorithm;
-use stun_types_write::hmac::BlockDigest;
+use stun_types_digest::hmac::BlockDigest;
+use stun_types_wire::algorithm::IntegrityAlgorithm;
 
 /// The bytes of a key: a digest, or the password itself.
 #[derive(Clone, Copy)]

@@ -1,3 +1,7 @@
+pub mod Composed
+pub mod Splits
+pub mod Covered
+pub mod Signed
 pub mod Fingerprints
 pub mod Scanning
 pub mod Shows
@@ -9,5 +13,4 @@ pub mod Refusing
 pub mod Listing
 pub mod Marks
 -- What stands above this crate has these through it.
-pub use Rattle.stun_types_build.proofs.Adds
-pub use Rattle.stun_types_build.proofs.Taken
+pub use Rattle.stun_types_add.proofs as Add

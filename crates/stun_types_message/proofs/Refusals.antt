@@ -1,7 +1,7 @@
 -- Why an attribute that is shown is not read.
 use Rattle.std.proofs.Common.{◌≡◌, Option, Some, sym, subst}
 use Rattle.std.specs.Prelude.{Result}
-use Rattle.stun_types_attribute.specs.Refusals.{RefusesFor}
+use Rattle.stun_types_base.specs.Refusals.{RefusesFor}
 use Rattle.stun_types_wire.specs.declared.attribute.AttributeType.{AttributeType}
 use Rattle.stun_types_wire.specs.declared.error.StunParseError.{StunParseError}
 use Rattle.stun_types_wire.specs.declared.error.StunParseError.TheVariants.{NoMemory}

@@ -4,12 +4,12 @@ use Rattle.stun_types_wire.specs.declared.error.StunParseError.TheVariants.{Trun
 use Rattle.stun_types_wire.specs.Attributes.{kind_at}
 use Rattle.stun_types_wire.specs.Shape.{rank, may_follow, shown_after}
 use Rattle.stun_types_wire.specs.Grammar.{body_refusal}
-use Rattle.stun_types_grammar_laws.proofs.Scan.{Continues, is_wrong_at, refuses_cut, refuses_fingerprint, ends_other, goes_on_at, shown_stops}
+use Rattle.stun_types_wire.proofs.Scan.{Continues, is_wrong_at, refuses_cut, refuses_fingerprint, ends_other, goes_on_at, shown_stops}
 use Rattle.stun_types_message.specs.declared.front.Front.{Front}
 use Rattle.stun_types_message.specs.declared.stage.Stage.{Stage}
 use Rattle.stun_types_message.specs.Fronts.{TellsFront}
 use Rattle.stun_types_message.specs.ShapeStages.{stage_rank}
-use Rattle.stun_types_grammar_laws.proofs.Scan.{begins, ends_all, refuses_short}
+use Rattle.stun_types_wire.proofs.Scan.{begins, ends_all, refuses_short}
 
 -- what the shape says of a type is what it says of the type that stands there
 follows_at : (before kind : ℕ) (rest : List ℕ) (b : _) → kind ≡ kind_at rest → may_follow before (rank kind) ≡ b → may_follow before (rank (kind_at rest)) ≡ b

@@ -8,8 +8,8 @@ use Rattle.std.proofs.lemmas.List.Sums.{sum_by-cons}
 use Rattle.stun_types_wire.specs.Attributes.{Attr, attr_at, attr_size, attributes, first_attributes, is_whole, kind_at, length_at, numbered, padded, size_at}
 use Rattle.stun_types_wire.specs.Shape.{behind_shown, may_follow, rank, shown_after}
 use Rattle.stun_types_wire.specs.Grammar.{shown}
-use Rattle.stun_types_grammar_laws.proofs.Scan.{Continues, behind_stops, shown_short, shown_step, shown_stops}
-use Rattle.stun_types_grammar_laws.proofs.Whole.{attributes_short, attributes_whole, not_whole, size_whole, whole_from, whole_long}
+use Rattle.stun_types_wire.proofs.Scan.{Continues, behind_stops, shown_short, shown_step, shown_stops}
+use Rattle.stun_types_wire.proofs.Whole.{attributes_short, attributes_whole, not_whole, size_whole, whole_from, whole_long}
 use Rattle.stun_types_message.specs.Shows.{IsShownText}
 
 -- what is shown, cut off behind it

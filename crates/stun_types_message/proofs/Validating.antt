@@ -13,22 +13,22 @@ use Rattle.stun_types_wire.specs.Attributes.{Attr, attr_size, padded, attr_at, k
 use Rattle.stun_types_wire.specs.Shape.{rank, may_follow, kinds_of, shown_after}
 use Rattle.stun_types_wire.specs.Registry.{integrity_kind, sha256_kind, sha512_kind}
 use Rattle.stun_types_wire.specs.Grammar.{Header, IsMessage, shown, refusal, header_refusal, length_refusal, body_refusal}
-use Rattle.stun_types_grammar_laws.proofs.Whole.{whole_long, size_whole}
+use Rattle.stun_types_wire.proofs.Whole.{whole_long, size_whole}
 use Rattle.std.specs.List.{AllByRecursion, starts_with}
-use Rattle.stun_types_grammar_laws.proofs.Left.{left_at, map_numbered, none_past, none_stops, left_step}
-use Rattle.stun_types_grammar_laws.proofs.Scan.{shown_short}
-use Rattle.stun_types_grammar_laws.proofs.Longest.{Follows, front_follows}
+use Rattle.stun_types_wire.proofs.Left.{left_at, map_numbered, none_past, none_stops, left_step}
+use Rattle.stun_types_wire.proofs.Scan.{shown_short}
+use Rattle.stun_types_wire.proofs.Longest.{Follows, front_follows}
 use Rattle.stun_types_wire.specs.Covered.{covered_text, with_length}
 use Rattle.stun_types_wire.specs.declared.algorithm.IntegrityAlgorithm.TheVariants.{Sha1, Sha256, Sha512}
 use Rattle.stun_types_wire.specs.declared.error.StunParseError.TheVariants.{MissingAttribute, InvalidAttributeData}
 use Rattle.stun_types_wire.specs.declared.error.ValidateError.{ValidateError}
 use Rattle.stun_types_wire.specs.declared.error.ValidateError.TheVariants.{Parse, IntegrityFailed}
-use Rattle.stun_types_build.specs.Integrity.{IsSigned, Validates, algorithm_of, attribute_kind, integrity_hmac}
-use Rattle.stun_types_build.specs.Credentials.{Key}
-use Rattle.stun_types_build.specs.Keys.{key_of}
-use Rattle.stun_types_build.proofs.Keys.{key_for}
-use Rattle.stun_types_build.proofs.Pieces.{told_front}
-use Rattle.stun_types_build.specs.declared.credentials.MessageIntegrityCredentials.{MessageIntegrityCredentials}
+use Rattle.stun_types_integrity.specs.Integrity.{IsSigned, Validates, algorithm_of, attribute_kind, integrity_hmac}
+use Rattle.stun_types_integrity.specs.Credentials.{Key}
+use Rattle.stun_types_integrity.specs.Keys.{key_of}
+use Rattle.stun_types_integrity.proofs.Keys.{key_for}
+use Rattle.stun_types_add.proofs.Pieces.{told_front}
+use Rattle.stun_types_integrity.specs.declared.credentials.MessageIntegrityCredentials.{MessageIntegrityCredentials}
 use Rattle.stun_types_message.specs.Parsed.{IsParsed}
 use Rattle.stun_types_message.specs.MessageValidation.{HasDigest, IsLawful, IsRefused, IsRight, StandsAt, first_of_kind, last_algorithm}
 

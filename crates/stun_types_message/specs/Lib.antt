@@ -1,3 +1,5 @@
+pub mod UnsignedCalls
+pub mod Same
 pub mod Fronts
 pub mod MarkedTypes
 pub mod Objections
@@ -6,29 +8,3 @@ pub mod TypedReading
 pub mod Shows
 pub mod ShapeStages
 pub mod MessageValidation
--- What stands above this crate has these through it.
-pub use Rattle.stun_types_attribute.specs.Addresses
-pub use Rattle.stun_types_attribute.specs.ErrorCodeReading
-pub use Rattle.stun_types_attribute.specs.ErrorCodes
-pub use Rattle.stun_types_attribute.specs.Texts
-pub use Rattle.stun_types_attribute.specs.Xor
-pub use Rattle.stun_types_build.specs.Calls
-pub use Rattle.stun_types_build.specs.Credentials
-pub use Rattle.stun_types_build.specs.FingerprintValues
-pub use Rattle.stun_types_build.specs.HmacFronts
-pub use Rattle.stun_types_build.specs.Hmacs
-pub use Rattle.stun_types_build.specs.Integrity
-pub use Rattle.stun_types_build.specs.KeyBytes
-pub use Rattle.stun_types_build.specs.Keys
-pub use Rattle.stun_types_build.specs.Signing
-pub use Rattle.stun_types_grammar_laws.specs.Fingerprinted
-pub use Rattle.stun_types_grammar_laws.specs.Headers
-pub use Rattle.stun_types_grammar_laws.specs.MessageReading
-pub use Rattle.stun_types_info.specs.UnknownTypes
-pub use Rattle.stun_types_write.specs.Adding
-pub use Rattle.stun_types_write.specs.Alls
-pub use Rattle.stun_types_write.specs.Drafts
-pub use Rattle.stun_types_write.specs.Lent
-pub use Rattle.stun_types_write.specs.Outcomes
-pub use Rattle.stun_types_write.specs.ValueReading
-pub use Rattle.stun_types_write.specs.Walk

@@ -8,9 +8,9 @@ use Rattle.stun_types_wire.specs.declared.error.StunParseError.TheVariants.{Miss
 use Rattle.stun_types_wire.specs.Attributes.{Attr, padded, size_at, numbered}
 use Rattle.stun_types_wire.specs.Registry.{integrity_kind, header_size}
 use Rattle.stun_types_wire.specs.Grammar.{shown}
-use Rattle.stun_types_build.specs.declared.credentials.MessageIntegrityCredentials.{MessageIntegrityCredentials}
-use Rattle.stun_types_build.specs.Keys.{key_of}
-use Rattle.stun_types_build.specs.Integrity.{IsFront, algorithm_of, attribute_kind, integrity_hmac, is_lawful_length}
+use Rattle.stun_types_integrity.specs.declared.credentials.MessageIntegrityCredentials.{MessageIntegrityCredentials}
+use Rattle.stun_types_integrity.specs.Keys.{key_of}
+use Rattle.stun_types_integrity.specs.Integrity.{IsFront, algorithm_of, attribute_kind, integrity_hmac, is_lawful_length}
 use Rattle.stun_types_wire.specs.Covered.{covered_text}
 
 -- the first attribute of a type that is shown, with the offset at which it stands

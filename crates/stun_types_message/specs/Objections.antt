@@ -10,9 +10,9 @@ use Rattle.stun_types_wire.specs.Shape.{kinds_of}
 use Rattle.stun_types_wire.specs.Types.{method_of, type_of}
 use Rattle.stun_types_write.specs.Adding.{has_kind, room_refusal, size_refusal}
 use Rattle.stun_types_write.specs.Drafts.{Draft}
-use Rattle.stun_types_build.specs.Calls.{IsComposed}
-use Rattle.stun_types_attribute.specs.ErrorCodes.{error_value, reason_for}
-use Rattle.stun_types_info.specs.UnknownTypes.{types_refusal, types_value, with_type}
+use Rattle.stun_types_add.specs.Calls.{IsComposed}
+use Rattle.stun_types_attributes.specs.ErrorCodes.{error_value, reason_for}
+use Rattle.stun_types_attributes.specs.UnknownTypes.{types_refusal, types_value, with_type}
 use Rattle.stun_types_wire.specs.Registry.{error_code_kind, unknown_attributes_kind, bad_request_code, first_optional_kind, unknown_attribute_code}
 
 -- ---- the types

@@ -6,12 +6,12 @@ ghost use Rattle.stun_types_wire.specs.Types.{class_of, method_of, type_of};
 ghost use Rattle.stun_types_wire.specs.Grammar.{number_at};
 ghost use Rattle.stun_types_write.specs.Outcomes.{CanBegin, IsBegunAs};
 ghost use Rattle.stun_types_wire.specs.Generated.{drawn_number, number_words};
-ghost use Rattle.stun_types_wire.specs.GeneratorWords.{stream_after};
+ghost use Rattle.stun_types_base.specs.GeneratorWords.{stream_after};
 ghost use Rattle.stun_types_wire.specs.declared.class.MessageClass.TheVariants.{Request, Indication, Success, Error};
 
 use crate::parsed::Message;
 use rand_core::Rng;
-use stun_types_attribute::memory::NoMemory;
+use stun_types_base::memory::NoMemory;
 use stun_types_wire::class::{MessageClass, MessageType, Method};
 use stun_types_wire::header::MessageHeader;
 use stun_types_wire::transaction::TransactionId;

@@ -3,7 +3,7 @@
 ghost use Rattle.std.specs.Prelude.{◌≡◌, ◌==◌, ◌+◌, ◌<◌, ◌≤◌, ◌^◌, ◌++◌, ◌∷◌, false, ℕ, List, [], map, not, is_some, find, length, IfOk};
 ghost use Rattle.std.specs.List.{list_any};
 ghost use Rattle.std.specs.Option.{option_map};
-ghost use Rattle.stun_types_attribute.specs.Refusals.{RefusesFor};
+ghost use Rattle.stun_types_base.specs.Refusals.{RefusesFor};
 ghost use Rattle.stun_types_wire.specs.Attributes.{Attr, kind_at};
 ghost use Rattle.stun_types_wire.specs.Shape.{kinds_of};
 ghost use Rattle.stun_types_wire.specs.Types.{class_of};
@@ -86,7 +86,7 @@ struct Unknown {
 }
 
 /// Whether a message shows a type that has to be understood and is not supported.
-#[tactic(auto, using(stun_types_grammar_laws::proofs::Left::map_numbered))]
+#[tactic(auto, using(stun_types_wire::proofs::Left::map_numbered))]
 fn shows_unknown(msg: &Message, supported: &[AttributeType]) -> bool
     ensures { result ≡ list_any (λ a. is_unknown (map (λ t. t.0) supported.now) a.kind)
         (shown msg.now) }

@@ -8,7 +8,7 @@ ghost use Rattle.stun_types_message.specs.Fronts.{TellsFront};
 ghost use Rattle.stun_types_wire.specs.Registry.{greatest_size, header_size};
 
 use crate::front::Front;
-use stun_types_build::attribute::Fingerprint;
+use stun_types_add::attribute::Fingerprint;
 use stun_types_wire::header::MessageHeader;
 use stun_types_wire::registry::FINGERPRINT_SIZE;
 use stun_types_write::attribute::AttributeStaticType;

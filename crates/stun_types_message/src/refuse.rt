@@ -5,19 +5,19 @@ ghost use Rattle.stun_types_wire.specs.Attributes.{attr_size, kind_at};
 ghost use Rattle.stun_types_wire.specs.Types.{class_of};
 ghost use Rattle.stun_types_wire.specs.Grammar.{number_at};
 ghost use Rattle.stun_types_wire.specs.declared.class.MessageClass.TheVariants.{Request};
-ghost use Rattle.stun_types_attribute.specs.Refusals.{RefusesFor};
+ghost use Rattle.stun_types_base.specs.Refusals.{RefusesFor};
 ghost use Rattle.stun_types_write.specs.Adding.{size_refusal};
 ghost use Rattle.stun_types_write.specs.Outcomes.{CanBegin};
-ghost use Rattle.stun_types_build.specs.Calls.{IsComposed};
-ghost use Rattle.stun_types_attribute.specs.ErrorCodes.{error_refusal, reason_for};
+ghost use Rattle.stun_types_add.specs.Calls.{IsComposed};
+ghost use Rattle.stun_types_attributes.specs.ErrorCodes.{error_refusal, reason_for};
 ghost use Rattle.stun_types_message.specs.Objections.{bad_request_attributes, bad_request_refusal, error_attribute, error_type, unknown_refusal, unknown_response_attributes};
 
 use crate::parsed::Message;
 use std::alloc::Global;
-use stun_types_attribute::error_code::ErrorCode;
-use stun_types_build::ext::add_as;
-use stun_types_build::room::end_of_add;
-use stun_types_info::unknown_attributes::UnknownAttributes;
+use stun_types_add::ext::add_as;
+use stun_types_add::room::end_of_add;
+use stun_types_attributes::error_code::ErrorCode;
+use stun_types_attributes::unknown_attributes::UnknownAttributes;
 use stun_types_wire::attribute::{AttributeType, pad_attribute_len};
 use stun_types_wire::error::StunWriteError;
 use stun_types_write::writer::MessageWrite;
@@ -36,7 +36,7 @@ impl<'a> Message<'a> {
     /// empty writer with room for a header, and gives the writer back. Refused with `TooSmall` where
     /// the writer has not the room for its 40 bytes; where memory is refused, with `NoMemory`. A
     /// refusal drops the writer.
-    #[tactic(auto, unfolding(stun_types_attribute::specs::ErrorCodes::error_refusal))]
+    #[tactic(auto, unfolding(stun_types_attributes::specs::ErrorCodes::error_refusal))]
     pub fn bad_request<W: MessageWrite + Drop>(
         alloc: Global,
         request: &Message,

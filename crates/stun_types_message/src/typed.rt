@@ -1,7 +1,7 @@
 //! The attributes that a message shows, as values of their own types.
 
 ghost use Rattle.std.specs.Prelude.{◌≡◌, ◌==◌, IfErr, IfOk, IsTrue, find};
-ghost use Rattle.stun_types_attribute.specs.Refusals.{RefusesFor};
+ghost use Rattle.stun_types_base.specs.Refusals.{RefusesFor};
 ghost use Rattle.stun_types_wire.specs.Grammar.{shown};
 ghost use Rattle.stun_types_message.specs.TypedReading.{IsReadOf, nth_of_kind, read_of_refusal};
 

@@ -3,14 +3,14 @@
 ghost use Rattle.std.specs.Prelude.{◌≡◌, ◌↔◌, ◌-◌, ℕ, List, Ok, Some, None, IsTrue, IsSomeAnd, IfOk, IfErr, OnOk};
 ghost use Rattle.stun_types_wire.specs.declared.algorithm.IntegrityAlgorithm.{IntegrityAlgorithm as Algorithm};
 ghost use Rattle.stun_types_wire.specs.Grammar.{IsMessage, shown};
-ghost use Rattle.stun_types_build.specs.Integrity.{IsSigned, Validates, attribute_kind};
-ghost use Rattle.stun_types_build.specs.Keys.{key_of};
+ghost use Rattle.stun_types_integrity.specs.Integrity.{IsSigned, Validates, attribute_kind};
+ghost use Rattle.stun_types_integrity.specs.Keys.{key_of};
 ghost use Rattle.stun_types_message.specs.MessageValidation.{HasDigest, IsNotValid, IsRefused, IsRight, StandsAt, first_of_kind, last_algorithm};
 
 use crate::parsed::Message;
-use stun_types_build::credentials::MessageIntegrityCredentials;
-use stun_types_build::integrity_algorithm::{algorithm_of, attribute_type, is_lawful_length};
-use stun_types_build::key::IntegrityKey;
+use stun_types_integrity::algorithm::{algorithm_of, attribute_type, is_lawful_length};
+use stun_types_integrity::credentials::MessageIntegrityCredentials;
+use stun_types_integrity::key::IntegrityKey;
 use stun_types_wire::algorithm::IntegrityAlgorithm;
 use stun_types_wire::attribute::pad_attribute_len;
 use stun_types_wire::error::{StunParseError, ValidateError};

@@ -1,2 +1,13 @@
 pub mod Headers
 pub mod NameMaps
+pub mod Whole
+pub mod Scan
+pub mod Left
+pub mod Longest
+pub mod Numbers
+pub mod HeaderLaws
+pub mod Ends
+pub mod Fingerprints
+pub mod Texts
+pub mod Converse
+pub mod Written

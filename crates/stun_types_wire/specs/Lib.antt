@@ -1,6 +1,5 @@
 pub mod Attributes
 pub mod Covered
-pub mod Data
 pub mod Fingerprints
 pub mod Generated
 pub mod Grammar
@@ -14,11 +13,8 @@ pub mod Strength
 pub mod Text
 pub mod TypeBytes
 pub mod Types
+pub mod Fingerprinted
+pub mod Headers
+pub mod MessageReading
 -- What stands above this crate has these through it.
-pub use Rattle.stun_types_base.specs.GeneratorWords
-pub use Rattle.stun_types_base.specs.ListLending
-pub use Rattle.stun_types_base.specs.Refusals
-pub use Rattle.stun_types_base.specs.SocketAddrs
-pub use Rattle.stun_types_digest.specs.Crc
-pub use Rattle.stun_types_digest.specs.Hmac
-pub use Rattle.stun_types_digest.specs.HmacState
+pub use Rattle.stun_types_digest.specs as Digest

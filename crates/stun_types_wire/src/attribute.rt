@@ -8,7 +8,6 @@ ghost use Rattle.stun_types_wire.specs.RawBytes.{attribute_refusal, attribute_he
 ghost use Rattle.stun_types_wire.specs.Text.{attribute_text};
 ghost use Rattle.stun_types_wire.specs.Registry.{first_optional_kind};
 
-use crate::data::Data;
 use crate::error::StunParseError;
 use crate::registry::FIRST_OPTIONAL_TYPE;
 use byteorder::{BigEndian, ByteOrder};
@@ -17,6 +16,7 @@ use std::boxed::BoxedSlice;
 use std::convert::TryFrom;
 use std::marker::Model;
 use std::ops::Bound;
+use stun_types_base::data::Data;
 use stun_types_base::memory::NoMemory;
 
 /// The type of an attribute. The field is public so that constants of types are literals.
@@ -161,7 +161,7 @@ impl<'a> Model for RawAttribute<'a> {
     ghost Value = { Attr };
 
     ghost use Rattle.std.specs.Prelude.{length, ◌<◌, ◌^◌};
-    ghost use Rattle.stun_types_wire.specs.Data.{data_bytes};
+    ghost use Rattle.stun_types_base.specs.Data.{data_bytes};
 
     ghost view = { λ raw. record { kind = raw.atype.0; value = data_bytes raw.value } };
 

@@ -2,10 +2,10 @@
 use Rattle.std.proofs.Common.{◌≡◌, ℕ, zero, suc, ◌+◌, ◌-◌, ◌≤◌, List, [], ◌∷◌, ◌++◌, length, take, drop, replicate, refl, sym, ap, ◌∙◌, arith}
 use Rattle.std.proofs.lemmas.List.{length-append, length-drop, length-replicate, length-take, length-take-le}
 use Rattle.std.proofs.Math.Seq.{drop-append_seam, drop-append-add}
-use Rattle.stun_types_grammar_laws.specs.Attributes.{Attr, attr_size, padding_len}
-use Rattle.stun_types_grammar_laws.specs.Text.{attribute_text, padded_text}
+use Rattle.stun_types_wire.specs.Attributes.{Attr, attr_size, padding_len}
+use Rattle.stun_types_wire.specs.Text.{attribute_text, padded_text}
 use Rattle.byteorder.specs.Endian.{big_bytes}
-use Rattle.stun_types_grammar_laws.specs.Covered.{with_length}
+use Rattle.stun_types_wire.specs.Covered.{with_length}
 
 -- what lies behind the written bytes begins where they end
 from_end : (lent : List ℕ) (len : ℕ) → drop (length (take len lent)) lent ≡ drop len lent

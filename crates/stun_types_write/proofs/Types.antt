@@ -4,7 +4,7 @@ use Rattle.std.specs.Prelude.{find}
 use Rattle.std.specs.Option.{option_map}
 use Rattle.std.specs.List.{list_any}
 use Rattle.std.proofs.lemmas.Bool.{cases_Bool}
-use Rattle.stun_types_grammar_laws.specs.declared.attribute.AttributeType.{AttributeType}
+use Rattle.stun_types_wire.specs.declared.attribute.AttributeType.{AttributeType}
 use Rattle.stun_types_write.specs.Adding.{has_kind, is_among}
 
 pub any_numbers : (n : ℕ) (ts : List AttributeType) → has_kind n (map (λ (t : AttributeType). t.0) ts) ≡ list_any (λ (t : AttributeType). eqb t.0 n) ts

@@ -3,10 +3,10 @@ use Rattle.std.proofs.Common.{◌≡◌, ◌≢◌, ℕ, ◌≤◌, true, false,
 use Rattle.std.proofs.lemmas.Grind.{common_steps}
 use Rattle.std.specs.Str.{IsUtf8, is_utf8}
 use Rattle.std.proofs.lemmas.Str.{IsUtf8-from_is_utf8, is_utf8-from_IsUtf8}
-use Rattle.stun_types_grammar_laws.specs.declared.error.StunParseError.{StunParseError}
-use Rattle.stun_types_grammar_laws.specs.declared.error.StunParseError.TheVariants.{InvalidAttributeData, NoMemory}
-use Rattle.stun_types_grammar_laws.specs.Attributes.{Attr}
-use Rattle.stun_types_grammar_laws.specs.RawBytes.{type_and_len_refusal}
+use Rattle.stun_types_wire.specs.declared.error.StunParseError.{StunParseError}
+use Rattle.stun_types_wire.specs.declared.error.StunParseError.TheVariants.{InvalidAttributeData, NoMemory}
+use Rattle.stun_types_wire.specs.Attributes.{Attr}
+use Rattle.stun_types_wire.specs.RawBytes.{type_and_len_refusal}
 use Rattle.stun_types_write.specs.Adding.{attr_of}
 use Rattle.stun_types_write.specs.ValueReading.{value_refusal, utf8_refusal, text_read_refusal}
 

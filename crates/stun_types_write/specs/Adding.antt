@@ -1,14 +1,14 @@
 -- What an attribute that is added makes of a message, and why it is not added (RFC 8489, sections 14.5 to 14.7).
 use Rattle.std.specs.Prelude.{◌≡◌, ℕ, ◌+◌, ◌-◌, ◌≤◌, Bool, ◌||◌, ◌==◌, nat_lt, List, ◌++◌, length, Option, Some, None, if◌then◌else◌}
 use Rattle.std.specs.List.{list_any}
-use Rattle.stun_types_grammar_laws.specs.declared.error.StunWriteError.{StunWriteError}
-use Rattle.stun_types_grammar_laws.specs.declared.error.StunWriteError.TheVariants.{FingerprintExists, MessageIntegrityExists, TooLarge, TooSmall}
-use Rattle.stun_types_grammar_laws.specs.Attributes.{Attr, attr_size}
-use Rattle.stun_types_grammar_laws.specs.Covered.{with_length}
-use Rattle.stun_types_grammar_laws.specs.Grammar.{header_refusal}
-use Rattle.stun_types_grammar_laws.specs.Text.{attribute_text}
+use Rattle.stun_types_wire.specs.declared.error.StunWriteError.{StunWriteError}
+use Rattle.stun_types_wire.specs.declared.error.StunWriteError.TheVariants.{FingerprintExists, MessageIntegrityExists, TooLarge, TooSmall}
+use Rattle.stun_types_wire.specs.Attributes.{Attr, attr_size}
+use Rattle.stun_types_wire.specs.Covered.{with_length}
+use Rattle.stun_types_wire.specs.Grammar.{header_refusal}
+use Rattle.stun_types_wire.specs.Text.{attribute_text}
 use Rattle.stun_types_write.specs.Drafts.{Draft}
-use Rattle.stun_types_grammar_laws.specs.Registry.{fingerprint_size, greatest_data, greatest_size, header_size}
+use Rattle.stun_types_wire.specs.Registry.{fingerprint_size, greatest_data, greatest_size, header_size}
 
 -- the attribute of a type and a value
 abbrev pub attr_of : ℕ → List ℕ → Attr

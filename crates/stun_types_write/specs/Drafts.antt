@@ -1,9 +1,9 @@
 -- What a writer holds, and what is written into it.
 use Rattle.std.specs.Prelude.{ℕ, ◌+◌, ◌≤◌, true, false, ◌==◌, List, [], ◌++◌, length, drop, Option, IfSome, if◌then◌else◌}
-use Rattle.stun_types_grammar_laws.specs.Attributes.{Attr, attr_size, attributes}
-use Rattle.stun_types_grammar_laws.specs.Shape.{kinds_of}
-use Rattle.stun_types_grammar_laws.specs.Registry.{integrity_kind, sha256_kind, sha512_kind, fingerprint_kind, header_size}
-use Rattle.stun_types_grammar_laws.specs.Text.{attribute_text}
+use Rattle.stun_types_wire.specs.Attributes.{Attr, attr_size, attributes}
+use Rattle.stun_types_wire.specs.Shape.{kinds_of}
+use Rattle.stun_types_wire.specs.Registry.{integrity_kind, sha256_kind, sha512_kind, fingerprint_kind, header_size}
+use Rattle.stun_types_wire.specs.Text.{attribute_text}
 use Rattle.stun_types_write.specs.declared.ended.Ended.{Ended}
 
 -- no attribute that ends a message was added

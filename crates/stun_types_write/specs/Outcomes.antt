@@ -1,12 +1,12 @@
 -- What is left of a message that is begun, and of one that is added to.
 use Rattle.std.specs.Prelude.{◌≡◌, ◌≢◌, ℕ, ◌+◌, ◌≤◌, List, [], ◌∷◌, ◌++◌, length, drop, IsSome, None, Result, Err}
-use Rattle.stun_types_grammar_laws.specs.Refusals.{IsNamed}
-use Rattle.stun_types_grammar_laws.specs.declared.error.StunWriteError.{StunWriteError}
-use Rattle.stun_types_grammar_laws.specs.declared.error.StunWriteError.TheVariants.{NoMemory}
-use Rattle.stun_types_grammar_laws.specs.Attributes.{Attr, attr_size}
-use Rattle.stun_types_grammar_laws.specs.Text.{message_text}
+use Rattle.stun_types_base.specs.Refusals.{IsNamed}
+use Rattle.stun_types_wire.specs.declared.error.StunWriteError.{StunWriteError}
+use Rattle.stun_types_wire.specs.declared.error.StunWriteError.TheVariants.{NoMemory}
+use Rattle.stun_types_wire.specs.Attributes.{Attr, attr_size}
+use Rattle.stun_types_wire.specs.Text.{message_text}
 use Rattle.stun_types_write.specs.Adding.{after_add, growth_refusal, IsBegun}
-use Rattle.stun_types_grammar_laws.specs.Registry.{greatest_size, header_size}
+use Rattle.stun_types_wire.specs.Registry.{greatest_size, header_size}
 use Rattle.stun_types_write.specs.Drafts.{Draft, HasRoom, ended_by, none_ended}
 
 -- nothing is written, and a header has room

@@ -3,11 +3,11 @@ use Rattle.std.specs.Prelude.{ℕ, List, Option, Some, None, if◌then◌else◌
 use Rattle.std.specs.Option.{option_or}
 use Rattle.std.specs.Str.{is_utf8}
 use Rattle.std.specs.declared.ops.Bound.TheVariants.{Included}
-use Rattle.stun_types_grammar_laws.specs.Refusals.{IsNamed as IsNamedBut}
-use Rattle.stun_types_grammar_laws.specs.declared.error.StunParseError.{StunParseError}
-use Rattle.stun_types_grammar_laws.specs.declared.error.StunParseError.TheVariants.{InvalidAttributeData, NoMemory}
-use Rattle.stun_types_grammar_laws.specs.Attributes.{Attr}
-use Rattle.stun_types_grammar_laws.specs.RawBytes.{type_and_len_refusal}
+use Rattle.stun_types_base.specs.Refusals.{IsNamed as IsNamedBut}
+use Rattle.stun_types_wire.specs.declared.error.StunParseError.{StunParseError}
+use Rattle.stun_types_wire.specs.declared.error.StunParseError.TheVariants.{InvalidAttributeData, NoMemory}
+use Rattle.stun_types_wire.specs.Attributes.{Attr}
+use Rattle.stun_types_wire.specs.RawBytes.{type_and_len_refusal}
 
 -- why a type and a value are not of this type, or not of a length from the least to the greatest
 abbrev pub value_refusal : ℕ → ℕ → ℕ → Attr → Option StunParseError

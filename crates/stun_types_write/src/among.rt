@@ -3,7 +3,7 @@
 ghost use Rattle.std.specs.Prelude.{◌≡◌, ◌==◌};
 ghost use Rattle.std.specs.List.{list_any};
 
-use stun_types_grammar_laws::attribute::AttributeType;
+use stun_types_wire::attribute::AttributeType;
 
 /// Whether a type is among these.
 pub fn has_type(atypes: &[AttributeType], atype: AttributeType) -> bool

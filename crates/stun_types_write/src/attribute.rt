@@ -2,20 +2,20 @@
 
 ghost use Rattle.std.specs.Prelude.{◌≡◌, ◌≢◌, ◌+◌, ◌<◌, ◌≤◌, ◌^◌, ◌++◌, ◌||◌, length, drop, true, Bool, ℕ, List, Option, None, Some, IfOk, OnOk, IfErr, OnErr, IsTrue};
 ghost use Rattle.byteorder.specs.Endian.{big_bytes};
-ghost use Rattle.stun_types_grammar_laws.specs.declared.attribute.AttributeType.{AttributeType};
-ghost use Rattle.stun_types_grammar_laws.specs.declared.error.StunWriteError.TheVariants.{TooSmall};
-ghost use Rattle.stun_types_grammar_laws.specs.declared.error.StunParseError.{StunParseError as ParseError};
-ghost use Rattle.stun_types_grammar_laws.specs.Attributes.{Attr, padded};
-ghost use Rattle.stun_types_grammar_laws.specs.Text.{attribute_text};
+ghost use Rattle.stun_types_wire.specs.declared.attribute.AttributeType.{AttributeType};
+ghost use Rattle.stun_types_wire.specs.declared.error.StunWriteError.TheVariants.{TooSmall};
+ghost use Rattle.stun_types_wire.specs.declared.error.StunParseError.{StunParseError as ParseError};
+ghost use Rattle.stun_types_wire.specs.Attributes.{Attr, padded};
+ghost use Rattle.stun_types_wire.specs.Text.{attribute_text};
 ghost use Rattle.stun_types_write.specs.Adding.{attr_of};
-ghost use Rattle.stun_types_grammar_laws.specs.Refusals.{RefusesFor};
+ghost use Rattle.stun_types_base.specs.Refusals.{RefusesFor};
 
 use crate::text::{write_attribute, write_attribute_header};
 use std::alloc::Global;
 use std::fmt::Debug;
-use stun_types_grammar_laws::attribute::{AttributeType as Kind, RawAttribute, pad_attribute_len};
-use stun_types_grammar_laws::error::{StunParseError, StunWriteError};
-use stun_types_grammar_laws::memory::NoMemory;
+use stun_types_base::memory::NoMemory;
+use stun_types_wire::attribute::{AttributeType as Kind, RawAttribute, pad_attribute_len};
+use stun_types_wire::error::{StunParseError, StunWriteError};
 
 /// An attribute whose type is known without a value.
 pub trait AttributeStaticType {

@@ -3,8 +3,8 @@
 ghost use Rattle.std.specs.Prelude.{◌≡◌};
 ghost use Rattle.stun_types_write.specs.Drafts.{ended_by, none_ended};
 
-use stun_types_grammar_laws::attribute::AttributeType;
-use stun_types_grammar_laws::registry::{
+use stun_types_wire::attribute::AttributeType;
+use stun_types_wire::registry::{
     FINGERPRINT, MESSAGE_INTEGRITY, MESSAGE_INTEGRITY_SHA256, MESSAGE_INTEGRITY_SHA512,
 };
 

@@ -10,8 +10,3 @@ pub mod text;
 pub mod vec;
 mod walk;
 pub mod writer;
-
-// What stands above this crate has these through it.
-pub use stun_types_grammar_laws::{
-    algorithm, attribute as wire_attribute, error, hmac, memory, registry,
-};

@@ -5,8 +5,8 @@ ghost use Rattle.stun_types_write.specs.Adding.{attr_of};
 ghost use Rattle.stun_types_write.specs.ValueReading.{IsNamed, value_refusal, text_read_refusal, utf8_refusal};
 
 use std::ops::Bound;
-use stun_types_grammar_laws::attribute::{AttributeType, RawAttribute};
-use stun_types_grammar_laws::error::StunParseError;
+use stun_types_wire::attribute::{AttributeType, RawAttribute};
+use stun_types_wire::error::StunParseError;
 
 /// The value of an attribute of this type, with a length from the least to the greatest. Refused, in
 /// this order: `WrongAttributeImplementation` where it has another type, `Truncated` with the least

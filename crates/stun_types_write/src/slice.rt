@@ -9,7 +9,7 @@ use crate::ended::Ended;
 use crate::text::write_length;
 use crate::writer::MessageWrite;
 use std::marker::Model;
-use stun_types_grammar_laws::memory::NoMemory;
+use stun_types_base::memory::NoMemory;
 
 /// A writer into lent bytes, from their front on. It has the number of these bytes as its greatest
 /// size, takes no memory, and gives the front that is written and the bytes behind it. Contracts see

@@ -2,14 +2,14 @@
 
 ghost use Rattle.std.specs.Prelude.{◌≡◌, ◌+◌, ◌<◌, ◌≤◌, ◌^◌, ◌∷◌, ◌++◌, length, drop, slice_index};
 ghost use Rattle.byteorder.specs.Endian.{big_bytes};
-ghost use Rattle.stun_types_grammar_laws.specs.Attributes.{padded};
-ghost use Rattle.stun_types_grammar_laws.specs.Text.{attribute_text};
+ghost use Rattle.stun_types_wire.specs.Attributes.{padded};
+ghost use Rattle.stun_types_wire.specs.Text.{attribute_text};
 ghost use Rattle.stun_types_write.specs.Adding.{attr_of};
-ghost use Rattle.stun_types_grammar_laws.specs.Covered.{with_length};
-ghost use Rattle.stun_types_grammar_laws.specs.Registry.{header_size};
+ghost use Rattle.stun_types_wire.specs.Covered.{with_length};
+ghost use Rattle.stun_types_wire.specs.Registry.{header_size};
 
 use byteorder::{BigEndian, ByteOrder};
-use stun_types_grammar_laws::attribute::{AttributeType, pad_attribute_len};
+use stun_types_wire::attribute::{AttributeType, pad_attribute_len};
 
 /// Writes the four bytes before a value to the front: the type, and the length of the value.
 pub fn write_attribute_header(atype: AttributeType, len: u16, dest: &mut [u8])

@@ -10,7 +10,7 @@ use crate::text::write_length;
 use crate::writer::MessageWrite;
 use std::alloc::Global;
 use std::marker::Model;
-use stun_types_grammar_laws::memory::NoMemory;
+use stun_types_base::memory::NoMemory;
 
 /// A writer into a vector. It has no greatest size but that of a message, and gives the vector.
 /// Contracts see the record `Own`.

@@ -5,11 +5,11 @@ ghost use Rattle.std.specs.Option.{option_map};
 ghost use Rattle.stun_types_write.specs.Adding.{has_kind, is_among};
 ghost use Rattle.stun_types_write.specs.Drafts.{kinds_written};
 ghost use Rattle.stun_types_write.specs.Walk.{IsStep};
-ghost use Rattle.stun_types_grammar_laws.specs.Registry.{header_size};
+ghost use Rattle.stun_types_wire.specs.Registry.{header_size};
 
 use crate::among::has_type;
 use byteorder::{BigEndian, ByteOrder};
-use stun_types_grammar_laws::attribute::{AttributeType, pad_attribute_len};
+use stun_types_wire::attribute::{AttributeType, pad_attribute_len};
 
 /// The type of the whole attribute at the front, and what stands behind it.
 fn step(bytes: &[u8]) -> Option<(AttributeType, &[u8])>

@@ -3,18 +3,18 @@
 ghost use Rattle.std.specs.Prelude.{◌≡◌, ◌≤◌, IsOk, IsSome, ◌++◌, length, List, ℕ, OnOk, OnErr, find, map};
 ghost use Rattle.std.specs.Borrow.{Array, Lends, sem, u8 as byte};
 ghost use Rattle.std.specs.Option.{option_map};
-ghost use Rattle.stun_types_grammar_laws.specs.Attributes.{attr_size};
-ghost use Rattle.stun_types_grammar_laws.specs.Covered.{with_length};
+ghost use Rattle.stun_types_wire.specs.Attributes.{attr_size};
+ghost use Rattle.stun_types_wire.specs.Covered.{with_length};
 ghost use Rattle.stun_types_write.specs.Adding.{attr_of, has_kind, is_among};
-ghost use Rattle.stun_types_grammar_laws.specs.Registry.{greatest_size, header_size};
+ghost use Rattle.stun_types_wire.specs.Registry.{greatest_size, header_size};
 ghost use Rattle.stun_types_write.specs.Lent.{with_all};
 ghost use Rattle.stun_types_write.specs.Drafts.{Draft, HasRoom, kinds_written, pushed, pushed_attribute, with_bytes};
 
 use crate::attribute::AttributeWrite;
 use crate::ended::Ended;
 use crate::walk::{first_written, is_written};
-use stun_types_grammar_laws::attribute::AttributeType;
-use stun_types_grammar_laws::memory::NoMemory;
+use stun_types_base::memory::NoMemory;
+use stun_types_wire::attribute::AttributeType;
 
 /// Where the bytes of a message go. Contracts know a writer by its draft: the bytes that are written,
 /// the lent bytes behind them, which of the attributes that end a message were added, and the

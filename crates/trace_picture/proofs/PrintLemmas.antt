@@ -2,11 +2,11 @@
 use Rattle.std.proofs.Common.{ℕ, ◌≡◌, ◌≢◌, List, ◌++◌, ◌∙◌, ap}
 use Rattle.std.specs.Prelude.{Option, Some, None, Result, Err, codes}
 use Rattle.std.specs.Io.KnownBytes.{Appends, Keeps}
-use Rattle.program_lines.specs.declared.status.Status.{Status}
-use Rattle.program_lines.specs.declared.status.Status.TheVariants.{Done, BadTrace, NoMemory, Fault}
-use Rattle.program_lines.specs.declared.stop.Stop.{Stop}
-use Rattle.program_lines.specs.declared.stop.Stop.TheVariants as Stops
-use Rattle.program_lines.specs.Stop.{bad_text, status_of, stop_text}
+use Rattle.line_io.specs.declared.status.Status.{Status}
+use Rattle.line_io.specs.declared.status.Status.TheVariants.{Done, BadTrace, NoMemory, Fault}
+use Rattle.line_io.specs.declared.stop.Stop.{Stop}
+use Rattle.line_io.specs.declared.stop.Stop.TheVariants as Stops
+use Rattle.line_io.specs.Stop.{bad_text, status_of, stop_text}
 use Rattle.trace_picture.specs.Shown.{Prints}
 
 -- a text behind nothing

@@ -1,8 +1,8 @@
 -- Rows, one behind another.
 use Rattle.std.proofs.Common.{ℕ, ◌≡◌, ◌≢◌, List, [], ◌∷◌, ◌++◌, Option, Some, Bor, codes, map, refl, true, inl, inr, sym, ap, ◌∙◌, subst, append-nil, append_assoc}
 use Rattle.std.specs.Option.{option_copied}
-use Rattle.program_lines.specs.Cut.{lines_behind, lines_of, says_nothing}
-use Rattle.program_lines.specs.LineWords.{AreWords}
+use Rattle.line_io.specs.Cut.{lines_behind, lines_of, says_nothing}
+use Rattle.line_io.specs.LineWords.{AreWords}
 use Rattle.trace_picture.specs.Drawn.{row_text}
 use Rattle.trace_picture.specs.Lines.{Begins, IsMarked, IsRowOf, arrows_of, carries}
 use Rattle.trace_picture.specs.declared.event.Event.{Event}

@@ -1,7 +1,7 @@
 -- The lines of a trace, and the arrows that they give.
 use Rattle.std.specs.Prelude.{ℕ, ◌≡◌, ◌≢◌, ◌⊎◌, ◌||◌, Bool, true, false, List, [], ◌∷◌, map, codes, string_bytes, bytes_eq, if◌then◌else◌}
-use Rattle.program_lines.specs.Cut.{says_nothing}
-use Rattle.program_lines.specs.LineWords.{AreWords}
+use Rattle.line_io.specs.Cut.{says_nothing}
+use Rattle.line_io.specs.LineWords.{AreWords}
 use Rattle.trace_picture.specs.declared.kind.Kind.{Kind}
 use Rattle.trace_picture.specs.declared.kind.Kind.TheVariants.{Setup, ToDesk, ToClient, Drawing, Sending, Calling}
 use Rattle.trace_picture.specs.declared.row.Arrow.{Arrow}

@@ -1,7 +1,7 @@
 -- The picture of a trace and its answers.
 use Rattle.std.specs.Prelude.{ℕ, ◌≡◌, ◌≢◌, List, [], ◌∷◌, ◌++◌, codes}
 use Rattle.std.specs.List.{AllByRecursion, flat_map}
-use Rattle.program_lines.specs.Cut.{lines_of}
+use Rattle.line_io.specs.Cut.{lines_of}
 use Rattle.trace_picture.specs.Drawn.{label_text, row_text}
 use Rattle.trace_picture.specs.Lines.{IsPassed, IsRowOf}
 use Rattle.trace_picture.specs.declared.row.Label.{Label}

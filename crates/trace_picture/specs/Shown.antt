@@ -1,9 +1,9 @@
 -- What is printed, of a reader and a writer whose bytes are known.
 use Rattle.std.specs.Prelude.{ℕ, List, Option, codes, ⊤}
 use Rattle.std.specs.Io.KnownBytes.{Appends, Consumes, IsAtEnd}
-use Rattle.program_lines.specs.Stop.{bad_text}
-use Rattle.program_lines.specs.declared.status.Status.{Status}
-use Rattle.program_lines.specs.declared.status.Status.TheVariants.{Done, BadTrace, NoMemory, Fault}
+use Rattle.line_io.specs.Stop.{bad_text}
+use Rattle.line_io.specs.declared.status.Status.{Status}
+use Rattle.line_io.specs.declared.status.Status.TheVariants.{Done, BadTrace, NoMemory, Fault}
 use Rattle.trace_picture.specs.Pictures.{IsPicture}
 
 -- the picture of all that the reader had is printed

@@ -1,8 +1,8 @@
 //! What an event line says, and what is written beside its arrow.
 
 use crate::kind::Kind;
-use program_lines::lower_hex::read_hex;
-use program_lines::refusal::LineError;
+use line_io::lower_hex::read_hex;
+use line_io::refusal::LineError;
 use std::alloc::{AllocError, Global};
 
 /// What lines begin with that tell no moment.

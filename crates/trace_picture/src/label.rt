@@ -1,7 +1,7 @@
 //! Labels, one below another.
 
 use crate::row::{Label, Place};
-use program_lines::word::pieces;
+use line_io::word::pieces;
 use std::alloc::{AllocError, Global};
 
 /// How many characters of a text are shown.

@@ -8,12 +8,13 @@ use crate::kind::{Kind, carries, marks_of};
 use crate::label::{ARROW, Labels, STEP};
 use crate::row::{Label, Place, Row};
 use crate::sent::{Handed, answered_by};
-use program_lines::lower_hex::read_hex;
-use program_lines::refusal::LineError;
+use line_io::lower_hex::read_hex;
+use line_io::refusal::LineError;
 use std::alloc::{AllocError, Global};
-use stun_words::lines::push_lines;
-use stun_words::names::names;
-use stun_words::{Names, NoMemory};
+use stun_describe::lines::push_lines;
+use stun_describe::names::names;
+use stun_types_base::memory::NoMemory;
+use stun_types_wire::names::Names;
 
 /// How far down the foot of the heads stands, in pixels.
 const HEAD: usize = 22;

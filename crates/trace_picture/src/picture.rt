@@ -3,8 +3,8 @@
 ghost use Rattle.std.specs.Prelude.{ℕ, ◌≡◌, ◌≢◌, ◌++◌, IfOk, List, OnOk, codes, false, map, string_bytes, true};
 ghost use Rattle.std.specs.List.{flat_map};
 ghost use Rattle.std.specs.Option.{option_copied};
-ghost use Rattle.program_lines.specs.Cut.{lines_behind, lines_of};
-ghost use Rattle.program_lines.specs.LineWords.{AreWords};
+ghost use Rattle.line_io.specs.Cut.{lines_behind, lines_of};
+ghost use Rattle.line_io.specs.LineWords.{AreWords};
 ghost use Rattle.trace_picture.specs.Drawn.{label_text};
 ghost use Rattle.trace_picture.specs.Lines.{Begins};
 ghost use Rattle.trace_picture.specs.Pictures.{AreDrawn, AreOver, IsPicture, IsShown, IsStep, Parted};
@@ -15,10 +15,10 @@ use crate::kind::{Kind, kind_of};
 use crate::pen::Pen;
 use crate::row::{Label, push_labels, push_row};
 use crate::sent::Handed;
-use program_lines::cut::{cut_line, is_skipped};
-use program_lines::refusal::LineError;
-use program_lines::stop::{Stop, stop_at};
-use program_lines::word::read_words;
+use line_io::cut::{cut_line, is_skipped};
+use line_io::refusal::LineError;
+use line_io::stop::{Stop, stop_at};
+use line_io::word::read_words;
 use std::alloc::{AllocError, Global};
 
 /// The picture of a trace and of what its event lines were answered, a line `%` between them.

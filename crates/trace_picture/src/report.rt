@@ -2,13 +2,13 @@
 
 ghost use Rattle.std.specs.Prelude.{◌≡◌, ◌≢◌, ◌+◌, Err, OnErr, OnOk};
 ghost use Rattle.std.specs.Io.KnownBytes.{Keeps};
-ghost use Rattle.program_lines.specs.Input.{TakesAtMost};
+ghost use Rattle.line_io.specs.Input.{TakesAtMost};
 ghost use Rattle.trace_picture.specs.Shown.{Draws, Prints};
 
 use crate::picture::picture;
-use program_lines::input::{InputError, MAX_INPUT, read_input};
-use program_lines::status::Status;
-use program_lines::stop::{Stop, flush, print_stop};
+use line_io::input::{InputError, MAX_INPUT, read_input};
+use line_io::status::Status;
+use line_io::stop::{Stop, flush, print_stop};
 use std::alloc::Global;
 use std::io::{Read, Write};
 

@@ -1,6 +1,6 @@
 //! Which event lines' bytes are handed to somebody.
 
-use program_lines::word::pieces;
+use line_io::word::pieces;
 use std::alloc::{AllocError, Global};
 
 /// The lines of a trace whose bytes a later line hands to client or desk, by their numbers among the event lines.

@@ -1,33 +1,33 @@
-//! The client for C: each function of `bindings/c/include/turn_client.h`, exported. `turn_client_calls` has their
+//! The client for C: each function of `bindings/c/include/turn_client.h`, exported. `turn_client_c_calls` has their
 //! bodies, and proves there what each contract here says again: a static library exports its own functions alone.
 #![tactic(auto)]
 
 ghost use Rattle.std.specs.Net.Socket.{socket_ip};
 ghost use Rattle.std.specs.Prelude.{None, false, length, nat_lt, ◌+◌, ◌≡◌, ◌≢◌};
-ghost use Rattle.turn_client_calls.specs.Answers.{bind_answer, connect_answer, delete_answer, memory_answer, permission_answer, socket_answer};
-ghost use Rattle.turn_client_calls.specs.Calls.{Named, OnClient, OnCore, OnKept, Tells, Unless};
-ghost use Rattle.turn_client_calls.specs.Codes.{bad_family, bad_setting, ok, small_buffer};
-ghost use Rattle.turn_client_calls.specs.Opened.{HoldsOpened, WhyNot};
-ghost use Rattle.turn_client_calls.specs.Shown.{Lists, Shows, is_permitted, permitted_of, told_channel, told_connection, told_relayed};
-ghost use Rattle.turn_client_calls.specs.Sockets.{IsClosedTold, own_tuple};
-ghost use Rattle.turn_client_calls.specs.Traffic.{IsDrawnTold, IsFed, IsPulledTold, IsReadTold, IsSendTold, message_room, send_extra};
-ghost use Rattle.turn_client_calls.specs.Waits.{IsEventTold, IsPollTold};
-ghost use Rattle.turn_client_calls.specs.Binding.{IsBindAnswered};
-ghost use Rattle.turn_client_calls.specs.Connecting.{IsConnectAnswered};
-ghost use Rattle.turn_client_calls.specs.Deleting.{IsDeleteAnswered};
-ghost use Rattle.turn_client_calls.specs.Getters.{channels_of, connections_of, relayed_of};
-ghost use Rattle.turn_client_calls.specs.Permitting.{IsPermissionAnswered};
-ghost use Rattle.turn_client_calls.specs.SocketsTold.{IsSocketTold};
-ghost use Rattle.turn_client_calls.specs.Addresses.{address_of, socket_of, told_ip, transport_of};
+ghost use Rattle.turn_client_c_calls.specs.Answers.{bind_answer, connect_answer, delete_answer, memory_answer, permission_answer, socket_answer};
+ghost use Rattle.turn_client_c_calls.specs.Calls.{Named, OnClient, OnCore, OnKept, Tells, Unless};
+ghost use Rattle.turn_client_c_calls.specs.Codes.{bad_family, bad_setting, ok, small_buffer};
+ghost use Rattle.turn_client_c_calls.specs.Opened.{HoldsOpened, WhyNot};
+ghost use Rattle.turn_client_c_calls.specs.Shown.{Lists, Shows, is_permitted, permitted_of, told_channel, told_connection, told_relayed};
+ghost use Rattle.turn_client_c_calls.specs.Sockets.{IsClosedTold, own_tuple};
+ghost use Rattle.turn_client_c_calls.specs.Traffic.{IsDrawnTold, IsFed, IsPulledTold, IsReadTold, IsSendTold, message_room, send_extra};
+ghost use Rattle.turn_client_c_calls.specs.Waits.{IsEventTold, IsPollTold};
+ghost use Rattle.turn_client_c_calls.specs.TurnClientProtoCore.Binding.{IsBindAnswered};
+ghost use Rattle.turn_client_c_calls.specs.TurnClientProtoRecv.Connecting.{IsConnectAnswered};
+ghost use Rattle.turn_client_c_calls.specs.TurnClientProtoCore.Deleting.{IsDeleteAnswered};
+ghost use Rattle.turn_client_c_calls.specs.TurnClientProto.Getters.{channels_of, connections_of, relayed_of};
+ghost use Rattle.turn_client_c_calls.specs.TurnClientProtoCore.Permitting.{IsPermissionAnswered};
+ghost use Rattle.turn_client_c_calls.specs.TurnClientProto.SocketsTold.{IsSocketTold};
+ghost use Rattle.turn_client_c_types.specs.Addresses.{address_of, socket_of, told_ip, transport_of};
 
 use std::alloc::Global;
-use turn_client_calls::address::TurnAddress;
-use turn_client_calls::event::TurnClientEvent;
-use turn_client_calls::getters::{TurnChannel, TurnConnection, TurnRelayed};
-use turn_client_calls::handle::TurnHandle;
-use turn_client_calls::settings::{TurnSeed, TurnSettings};
-use turn_client_calls::told::{TurnPayload, TurnTransmit, TurnWait};
-use turn_client_calls::{asking, getters, opening, sockets, traffic, waiting};
+use turn_client_c_calls::getters::{TurnChannel, TurnConnection, TurnRelayed};
+use turn_client_c_calls::handle::TurnHandle;
+use turn_client_c_calls::{asking, getters, opening, sockets, traffic, waiting};
+use turn_client_c_types::address::TurnAddress;
+use turn_client_c_types::event::TurnClientEvent;
+use turn_client_c_types::settings::{TurnSeed, TurnSettings};
+use turn_client_c_types::told::{TurnPayload, TurnTransmit, TurnWait};
 
 /// Opens a client of a user. Nothing is sent yet.
 #[unsafe(no_mangle)]

@@ -3,10 +3,10 @@ use Rattle.std.proofs.Common.{◌≡◌, ◌≤◌, ℕ, ◌+◌, Bool, List, []
 use Rattle.std.proofs.lemmas.Bool.{cases_Bool}
 use Rattle.std.specs.List.{filter}
 use Rattle.std.specs.declared.net.socket_addr.SocketAddr.{SocketAddr}
-use Rattle.turn_client_proto_receipt.specs.Allocation.declared.allocation.Allocation.{Allocation}
-use Rattle.turn_client_proto_receipt.specs.Allocation.declared.channel.Channel.{Channel}
-use Rattle.turn_client_proto_receipt.specs.Channel.Numbers.{AreDistinct, counted, is_numbered, uses}
-use Rattle.turn_client_proto_receipt.specs.Channel.Shown.{channels_of, channels_shown, pairs_of}
+use Rattle.turn_client_proto_allocation.specs.declared.allocation.Allocation.{Allocation}
+use Rattle.turn_client_proto_allocation.specs.declared.channel.Channel.{Channel}
+use Rattle.turn_client_proto_peers.specs.Channel.Numbers.{AreDistinct, counted, is_numbered, uses}
+use Rattle.turn_client_proto_peers.specs.Channel.Shown.{channels_of, channels_shown, pairs_of}
 
 -- how many elements of two lists pass
 passes_both : {X : Type 0} (p : X → Bool) (front behind : List X) → length (filter p (front ++ behind)) ≡ length (filter p front) + length (filter p behind)

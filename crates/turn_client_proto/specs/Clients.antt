@@ -1,5 +1,5 @@
 -- A client over whichever transport.
-use Rattle.turn_client_proto_receipt.specs.Kept.{Kept, over_udp}
+use Rattle.turn_client_proto_recv.specs.Kept.{Kept, over_udp}
 use Rattle.turn_client_proto.specs.declared.client.TurnClient.{TurnClient}
 use Rattle.turn_client_proto.specs.declared.client.TurnClient.TheVariants.{Udp, Tcp}
 

@@ -1,11 +1,11 @@
 -- The code of a client, by which proofs tell its values apart.
 use Rattle.std.specs.Coded.{Coded, code_by, coded×, coded_bool, coded_list, coded_option, coded_ℕ}
 use Rattle.std.specs.Prelude.{◌≡◌, ℕ, Bool, List, Option, None, Some, refl}
-use Rattle.turn_types.specs.Streams.{Stream}
-use Rattle.turn_client_proto_receipt.specs.Core.contracts.protocol.Protocol as protocol
-use Rattle.turn_client_proto_receipt.specs.Core.declared.protocol.Protocol.{Protocol}
-use Rattle.turn_client_proto_receipt.specs.Control.{Control, Datagrams, Open, Closed}
-use Rattle.turn_client_proto_receipt.specs.Kept.{Kept}
+use Rattle.turn_types_frame.specs.Streams.{Stream}
+use Rattle.turn_client_proto_core.specs.contracts.protocol.Protocol as protocol
+use Rattle.turn_client_proto_core.specs.declared.protocol.Protocol.{Protocol}
+use Rattle.turn_client_proto_recv.specs.Control.{Control, Datagrams, Open, Closed}
+use Rattle.turn_client_proto_recv.specs.Kept.{Kept}
 
 abbrev pub protocol_code : Coded Protocol
 protocol_code = protocol.the_row.coded

@@ -3,13 +3,13 @@ use Rattle.std.specs.Prelude.{ℕ, Bool, List}
 use Rattle.std.specs.List.{list_any}
 use Rattle.std.specs.declared.net.ip_addr.IpAddr.{IpAddr}
 use Rattle.std.specs.declared.net.socket_addr.SocketAddr.{SocketAddr}
-use Rattle.stun_types.specs.declared.transport.TransportType.{TransportType}
-use Rattle.turn_client_proto_receipt.specs.Core.declared.protocol.Protocol.{Protocol}
-use Rattle.turn_client_proto_receipt.specs.Allocation.Listed.{relayed_shown}
-use Rattle.turn_client_proto_receipt.specs.Channel.Shown.{channels_shown}
-use Rattle.turn_client_proto_receipt.specs.Connection.Shown.{connections_shown}
-use Rattle.turn_client_proto_receipt.specs.Permission.Asking.{permits_over}
-use Rattle.turn_client_proto_receipt.specs.Permission.Shown.{addresses_of, permissions_at}
+use Rattle.stun_types_base.specs.declared.transport.TransportType.{TransportType}
+use Rattle.turn_client_proto_core.specs.declared.protocol.Protocol.{Protocol}
+use Rattle.turn_client_proto_allocation.specs.Listed.{relayed_shown}
+use Rattle.turn_client_proto_peers.specs.Channel.Shown.{channels_shown}
+use Rattle.turn_client_proto_connection.specs.Shown.{connections_shown}
+use Rattle.turn_client_proto_peers.specs.Permission.Asking.{permits_over}
+use Rattle.turn_client_proto_peers.specs.Permission.Shown.{addresses_of, permissions_at}
 
 -- the relayed addresses that a client shows, with their transports
 abbrev pub relayed_of : Protocol → List (TransportType × SocketAddr)

@@ -3,56 +3,50 @@ pub mod Clients
 pub mod Codes
 pub mod Getters
 pub mod SocketsTold
-pub use Rattle.turn_client_proto_receipt.specs.Control
-pub use Rattle.turn_client_proto_receipt.specs.Cuts
-pub use Rattle.turn_client_proto_receipt.specs.Datagrams
-pub use Rattle.turn_client_proto_receipt.specs.HandingIn
-pub use Rattle.turn_client_proto_receipt.specs.Kept
-pub use Rattle.turn_client_proto_receipt.specs.Order
-pub use Rattle.turn_client_proto_receipt.specs.Pieces
-pub use Rattle.turn_client_proto_receipt.specs.Pulls
-pub use Rattle.turn_client_proto_receipt.specs.Receipts
-pub use Rattle.turn_client_proto_receipt.specs.SocketCuts
-pub use Rattle.turn_client_proto_receipt.specs.SocketPieces
-pub use Rattle.turn_client_proto_receipt.specs.Waiting
-pub use Rattle.turn_client_proto_receipt.specs.declared.handing.Taken
-pub use Rattle.turn_client_proto_receipt.specs.Core.Beginning
-pub use Rattle.turn_client_proto_receipt.specs.Closing
-pub use Rattle.turn_client_proto_receipt.specs.Connecting
-pub use Rattle.turn_client_proto_receipt.specs.Connection
-pub use Rattle.turn_client_proto_receipt.specs.Core.Binding
-pub use Rattle.turn_client_proto_receipt.specs.Core.Deleting
-pub use Rattle.turn_client_proto_receipt.specs.Drawing
-pub use Rattle.turn_client_proto_receipt.specs.Hearing
-pub use Rattle.turn_client_proto_receipt.specs.OfPeers
-pub use Rattle.turn_client_proto_receipt.specs.Payloads
-pub use Rattle.turn_client_proto_receipt.specs.Sending
-pub use Rattle.turn_client_proto_receipt.specs.Sockets
-pub use Rattle.turn_client_proto_receipt.specs.Core.Ending
-pub use Rattle.turn_client_proto_receipt.specs.Core.Permitting
-pub use Rattle.turn_client_proto_receipt.specs.Core.Receiving
-pub use Rattle.turn_client_proto_receipt.specs.Polling
-pub use Rattle.turn_client_proto_receipt.specs.Api.Config
-pub use Rattle.turn_client_proto_receipt.specs.Allocation
-pub use Rattle.turn_client_proto_receipt.specs.Api
-pub use Rattle.turn_client_proto_receipt.specs.Channel
-pub use Rattle.turn_client_proto_receipt.specs.Permission
+pub use Rattle.turn_client_proto_recv.specs.Control
+pub use Rattle.turn_client_proto_recv.specs.Datagrams
+pub use Rattle.turn_client_proto_recv.specs.HandingIn
+pub use Rattle.turn_client_proto_recv.specs.Kept
+pub use Rattle.turn_client_proto_recv.specs.Pieces
+pub use Rattle.turn_client_proto_recv.specs.Pulls
+pub use Rattle.turn_client_proto_recv.specs.Receipts
+pub use Rattle.turn_client_proto_recv.specs.SocketPieces
+pub use Rattle.turn_client_proto_recv.specs.Waiting
+pub use Rattle.turn_client_proto_recv.specs.declared.handing.Taken
+pub use Rattle.turn_client_proto_core.specs.Beginning
+pub use Rattle.turn_client_proto_recv.specs.Closing
+pub use Rattle.turn_client_proto_recv.specs.Connecting
+pub use Rattle.turn_client_proto_connection.specs as Connection
+pub use Rattle.turn_client_proto_core.specs.Binding
+pub use Rattle.turn_client_proto_core.specs.Deleting
+pub use Rattle.turn_client_proto_timers.specs.Drawing
+pub use Rattle.turn_client_proto_recv.specs.Hearing
+pub use Rattle.turn_client_proto_payload.specs.OfPeers
+pub use Rattle.turn_client_proto_payload.specs.Payloads
+pub use Rattle.turn_client_proto_payload.specs.Sending
+pub use Rattle.turn_client_proto_recv.specs.Sockets
+pub use Rattle.turn_client_proto_core.specs.Ending
+pub use Rattle.turn_client_proto_core.specs.Permitting
+pub use Rattle.turn_client_proto_core.specs.Receiving
+pub use Rattle.turn_client_proto_timers.specs.Polling
+pub use Rattle.turn_client_proto_api.specs.Config
+pub use Rattle.turn_client_proto_allocation.specs as Allocation
+pub use Rattle.turn_client_proto_api.specs as Api
+pub use Rattle.turn_client_proto_peers.specs.Channel
+pub use Rattle.turn_client_proto_peers.specs.Permission
+pub use Rattle.turn_client_proto_core.specs.TurnRuns.Headline
+pub use Rattle.turn_client_proto_core.specs.TurnRuns.Indications
+pub use Rattle.turn_client_proto_core.specs.TurnRuns.Members
+pub use Rattle.turn_client_proto_core.specs.TurnRuns.Messages
+pub use Rattle.turn_client_proto_core.specs.TurnRuns.Runs
+pub use Rattle.turn_client_proto_core.specs.TurnRuns.Steps
+pub use Rattle.turn_client_proto_core.specs.TurnRuns.Words
+pub use Rattle.turn_client_proto_payload.specs.declared.payload.Payload
 -- What stands above this crate has these through it.
-pub use Rattle.turn_client_proto_receipt.specs.Adding
-pub use Rattle.turn_client_proto_receipt.specs.Headline
-pub use Rattle.turn_client_proto_receipt.specs.Indications
-pub use Rattle.turn_client_proto_receipt.specs.Members
-pub use Rattle.turn_client_proto_receipt.specs.Messages
-pub use Rattle.turn_client_proto_receipt.specs.Runs
-pub use Rattle.turn_client_proto_receipt.specs.Steps
-pub use Rattle.turn_client_proto_receipt.specs.Words
-pub use Rattle.turn_client_proto_receipt.specs.FirstClient
-pub use Rattle.turn_client_proto_receipt.specs.ClientWords
-pub use Rattle.turn_client_proto_receipt.specs.Payload
-pub use Rattle.turn_client_proto_receipt.specs.RunClient
-pub use Rattle.turn_client_proto_receipt.specs.RunSteps
-pub use Rattle.turn_client_proto_receipt.specs.Sound
-pub use Rattle.turn_client_proto_unanswered.specs.Driving
-pub use Rattle.turn_client_proto_unanswered.specs.Promises
-pub use Rattle.turn_client_proto_unanswered.specs.Sent
-pub use Rattle.turn_client_proto_unanswered.specs.declared.driving.Stage
+pub use Rattle.turn_client_proto_core.specs.StunProtoClient as StunProtoClient
+pub use Rattle.turn_client_proto_core.specs.TurnRuns as TurnRuns
+pub use Rattle.turn_client_proto_peers.specs as Peers
+pub use Rattle.turn_client_proto_core.specs as Core
+pub use Rattle.turn_client_proto_payload.specs as PayloadPart
+pub use Rattle.turn_client_proto_recv.specs as Recv
+pub use Rattle.turn_client_proto_timers.specs as Timers

@@ -1,12 +1,12 @@
 -- How a client's calls that tell of sockets are answered (RFC 6062, sections 4.3 and 4.6).
 use Rattle.std.specs.Prelude.{◌≡◌, ℕ, Bool, false, Option, Some, None, Result, Ok, Err, if◌then◌else◌}
 use Rattle.std.specs.declared.net.socket_addr.SocketAddr.{SocketAddr}
-use Rattle.turn_client_proto_receipt.specs.Api.declared.answer.Socket5Tuple.{Socket5Tuple}
-use Rattle.turn_client_proto_receipt.specs.Api.declared.error.TcpAllocateError.{TcpAllocateError}
-use Rattle.turn_client_proto_receipt.specs.Control.{Control, Datagrams, Open, Closed}
-use Rattle.turn_client_proto_receipt.specs.Kept.{Kept, Protocol}
-use Rattle.turn_client_proto_receipt.specs.Permission.Same.{is_same_address}
-use Rattle.turn_client_proto_receipt.specs.Sockets.{IsSocketAnswered}
+use Rattle.turn_client_proto_api.specs.declared.answer.Socket5Tuple.{Socket5Tuple}
+use Rattle.turn_client_proto_api.specs.declared.error.TcpAllocateError.{TcpAllocateError}
+use Rattle.turn_client_proto_recv.specs.Control.{Control, Datagrams, Open, Closed}
+use Rattle.turn_client_proto_recv.specs.Kept.{Kept, Protocol}
+use Rattle.turn_client_proto_allocation.specs.Same.{is_same_address}
+use Rattle.turn_client_proto_recv.specs.Sockets.{IsSocketAnswered}
 
 -- a socket was taken that has the own address of the client's connection to the server
 abbrev pub takes_place : Protocol → Option SocketAddr → Result (Unit {0}) TcpAllocateError → Bool

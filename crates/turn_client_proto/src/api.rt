@@ -2,18 +2,19 @@
 
 ghost use Rattle.std.specs.Prelude.{◌≡◌, ◌≢◌, ◌<◌, ◌^◌, ◌++◌, [], length, true, IfNone, IfOk, OnErr, OnOk, option_to_list};
 ghost use Rattle.std.specs.Option.{option_map};
-ghost use Rattle.turn_client_proto_receipt.specs.Closing.{after_close, is_joined};
-ghost use Rattle.turn_client_proto_receipt.specs.Connecting.{IsConnectAnswered};
-ghost use Rattle.turn_client_proto_receipt.specs.Core.Binding.{IsBindAnswered};
-ghost use Rattle.turn_client_proto_receipt.specs.Core.Deleting.{IsDeleteAnswered};
-ghost use Rattle.turn_client_proto_receipt.specs.Drawing.{HasToSend, IsDrawn, sent_of};
-ghost use Rattle.turn_client_proto_receipt.specs.Core.Ending.{HasFailed, ended};
-ghost use Rattle.turn_client_proto_receipt.specs.Core.Permitting.{IsPermissionAnswered};
-ghost use Rattle.turn_client_proto_receipt.specs.Polling.{IsPolled};
-ghost use Rattle.turn_client_proto_receipt.specs.Sending.{IsSendAnswered, answered_as};
+ghost use Rattle.turn_client_proto_recv.specs.Closing.{after_close, is_joined};
+ghost use Rattle.turn_client_proto_recv.specs.Connecting.{IsConnectAnswered};
+ghost use Rattle.turn_client_proto_core.specs.Binding.{IsBindAnswered};
+ghost use Rattle.turn_client_proto_core.specs.Deleting.{IsDeleteAnswered};
+ghost use Rattle.turn_client_proto_timers.specs.Drawing.{HasToSend, IsDrawn};
+ghost use Rattle.turn_client_proto_api.specs.Sent.{sent_of};
+ghost use Rattle.turn_client_proto_core.specs.Ending.{HasFailed, ended};
+ghost use Rattle.turn_client_proto_core.specs.Permitting.{IsPermissionAnswered};
+ghost use Rattle.turn_client_proto_timers.specs.Polling.{IsPolled};
+ghost use Rattle.turn_client_proto_payload.specs.Sending.{IsSendAnswered, answered_as};
 ghost use Rattle.turn_client_proto.specs.Getters.{channels_of, connections_of, has_permission, permissions_of, relayed_of};
-ghost use Rattle.turn_client_proto_receipt.specs.Kept.{Kept, Leaves};
-ghost use Rattle.turn_client_proto_receipt.specs.Receipts.{IsReceived, IsWaitingGiven, IsWaitingLost};
+ghost use Rattle.turn_client_proto_recv.specs.Kept.{Kept, Leaves};
+ghost use Rattle.turn_client_proto_recv.specs.Receipts.{IsReceived, IsWaitingGiven, IsWaitingLost};
 ghost use Rattle.turn_client_proto.specs.SocketsTold.{IsSocketTold};
 
 pub use crate::getters::{
@@ -22,19 +23,21 @@ pub use crate::getters::{
 use std::convert::AsSlice;
 use std::fmt::Debug;
 use std::net::{IpAddr, SocketAddr};
-use stun_proto::Instant;
-use stun_types::data::Data;
-use stun_types::{NoMemory, Transmit, TransportType};
-pub use turn_client_proto_receipt::calls::api::answer::{Socket5Tuple, TurnPollRet, TurnRecvRet};
-pub use turn_client_proto_receipt::calls::api::config::TurnConfig;
-pub use turn_client_proto_receipt::calls::api::data::{DataRangeOrOwned, TurnPeerData};
-pub use turn_client_proto_receipt::calls::api::error::{
+use stun_types_base::data::Data;
+use stun_types_base::instant::Instant;
+use stun_types_base::memory::NoMemory;
+use stun_types_base::transmit::Transmit;
+use stun_types_base::transport::TransportType;
+pub use turn_client_proto_api::answer::{Socket5Tuple, TurnPollRet, TurnRecvRet};
+pub use turn_client_proto_api::config::TurnConfig;
+pub use turn_client_proto_api::data::{DataRangeOrOwned, TurnPeerData};
+pub use turn_client_proto_api::error::{
     BindChannelError, CreatePermissionError, DeleteError, SendError, TcpAllocateError,
     TcpConnectError,
 };
-pub use turn_client_proto_receipt::calls::api::event::TurnEvent;
-pub use turn_client_proto_receipt::calls::api::send::DelayedMessageOrChannelSend;
-use turn_types::transmit::TransmitBuild;
+pub use turn_client_proto_api::event::TurnEvent;
+pub use turn_client_proto_api::send::DelayedMessageOrChannelSend;
+use turn_types_frame::build::TransmitBuild;
 
 /// The greatest moment of a call of a client: 2^62 nanoseconds behind `Instant::ZERO`, some 146 years.
 pub const CLIENT_END: u64 = 1 << 62;

@@ -2,21 +2,29 @@
 
 ghost use Rattle.turn_client_proto.specs.Clients.{kept_of};
 
-use crate::api::{
-    BindChannelError, ChannelsIter, ConnectionsIter, CreatePermissionError,
-    DelayedMessageOrChannelSend, DeleteError, PermissionAddressesIter, RelayedAddressesIter,
-    SendError, Socket5Tuple, TcpAllocateError, TcpConnectError, TurnClientApi, TurnEvent,
-    TurnPeerData, TurnPollRet, TurnRecvRet,
+use crate::api::TurnClientApi;
+use crate::getters::{
+    ChannelsIter, ConnectionsIter, PermissionAddressesIter, RelayedAddressesIter,
 };
 use crate::tcp::TurnClientTcp;
 use crate::udp::TurnClientUdp;
 use std::convert::AsSlice;
 use std::fmt::Debug;
 use std::net::{IpAddr, SocketAddr};
-use stun_proto::Instant;
-use stun_types::data::Data;
-use stun_types::{NoMemory, Transmit, TransportType};
-use turn_types::transmit::TransmitBuild;
+use stun_types_base::data::Data;
+use stun_types_base::instant::Instant;
+use stun_types_base::memory::NoMemory;
+use stun_types_base::transmit::Transmit;
+use stun_types_base::transport::TransportType;
+use turn_client_proto_api::answer::{Socket5Tuple, TurnPollRet, TurnRecvRet};
+use turn_client_proto_api::data::TurnPeerData;
+use turn_client_proto_api::error::{
+    BindChannelError, CreatePermissionError, DeleteError, SendError, TcpAllocateError,
+    TcpConnectError,
+};
+use turn_client_proto_api::event::TurnEvent;
+use turn_client_proto_api::send::DelayedMessageOrChannelSend;
+use turn_types_frame::build::TransmitBuild;
 
 /// A TURN client over whichever transport. Its calls are those of the client inside.
 #[derive(Debug, Drop)]

@@ -1,21 +1,21 @@
 //! What a client's getters give, one after another. Each knows how many are left.
 
 ghost use Rattle.std.specs.Prelude.{◌≡◌, ◌<◌, ◌^◌, length};
-ghost use Rattle.turn_client_proto_receipt.specs.Allocation.Listed.{relayed_shown};
-ghost use Rattle.turn_client_proto_receipt.specs.Channel.Shown.{channels_shown};
-ghost use Rattle.turn_client_proto_receipt.specs.Connection.Shown.{connections_shown};
-ghost use Rattle.turn_client_proto_receipt.specs.Permission.Shown.{addresses_of};
+ghost use Rattle.turn_client_proto_allocation.specs.Listed.{relayed_shown};
+ghost use Rattle.turn_client_proto_peers.specs.Channel.Shown.{channels_shown};
+ghost use Rattle.turn_client_proto_connection.specs.Shown.{connections_shown};
+ghost use Rattle.turn_client_proto_peers.specs.Permission.Shown.{addresses_of};
 
 use std::marker::Model;
 use std::net::{IpAddr, SocketAddr};
-use stun_types::TransportType;
-use turn_client_proto_receipt::calls::allocation::allocation::Allocation;
-use turn_client_proto_receipt::calls::allocation::channel::Channel;
-use turn_client_proto_receipt::calls::allocation::connection::Connection;
-use turn_client_proto_receipt::calls::allocation::listed::Allocations;
-use turn_client_proto_receipt::calls::allocation::permission::Permission;
-use turn_client_proto_receipt::calls::channel::shown::{channels_count, channels_of};
-use turn_client_proto_receipt::calls::connection::shown::{connections_count, connections_of};
+use stun_types_base::transport::TransportType;
+use turn_client_proto_allocation::allocation::Allocation;
+use turn_client_proto_allocation::channel::Channel;
+use turn_client_proto_allocation::connection::Connection;
+use turn_client_proto_allocation::listed::Allocations;
+use turn_client_proto_allocation::permission::Permission;
+use turn_client_proto_connection::shown::{connections_count, connections_of};
+use turn_client_proto_peers::channel::shown::{channels_count, channels_of};
 
 /// The relayed addresses of a client with their transports, in the order in which they were granted.
 /// Those of allocations that are marked as expired are passed over. Contracts see the list of what is
@@ -28,8 +28,8 @@ pub struct RelayedAddressesIter<'a> {
 impl<'a> Model for RelayedAddressesIter<'a> {
     ghost use Rattle.std.specs.Prelude.{List};
     ghost use Rattle.std.specs.declared.net.socket_addr.SocketAddr.{SocketAddr};
-    ghost use Rattle.stun_types.specs.declared.transport.TransportType.{TransportType};
-    ghost use Rattle.turn_client_proto_receipt.specs.Allocation.Listed.{relayed_shown};
+    ghost use Rattle.stun_types_base.specs.declared.transport.TransportType.{TransportType};
+    ghost use Rattle.turn_client_proto_allocation.specs.Listed.{relayed_shown};
 
     ghost Value = { List (TransportType × SocketAddr) };
 
@@ -96,7 +96,7 @@ pub struct PermissionAddressesIter<'a> {
 impl<'a> Model for PermissionAddressesIter<'a> {
     ghost use Rattle.std.specs.Prelude.{List};
     ghost use Rattle.std.specs.declared.net.ip_addr.IpAddr.{IpAddr};
-    ghost use Rattle.turn_client_proto_receipt.specs.Permission.Shown.{addresses_of};
+    ghost use Rattle.turn_client_proto_peers.specs.Permission.Shown.{addresses_of};
 
     ghost Value = { List IpAddr };
 
@@ -152,7 +152,7 @@ pub struct ChannelsIter<'a> {
 impl<'a> Model for ChannelsIter<'a> {
     ghost use Rattle.std.specs.Prelude.{ℕ, List, ◌++◌, ◌≡◌, length};
     ghost use Rattle.std.specs.declared.net.socket_addr.SocketAddr.{SocketAddr};
-    ghost use Rattle.turn_client_proto_receipt.specs.Channel.Shown.{channels_shown, pairs_of};
+    ghost use Rattle.turn_client_proto_peers.specs.Channel.Shown.{channels_shown, pairs_of};
 
     ghost Value = { List (ℕ × SocketAddr) };
 
@@ -224,7 +224,7 @@ pub struct ConnectionsIter<'a> {
 impl<'a> Model for ConnectionsIter<'a> {
     ghost use Rattle.std.specs.Prelude.{ℕ, Bool, List, ◌++◌, ◌≡◌, length};
     ghost use Rattle.std.specs.declared.net.socket_addr.SocketAddr.{SocketAddr};
-    ghost use Rattle.turn_client_proto_receipt.specs.Connection.Shown.{connections_shown, rows_of};
+    ghost use Rattle.turn_client_proto_connection.specs.Shown.{connections_shown, rows_of};
 
     ghost Value = { List (SocketAddr × SocketAddr × ℕ × Bool) };
 

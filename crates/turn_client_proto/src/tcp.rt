@@ -1,37 +1,47 @@
 //! A TURN client over TCP.
 
 ghost use Rattle.std.specs.Prelude.{◌≡◌, ◌≤◌, IsOkAnd, [], length};
-ghost use Rattle.stun_types.specs.Registry.{longest_username};
-ghost use Rattle.stun_types.specs.declared.transport.TransportType.TheVariants.{Tcp};
-ghost use Rattle.turn_types.specs.Streams.{alive};
-ghost use Rattle.turn_client_proto_receipt.specs.Core.Beginning.{IsNew};
-ghost use Rattle.turn_client_proto_receipt.specs.Control.{Open};
-ghost use Rattle.turn_client_proto_receipt.specs.Receipts.{over_tcp};
+ghost use Rattle.turn_client_proto_allocation.specs.StunTypesWire.Registry.{longest_username};
+ghost use Rattle.stun_types_base.specs.declared.transport.TransportType.TheVariants.{Tcp};
+ghost use Rattle.turn_types_frame.specs.Streams.{alive};
+ghost use Rattle.turn_client_proto_core.specs.Beginning.{IsNew};
+ghost use Rattle.turn_client_proto_recv.specs.Control.{Open};
+ghost use Rattle.turn_client_proto_recv.specs.Receipts.{over_tcp};
 ghost use Rattle.turn_client_proto.specs.SocketsTold.{IsSocketTold};
 
-use crate::api::{
-    BindChannelError, ChannelsIter, ConnectionsIter, CreatePermissionError,
-    DelayedMessageOrChannelSend, DeleteError, PermissionAddressesIter, RelayedAddressesIter,
-    SendError, Socket5Tuple, TcpAllocateError, TcpConnectError, TurnClientApi, TurnConfig,
-    TurnEvent, TurnPeerData, TurnPollRet, TurnRecvRet,
+use crate::api::TurnClientApi;
+use crate::getters::{
+    ChannelsIter, ConnectionsIter, PermissionAddressesIter, RelayedAddressesIter,
 };
 use std::alloc::Global;
 use std::convert::AsSlice;
 use std::fmt::Debug;
 use std::marker::Model;
 use std::net::{IpAddr, SocketAddr};
-use stun_proto::Instant;
-use stun_types::data::Data;
-use stun_types::{NoMemory, Transmit, TransportType};
-use turn_client_proto_receipt::calls::permission::asking::permits_any;
-use turn_client_proto_receipt::calls::permission::shown::permissions_at;
-use turn_client_proto_receipt::calls::protocol::Protocol;
-use turn_client_proto_receipt::calls::{
-    closing, connecting, deleting, drawing, polling, sending, socket,
+use stun_types_base::data::Data;
+use stun_types_base::instant::Instant;
+use stun_types_base::memory::NoMemory;
+use stun_types_base::transmit::Transmit;
+use stun_types_base::transport::TransportType;
+use turn_client_proto_api::answer::{Socket5Tuple, TurnPollRet, TurnRecvRet};
+use turn_client_proto_api::config::TurnConfig;
+use turn_client_proto_api::data::TurnPeerData;
+use turn_client_proto_api::error::{
+    BindChannelError, CreatePermissionError, DeleteError, SendError, TcpAllocateError,
+    TcpConnectError,
 };
-use turn_client_proto_receipt::stream::{ask, receive};
-use turn_types::tcp::TurnTcpBuffer;
-use turn_types::transmit::TransmitBuild;
+use turn_client_proto_api::event::TurnEvent;
+use turn_client_proto_api::send::DelayedMessageOrChannelSend;
+use turn_client_proto_core::protocol::Protocol;
+use turn_client_proto_core::{binding, calls, ending, permitting};
+use turn_client_proto_payload::sending;
+use turn_client_proto_peers::permission::asking::permits_any;
+use turn_client_proto_peers::permission::shown::permissions_at;
+use turn_client_proto_recv::stream::{ask, receive};
+use turn_client_proto_recv::{closing, connecting, socket};
+use turn_client_proto_timers::{deleting, drawing, polling};
+use turn_types_frame::build::TransmitBuild;
+use turn_types_frame::tcp::TurnTcpBuffer;
 
 /// A TURN client over TCP: a connection to the server, in which messages and channel frames come one behind
 /// another (RFC 8656, section 12.5), and an allocation over UDP or TCP. Over an allocation over TCP it has
@@ -44,8 +54,8 @@ pub struct TurnClientTcp {
 }
 
 impl Model for TurnClientTcp {
-    ghost use Rattle.turn_client_proto_receipt.specs.Kept.{Kept};
-    ghost use Rattle.turn_client_proto_receipt.specs.Receipts.{over_tcp};
+    ghost use Rattle.turn_client_proto_recv.specs.Kept.{Kept};
+    ghost use Rattle.turn_client_proto_recv.specs.Receipts.{over_tcp};
     ghost use Rattle.turn_client_proto.specs.Codes.{kept_code};
 
     ghost Value = { Kept };
@@ -132,7 +142,7 @@ impl TurnClientApi for TurnClientTcp {
         peer_addr: IpAddr,
         now: Instant,
     ) -> Result<(), CreatePermissionError> {
-        self.protocol.create_permission(transport, peer_addr, now)
+        permitting::create_permission(&mut self.protocol, transport, peer_addr, now)
     }
 
     fn have_permission(&self, transport: TransportType, to: IpAddr) -> bool {
@@ -154,7 +164,7 @@ impl TurnClientApi for TurnClientTcp {
         peer_addr: SocketAddr,
         now: Instant,
     ) -> Result<(), BindChannelError> {
-        self.protocol.bind_channel(transport, peer_addr, now)
+        binding::bind_channel(&mut self.protocol, transport, peer_addr, now)
     }
 
     fn channels(&self) -> ChannelsIter<'_> {
@@ -224,10 +234,10 @@ impl TurnClientApi for TurnClientTcp {
     }
 
     fn poll_event(&mut self) -> Option<TurnEvent> {
-        self.protocol.poll_event()
+        calls::poll_event(&mut self.protocol)
     }
 
     fn protocol_error(&mut self) -> Result<(), NoMemory> {
-        self.protocol.end()
+        ending::end(&mut self.protocol)
     }
 }

@@ -1,32 +1,42 @@
 //! A TURN client over UDP.
 
 ghost use Rattle.std.specs.Prelude.{◌≡◌, ◌≤◌, IsOkAnd, length};
-ghost use Rattle.stun_types.specs.Registry.{longest_username};
-ghost use Rattle.stun_types.specs.declared.transport.TransportType.TheVariants.{Udp};
-ghost use Rattle.turn_client_proto_receipt.specs.Core.Beginning.{IsNew};
+ghost use Rattle.turn_client_proto_allocation.specs.StunTypesWire.Registry.{longest_username};
+ghost use Rattle.stun_types_base.specs.declared.transport.TransportType.TheVariants.{Udp};
+ghost use Rattle.turn_client_proto_core.specs.Beginning.{IsNew};
 
-use crate::api::{
-    BindChannelError, ChannelsIter, ConnectionsIter, CreatePermissionError,
-    DelayedMessageOrChannelSend, DeleteError, PermissionAddressesIter, RelayedAddressesIter,
-    SendError, Socket5Tuple, TcpAllocateError, TcpConnectError, TurnClientApi, TurnConfig,
-    TurnEvent, TurnPeerData, TurnPollRet, TurnRecvRet,
+use crate::api::TurnClientApi;
+use crate::getters::{
+    ChannelsIter, ConnectionsIter, PermissionAddressesIter, RelayedAddressesIter,
 };
 use std::alloc::Global;
 use std::convert::AsSlice;
 use std::fmt::Debug;
 use std::marker::Model;
 use std::net::{IpAddr, SocketAddr};
-use stun_proto::Instant;
-use stun_types::data::Data;
-use stun_types::{NoMemory, Transmit, TransportType};
-use turn_client_proto_receipt::calls::permission::asking::permits_any;
-use turn_client_proto_receipt::calls::permission::shown::permissions_at;
-use turn_client_proto_receipt::calls::protocol::Protocol;
-use turn_client_proto_receipt::calls::{
-    closing, connecting, deleting, drawing, polling, sending, socket,
+use stun_types_base::data::Data;
+use stun_types_base::instant::Instant;
+use stun_types_base::memory::NoMemory;
+use stun_types_base::transmit::Transmit;
+use stun_types_base::transport::TransportType;
+use turn_client_proto_api::answer::{Socket5Tuple, TurnPollRet, TurnRecvRet};
+use turn_client_proto_api::config::TurnConfig;
+use turn_client_proto_api::data::TurnPeerData;
+use turn_client_proto_api::error::{
+    BindChannelError, CreatePermissionError, DeleteError, SendError, TcpAllocateError,
+    TcpConnectError,
 };
-use turn_client_proto_receipt::datagram::{is_of_server, take_datagram};
-use turn_types::transmit::TransmitBuild;
+use turn_client_proto_api::event::TurnEvent;
+use turn_client_proto_api::send::DelayedMessageOrChannelSend;
+use turn_client_proto_core::protocol::Protocol;
+use turn_client_proto_core::{binding, calls, ending, permitting};
+use turn_client_proto_payload::sending;
+use turn_client_proto_peers::permission::asking::permits_any;
+use turn_client_proto_peers::permission::shown::permissions_at;
+use turn_client_proto_recv::datagram::{is_of_server, take_datagram};
+use turn_client_proto_recv::{closing, connecting, socket};
+use turn_client_proto_timers::{deleting, drawing, polling};
+use turn_types_frame::build::TransmitBuild;
 
 /// A TURN client over UDP: datagrams to and from the server, and an allocation over UDP. Contracts see
 /// what the protocol core keeps.
@@ -36,7 +46,7 @@ pub struct TurnClientUdp {
 }
 
 impl Model for TurnClientUdp {
-    ghost use Rattle.turn_client_proto_receipt.specs.Core.declared.protocol.Protocol.{Protocol};
+    ghost use Rattle.turn_client_proto_core.specs.declared.protocol.Protocol.{Protocol};
     ghost use Rattle.turn_client_proto.specs.Codes.{protocol_code};
 
     ghost Value = { Protocol };
@@ -69,7 +79,7 @@ impl TurnClientUdp {
 }
 
 impl TurnClientApi for TurnClientUdp {
-    ghost use Rattle.turn_client_proto_receipt.specs.Kept.{over_udp};
+    ghost use Rattle.turn_client_proto_recv.specs.Kept.{over_udp};
 
     ghost kept = { λ client. over_udp client };
 
@@ -99,7 +109,7 @@ impl TurnClientApi for TurnClientUdp {
         peer_addr: IpAddr,
         now: Instant,
     ) -> Result<(), CreatePermissionError> {
-        self.protocol.create_permission(transport, peer_addr, now)
+        permitting::create_permission(&mut self.protocol, transport, peer_addr, now)
     }
 
     fn have_permission(&self, transport: TransportType, to: IpAddr) -> bool {
@@ -121,7 +131,7 @@ impl TurnClientApi for TurnClientUdp {
         peer_addr: SocketAddr,
         now: Instant,
     ) -> Result<(), BindChannelError> {
-        self.protocol.bind_channel(transport, peer_addr, now)
+        binding::bind_channel(&mut self.protocol, transport, peer_addr, now)
     }
 
     fn channels(&self) -> ChannelsIter<'_> {
@@ -191,10 +201,10 @@ impl TurnClientApi for TurnClientUdp {
     }
 
     fn poll_event(&mut self) -> Option<TurnEvent> {
-        self.protocol.poll_event()
+        calls::poll_event(&mut self.protocol)
     }
 
     fn protocol_error(&mut self) -> Result<(), NoMemory> {
-        self.protocol.end()
+        ending::end(&mut self.protocol)
     }
 }

@@ -1,8 +1,8 @@
 -- The earliest of some moments.
 use Rattle.std.proofs.Common.{◌≡◌, ℕ, List, [], ◌∷◌, Option, Some, None, fold, min, refl, ◌∙◌}
 use Rattle.std.specs.List.{cons_option, filter_map}
-use Rattle.stun_proto_agent.specs.Least.{IsLeastOf}
-use Rattle.stun_proto_agent.proofs.Leasts.{least_is, least_of}
+use Rattle.stun_proto_transaction.specs.Least.{IsLeastOf}
+use Rattle.stun_proto_transaction.proofs.Leasts.{least_is, least_of}
 use Rattle.turn_client_proto_allocation.specs.Polling.{earlier, next_of, nexts}
 use Rattle.turn_client_proto_allocation.specs.declared.allocation.Allocation.{Allocation}
 

@@ -5,7 +5,11 @@ pub mod Listed
 pub mod Permissions
 pub mod Polling
 pub mod Refreshing
+pub mod Permits
+pub mod Same
+pub mod Requested
+pub mod Channels
 -- What stands above this crate has these through it.
-pub use Rattle.turn_types.specs.StreamAnswers
-pub use Rattle.turn_types.specs.Streams
-pub use Rattle.turn_types.specs.TurnRegistry
+pub use Rattle.stun_types_wire.specs as StunTypesWire
+pub use Rattle.turn_types_frame.specs as TurnTypesFrame
+pub use Rattle.stun_proto_transaction.specs as StunProtoTransaction

@@ -2,7 +2,7 @@
 use Rattle.std.specs.Prelude.{ℕ, Bool, not, List, map, filter}
 use Rattle.std.specs.List.{list_any}
 use Rattle.std.specs.declared.net.socket_addr.SocketAddr.{SocketAddr}
-use Rattle.stun_types.specs.declared.transport.TransportType.{TransportType}
+use Rattle.stun_types_base.specs.declared.transport.TransportType.{TransportType}
 use Rattle.turn_client_proto_allocation.specs.Awaited.{is_awaited}
 use Rattle.turn_client_proto_allocation.specs.declared.allocation.Allocation.{Allocation}
 

@@ -2,8 +2,8 @@
 use Rattle.std.specs.Prelude.{ℕ, zero, suc, ◌*◌, ◌/◌, ◌-◌, nat_le, Bool, true, false, not, ◌&&◌, List, [], ◌∷◌, ◌++◌, find, Option, Some, None, if◌then◌else◌}
 use Rattle.std.specs.Option.{option_map}
 use Rattle.std.specs.declared.net.socket_addr.SocketAddr.{SocketAddr}
-use Rattle.stun_proto_agent.specs.Moments.{moment_after}
-use Rattle.stun_types.specs.declared.transport.TransportType.{TransportType}
+use Rattle.stun_types_base.specs.Moments.{moment_after}
+use Rattle.stun_types_base.specs.declared.transport.TransportType.{TransportType}
 use Rattle.turn_client_proto_allocation.specs.Awaited.{is_refresh}
 use Rattle.turn_client_proto_allocation.specs.declared.allocation.Allocation.{Allocation}
 use Rattle.turn_client_proto_allocation.specs.declared.refresh.PendingRefresh.{PendingRefresh}

@@ -8,18 +8,21 @@ ghost use Rattle.turn_client_proto_allocation.specs.declared.refresh.PendingRefr
 ghost use Rattle.turn_client_proto_allocation.specs.Polling.{has_ended, next_of, polled, stays};
 ghost use Rattle.turn_client_proto_allocation.specs.Refreshing.{ahead, ended, ends_by, granted, lifetime_asked, refreshing, renewal, renewed, stands_for, wants_refresh};
 
-use crate::channel::{self, Channel, LapsedChannel, PendingChannel};
+use crate::channel::{Channel, LapsedChannel, PendingChannel};
 use crate::connection::{
     Connecting, Connection, Waiting, is_any_attempt, is_any_binding, is_any_connecting,
 };
-use crate::permission::{self, PendingPermission, Permission};
+use crate::permission::{PendingPermission, Permission};
 use crate::refresh::{PendingRefresh, is_any_refresh, lifetime_asked};
+use crate::{channel, permission};
 use std::alloc::Global;
 use std::net::SocketAddr;
 use std::time::Duration;
-use stun_proto_agent::instant::Instant;
-use stun_types::message::TransactionId;
-use stun_types::{ListOf, NoMemory, TransportType};
+use stun_types_base::instant::Instant;
+use stun_types_base::list::ListOf;
+use stun_types_base::memory::NoMemory;
+use stun_types_base::transport::TransportType;
+use stun_types_wire::transaction::TransactionId;
 
 /// So long before its end an allocation is renewed, in nanoseconds.
 const RENEWED_BEFORE: u64 = 60_000_000_000;

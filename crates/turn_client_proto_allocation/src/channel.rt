@@ -2,15 +2,15 @@
 
 ghost use Rattle.std.specs.Prelude.{◌≡◌, ◌≤◌};
 ghost use Rattle.std.specs.List.{list_any};
-ghost use Rattle.turn_types.specs.TurnRegistry.{greatest_channel, least_channel};
+ghost use Rattle.turn_types_frame.specs.Attributes.TurnRegistry.{greatest_channel, least_channel};
 ghost use Rattle.turn_client_proto_allocation.specs.Awaited.{asks_for_channel, has_number, renews_channel};
 
 use crate::numbers::has_number;
 use std::marker::Model;
 use std::net::SocketAddr;
-use stun_proto_agent::instant::Instant;
-use stun_types::ListOf;
-use stun_types::message::TransactionId;
+use stun_types_base::instant::Instant;
+use stun_types_base::list::ListOf;
+use stun_types_wire::transaction::TransactionId;
 
 /// The number of a channel, 0x4000 to 0x7FFF (RFC 8656, section 12). Contracts see the number.
 #[derive(Clone, Copy, Debug, PartialEq, Eq)]
@@ -20,7 +20,7 @@ pub struct ChannelId {
 
 impl Model for ChannelId {
     ghost use Rattle.std.specs.Prelude.{ℕ, ◌≤◌};
-    ghost use Rattle.turn_types.specs.TurnRegistry.{greatest_channel, least_channel};
+    ghost use Rattle.turn_types_frame.specs.Attributes.TurnRegistry.{greatest_channel, least_channel};
 
     ghost Value = { ℕ };
 

@@ -5,9 +5,9 @@ ghost use Rattle.std.specs.List.{list_any};
 ghost use Rattle.turn_client_proto_allocation.specs.Awaited.{is_attempt, is_binding, is_connecting};
 
 use std::net::SocketAddr;
-use stun_proto_agent::instant::Instant;
-use stun_types::message::TransactionId;
-use turn_types::tcp::TurnTcpBuffer;
+use stun_types_base::instant::Instant;
+use stun_types_wire::transaction::TransactionId;
+use turn_types_frame::tcp::TurnTcpBuffer;
 
 /// A CONNECT that is not answered (RFC 6062, section 4.3).
 #[derive(Clone, Copy, Debug)]

@@ -3,7 +3,7 @@
 ghost use Rattle.std.specs.Prelude.{◌≡◌, ◌++◌, ◌∷◌, [], List, OnOk, OnErr, length, map};
 ghost use Rattle.std.specs.Borrow.{sem};
 ghost use Rattle.std.specs.List.{list_any};
-ghost use Rattle.stun_proto_agent.specs.Least.{IsLeastOf};
+ghost use Rattle.stun_proto_transaction.specs.Least.{IsLeastOf};
 ghost use Rattle.turn_client_proto_allocation.specs.Lending.{LendsAllocations};
 ghost use Rattle.turn_client_proto_allocation.specs.Listed.{is_any_awaited};
 ghost use Rattle.turn_client_proto_allocation.specs.Polling.{earlier, kept, nexts, polled};
@@ -15,9 +15,9 @@ use crate::allocation::Allocation;
 use crate::refresh::PendingRefresh;
 use std::alloc::Global;
 use std::marker::Model;
-use stun_proto_agent::instant::Instant;
-use stun_types::NoMemory;
-use stun_types::message::TransactionId;
+use stun_types_base::instant::Instant;
+use stun_types_base::memory::NoMemory;
+use stun_types_wire::transaction::TransactionId;
 
 /// The most allocations that are kept.
 const MOST: usize = (1 << 32) - 1;

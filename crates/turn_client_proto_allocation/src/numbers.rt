@@ -3,7 +3,7 @@
 ghost use Rattle.std.specs.Prelude.{◌≡◌};
 ghost use Rattle.turn_client_proto_allocation.specs.Awaited.{has_number, is_among};
 
-use stun_types::message::TransactionId;
+use stun_types_wire::transaction::TransactionId;
 
 /// Whether a number is among these.
 pub fn has_number(numbers: &[TransactionId], number: TransactionId) -> bool

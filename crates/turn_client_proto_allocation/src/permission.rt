@@ -8,9 +8,10 @@ ghost use Rattle.turn_client_proto_allocation.specs.Permissions.{has_lapsed, is_
 use crate::numbers::{has_number, is_among};
 use std::alloc::Global;
 use std::net::IpAddr;
-use stun_proto_agent::instant::Instant;
-use stun_types::message::TransactionId;
-use stun_types::{ListOf, NoMemory};
+use stun_types_base::instant::Instant;
+use stun_types_base::list::ListOf;
+use stun_types_base::memory::NoMemory;
+use stun_types_wire::transaction::TransactionId;
 
 /// So long before it lapses a permission is renewed, in nanoseconds.
 const RENEWED_BEFORE: u64 = 60_000_000_000;

@@ -5,9 +5,9 @@ ghost use Rattle.turn_client_proto_allocation.specs.Awaited.{asks_for_permission
 ghost use Rattle.turn_client_proto_allocation.specs.Permissions.{asked_again, polled_permission, renewed_again, renewed_first, renewed_permission, wants_renewal};
 
 use crate::permission::{PendingPermission, Permission};
-use stun_proto_agent::instant::Instant;
-use stun_types::NoMemory;
-use stun_types::message::TransactionId;
+use stun_types_base::instant::Instant;
+use stun_types_base::memory::NoMemory;
+use stun_types_wire::transaction::TransactionId;
 
 /// The request of this number was granted: those that it was to renew stand until this moment.
 pub fn renew(permissions: &mut [Permission], number: TransactionId, expiry: Instant)

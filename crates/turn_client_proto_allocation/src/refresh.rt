@@ -5,7 +5,7 @@ ghost use Rattle.std.specs.List.{list_any};
 ghost use Rattle.turn_client_proto_allocation.specs.Awaited.{is_refresh};
 ghost use Rattle.turn_client_proto_allocation.specs.Refreshing.{lifetime_asked};
 
-use stun_types::message::TransactionId;
+use stun_types_wire::transaction::TransactionId;
 
 /// A REFRESH that is not answered.
 #[derive(Clone, Copy, Debug)]

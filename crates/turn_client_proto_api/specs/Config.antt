@@ -1,15 +1,17 @@
 -- What contracts see of the settings of a TURN client (RFC 8656, sections 7.1, 18.6, 18.8 and
 -- 18.11).
 use Rattle.std.specs.Prelude.{List, [], ◌∷◌}
-use Rattle.stun_types.specs.Credentials.{NameAndPassword}
-use Rattle.stun_types.specs.IntegrityAlgorithms.{IntegrityAlgorithm, Sha1}
-use Rattle.stun_types.specs.declared.family.AddressFamily.{AddressFamily}
-use Rattle.stun_types.specs.declared.family.AddressFamily.TheVariants.{IPV4}
-use Rattle.stun_types.specs.declared.transport.TransportType.{TransportType}
-use Rattle.stun_types.specs.declared.transport.TransportType.TheVariants.{Udp}
-use Rattle.stun_proto.specs.Features.{Feature, Auto}
-use Rattle.stun_proto.specs.Schedule.{Waits}
-use Rattle.stun_proto.specs.State.{default_waits}
+use Rattle.turn_types_attributes.specs.StunTypesIntegrity.Credentials.{NameAndPassword}
+use Rattle.stun_types_wire.specs.declared.algorithm.IntegrityAlgorithm.{IntegrityAlgorithm}
+use Rattle.stun_types_wire.specs.declared.algorithm.IntegrityAlgorithm.TheVariants.{Sha1}
+use Rattle.stun_types_base.specs.declared.family.AddressFamily.{AddressFamily}
+use Rattle.stun_types_base.specs.declared.family.AddressFamily.TheVariants.{IPV4}
+use Rattle.stun_types_base.specs.declared.transport.TransportType.{TransportType}
+use Rattle.stun_types_base.specs.declared.transport.TransportType.TheVariants.{Udp}
+use Rattle.stun_proto_auth.specs.declared.feature.Feature.{Feature}
+use Rattle.stun_proto_auth.specs.declared.feature.Feature.TheVariants.{Auto}
+use Rattle.stun_proto_agent.specs.Transaction.Schedule.{Waits}
+use Rattle.stun_proto_agent.specs.State.{default_waits}
 
 -- the settings: name and password; the transport of the allocation that is asked for, and the families of its
 -- addresses, in order; the integrity algorithms, in order; whether the name is hidden; and how long is waited for

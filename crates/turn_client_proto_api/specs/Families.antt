@@ -1,8 +1,8 @@
 -- Lists of address families.
 use Rattle.std.specs.Prelude.{Bool, true, false, if◌then◌else◌, List, [], ◌∷◌, ◌++◌}
 use Rattle.std.specs.List.{list_any}
-use Rattle.stun_types.specs.declared.family.AddressFamily.{AddressFamily}
-use Rattle.stun_types.specs.declared.family.AddressFamily.TheVariants.{IPV4, IPV6}
+use Rattle.stun_types_base.specs.declared.family.AddressFamily.{AddressFamily}
+use Rattle.stun_types_base.specs.declared.family.AddressFamily.TheVariants.{IPV4, IPV6}
 
 -- whether two families are the same
 abbrev pub is_same_family : AddressFamily → AddressFamily → Bool

@@ -1,7 +1,7 @@
 -- The lists of requested families, as they are kept.
 use Rattle.std.specs.Prelude.{◌≡◌, List, [], ◌∷◌, refl}
-use Rattle.stun_types.specs.declared.family.AddressFamily.{AddressFamily}
-use Rattle.stun_types.specs.declared.family.AddressFamily.TheVariants.{IPV4, IPV6}
+use Rattle.stun_types_base.specs.declared.family.AddressFamily.{AddressFamily}
+use Rattle.stun_types_base.specs.declared.family.AddressFamily.TheVariants.{IPV4, IPV6}
 use Rattle.turn_client_proto_api.specs.declared.families.FamilyOrder.{FamilyOrder}
 use Rattle.turn_client_proto_api.specs.declared.families.FamilyOrder.TheVariants.{OnlyV4, OnlyV6, V4First, V6First}
 

@@ -6,22 +6,10 @@ pub mod Sends
 pub mod SetWaitsView
 pub mod SameWaits
 pub mod SameConfigs
+pub mod Sent
 -- What stands above this crate has these through it.
-pub use Rattle.stun_proto.specs.Addition
-pub use Rattle.stun_proto.specs.AdditionStages
-pub use Rattle.stun_proto.specs.AgentPolls
-pub use Rattle.stun_proto.specs.Agents
-pub use Rattle.stun_proto.specs.Challenges
-pub use Rattle.stun_proto.specs.Claims
-pub use Rattle.stun_proto.specs.Client
-pub use Rattle.stun_proto.specs.ClientAuthErrors
-pub use Rattle.stun_proto.specs.ClientSigning
-pub use Rattle.stun_proto.specs.ClientValidation
-pub use Rattle.stun_proto.specs.ClientValidations
-pub use Rattle.stun_proto.specs.Features
-pub use Rattle.stun_proto.specs.Handling
-pub use Rattle.stun_proto.specs.Least
-pub use Rattle.stun_proto.specs.Moments
-pub use Rattle.stun_proto.specs.Sending
-pub use Rattle.stun_proto.specs.State
-pub use Rattle.stun_proto.specs.SupportedAlgorithms
+pub use Rattle.stun_types_wire.specs as StunTypesWire
+pub use Rattle.turn_types_frame.specs as TurnTypesFrame
+pub use Rattle.stun_proto_agent.specs.Transaction as StunProtoTransaction
+pub use Rattle.stun_proto_agent.specs as StunProtoAgent
+pub use Rattle.stun_proto_auth.specs as StunProtoAuth

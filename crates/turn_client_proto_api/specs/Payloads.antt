@@ -1,7 +1,7 @@
 -- The payload of a peer, where it stands.
 use Rattle.std.specs.Prelude.{ℕ, List, Option, Some, None, take, drop}
 use Rattle.std.specs.declared.net.socket_addr.SocketAddr.{SocketAddr}
-use Rattle.stun_types.specs.declared.transport.TransportType.{TransportType}
+use Rattle.stun_types_base.specs.declared.transport.TransportType.{TransportType}
 use Rattle.turn_client_proto_api.specs.declared.data.DataRangeOrOwned.{DataRangeOrOwned}
 use Rattle.turn_client_proto_api.specs.declared.data.DataRangeOrOwned.TheVariants.{Range, Owned}
 

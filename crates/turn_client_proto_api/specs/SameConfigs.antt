@@ -3,9 +3,9 @@ use Rattle.std.specs.Prelude.{Bool, nat_eq}
 use Rattle.std.specs.Ordering.{on, eq_of_both}
 use Rattle.std.specs.Cmp.{IsEquivalence, on_equiv, and_equiv}
 use Rattle.std.specs.Cmp.Lexicographic.{pointwise, nat_list_eq_equiv}
-use Rattle.stun_types.specs.Credentials.{NameAndPassword}
-use Rattle.stun_types.specs.contracts.transport.TransportTypePartialEq.TheImpl as transport
-use Rattle.stun_types.specs.contracts.transport.TransportTypeEq.TheImpl.Laws as transport_laws
+use Rattle.turn_types_attributes.specs.StunTypesIntegrity.Credentials.{NameAndPassword}
+use Rattle.stun_types_base.specs.contracts.transport.TransportTypePartialEq.TheImpl as transport
+use Rattle.stun_types_base.specs.contracts.transport.TransportTypeEq.TheImpl.Laws as transport_laws
 use Rattle.stun_proto_auth.specs.contracts.feature.FeaturePartialEq.TheImpl as feature
 use Rattle.stun_proto_auth.specs.contracts.feature.FeatureEq.TheImpl.Laws as feature_laws
 use Rattle.stun_proto_auth.specs.contracts.supported.SupportedIntegrityPartialEq.TheImpl as supported

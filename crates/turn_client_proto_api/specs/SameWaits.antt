@@ -4,7 +4,7 @@ use Rattle.std.specs.Ordering.{on, eq_of_both}
 use Rattle.std.specs.Option.{option_eq}
 use Rattle.std.specs.Cmp.{IsEquivalence, on_equiv, and_equiv, nat_eq_equiv}
 use Rattle.std.specs.Cmp.Lexicographic.{options_equiv}
-use Rattle.stun_proto.specs.Schedule.{Waits}
+use Rattle.stun_proto_agent.specs.Transaction.Schedule.{Waits}
 
 -- each part is the same
 abbrev pub same_waits : Waits → Waits → Bool

@@ -1,7 +1,7 @@
 -- What is sent to a server for a peer.
 use Rattle.std.specs.Prelude.{ℕ, List}
-use Rattle.turn_types.specs.Channeled.{channeled_text}
-use Rattle.turn_types.specs.Indications.{indication_text}
+use Rattle.turn_types_frame.specs.Channeled.{channeled_text}
+use Rattle.turn_types_frame.specs.Indications.{indication_text}
 use Rattle.turn_client_proto_api.specs.declared.send.DelayedMessageOrChannelSend.{DelayedMessageOrChannelSend}
 use Rattle.turn_client_proto_api.specs.declared.send.DelayedMessageOrChannelSend.TheVariants.{Channel, Message, Data, OwnedData}
 

@@ -1,8 +1,8 @@
 -- What contracts see of the waits that a caller sets.
 use Rattle.std.specs.Prelude.{Option, Some, None}
 use Rattle.std.specs.Duration.{as_nanos}
-use Rattle.stun_proto.specs.Schedule.{Waits}
-use Rattle.stun_proto.specs.State.{default_waits}
+use Rattle.stun_proto_agent.specs.Transaction.Schedule.{Waits}
+use Rattle.stun_proto_agent.specs.State.{default_waits}
 use Rattle.turn_client_proto_api.specs.declared.waits.SetWaits.{SetWaits}
 
 -- the waits that are set, or those of a new agent

@@ -3,8 +3,9 @@
 use crate::data::TurnPeerData;
 use std::convert::AsSlice;
 use std::net::SocketAddr;
-use stun_proto::Instant;
-use stun_types::{Transmit, TransportType};
+use stun_types_base::instant::Instant;
+use stun_types_base::transmit::Transmit;
+use stun_types_base::transport::TransportType;
 
 /// A socket: its transport, its own address and the other side's.
 #[derive(Clone, Copy, Debug, PartialEq, Eq)]

@@ -4,7 +4,7 @@ ghost use Rattle.std.specs.Prelude.{◌≡◌, ◌≢◌, [], ◌∷◌, Some, N
 ghost use Rattle.std.specs.FinMap as finite;
 ghost use Rattle.std.specs.Duration.{as_nanos};
 ghost use Rattle.std.specs.List.{IsDistinct};
-ghost use Rattle.stun_proto.specs.SupportedAlgorithms.{is_same_algorithm, with_algorithm};
+ghost use Rattle.stun_proto_auth.specs.SupportedAlgorithms.{is_same_algorithm, with_algorithm};
 ghost use Rattle.turn_client_proto_api.specs.Config.{default_config};
 ghost use Rattle.turn_client_proto_api.specs.Families.{is_same_family, with_family};
 ghost use Rattle.turn_client_proto_api.specs.SameConfigs.{same_account};
@@ -15,11 +15,15 @@ use std::alloc::Global;
 use std::marker::Model;
 use std::net::SocketAddr;
 use std::time::Duration;
-use stun_proto::agent::{StunAgent, StunAgentBuilder};
-use stun_proto::auth::{Feature, SupportedIntegrity};
-use stun_types::message::IntegrityAlgorithm;
-use stun_types::{AddressFamily, NoMemory, TransportType};
-use turn_types::TurnCredentials;
+use stun_proto_agent::agent::StunAgent;
+use stun_proto_agent::builder::StunAgentBuilder;
+use stun_proto_auth::feature::Feature;
+use stun_proto_auth::supported::SupportedIntegrity;
+use stun_types_base::family::AddressFamily;
+use stun_types_base::memory::NoMemory;
+use stun_types_base::transport::TransportType;
+use stun_types_wire::algorithm::IntegrityAlgorithm;
+use turn_types_attributes::credentials::TurnCredentials;
 
 /// The settings of a TURN client: the credentials of its user, the allocation that it asks for (RFC
 /// 8656, section 7.1), what it supports and asks for when it signs (RFC 8489, section 9.2), and how

@@ -10,7 +10,8 @@ use std::fmt::Debug;
 use std::marker::Model;
 use std::net::SocketAddr;
 use std::ops::Range;
-use stun_types::{NoMemory, TransportType};
+use stun_types_base::memory::NoMemory;
+use stun_types_base::transport::TransportType;
 
 /// A range of an owner's bytes, or bytes of its own. What a range names past the bytes is not there.
 #[derive(Debug, Drop)]

@@ -1,7 +1,7 @@
 //! Why a client refuses a call. Unless a call says otherwise, a refused one changes nothing.
 
-use stun_proto::Instant;
-use stun_types::NoMemory;
+use stun_types_base::instant::Instant;
+use stun_types_base::memory::NoMemory;
 use thiserror::Error;
 
 /// Why no channel is bound (RFC 8656, section 12.1).

@@ -1,7 +1,8 @@
 //! What happens to what a client holds at its server.
 
 use std::net::{IpAddr, SocketAddr};
-use stun_types::{AddressFamily, TransportType};
+use stun_types_base::family::AddressFamily;
+use stun_types_base::transport::TransportType;
 
 /// What happened at the server, as `poll_event` tells it, the oldest first. The transport is that
 /// between the server and the peers.

@@ -5,7 +5,7 @@ ghost use Rattle.std.specs.List.{IsDistinct, list_any};
 ghost use Rattle.turn_client_proto_api.specs.Families.{is_same_family, with_family};
 
 use std::marker::Model;
-use stun_types::AddressFamily;
+use stun_types_base::family::AddressFamily;
 
 /// Which families, the first one first.
 #[derive(Clone, Copy, Debug, PartialEq, Eq)]
@@ -24,7 +24,7 @@ pub struct RequestedFamilies {
 
 impl Model for RequestedFamilies {
     ghost use Rattle.std.specs.Prelude.{List};
-    ghost use Rattle.stun_types.specs.declared.family.AddressFamily.{AddressFamily};
+    ghost use Rattle.stun_types_base.specs.declared.family.AddressFamily.{AddressFamily};
 
     ghost Value = { List AddressFamily };
 

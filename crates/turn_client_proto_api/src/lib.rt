@@ -1,5 +1,5 @@
-//! What a TURN client is configured with and what its calls answer (RFC 8656, RFC 6062): settings,
-//! events, errors, payloads. It holds no state of a client and performs no input or output.
+//! What a user gives a TURN client and gets of it: settings, events, errors, answers, payloads, and
+//! the queues of what waits to be told or sent.
 #![tactic(auto)]
 
 pub mod answer;
@@ -8,8 +8,6 @@ pub mod data;
 pub mod error;
 pub mod event;
 pub mod families;
+pub mod queue;
 pub mod send;
 pub(crate) mod waits;
-
-// What stands above this crate has these through it.
-pub use stun_proto::{Instant, agent, auth, laws};

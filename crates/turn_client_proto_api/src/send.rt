@@ -9,8 +9,10 @@ use std::convert::AsSlice;
 use std::fmt::Debug;
 use std::marker::Model;
 use std::ops::Range;
-use stun_types::NoMemory;
-use turn_types::transmit::{DelayedChannel, DelayedMessage, DelayedTransmitBuild};
+use stun_types_base::memory::NoMemory;
+use turn_types_frame::build::DelayedTransmitBuild;
+use turn_types_frame::delayed_channel::DelayedChannel;
+use turn_types_frame::delayed_message::DelayedMessage;
 
 /// What carries a payload to a peer.
 #[derive(Debug, Drop)]

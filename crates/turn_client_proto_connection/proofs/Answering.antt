@@ -1,10 +1,10 @@
 -- The allocations after the response to a request, where they were lent for it.
 use Rattle.std.proofs.Common.{◌≡◌, ℕ, List, ◌++◌, Option, Some, None, drop, length, take}
-use Rattle.turn_client_proto_channel.specs.Permission.Allocation.declared.allocation.Allocation.{Allocation}
-use Rattle.turn_client_proto_channel.proofs.Permission.Lent.{each_back, first_back, same_back}
-use Rattle.turn_client_proto_channel.specs.Awaited.{awaits_reply}
-use Rattle.turn_client_proto_channel.specs.declared.awaited.Asked.{Asked}
-use Rattle.turn_client_proto_channel.specs.declared.awaited.Asked.TheVariants.{ChannelRenewal, Lifetime, NewChannel, NewConnection, NewPermission, Renewal}
+use Rattle.turn_client_proto_allocation.specs.declared.allocation.Allocation.{Allocation}
+use Rattle.turn_client_proto_allocation.proofs.Lent.{each_back, first_back, same_back}
+use Rattle.turn_client_proto_allocation.specs.Requested.{awaits_reply}
+use Rattle.turn_client_proto_allocation.specs.declared.requested.Asked.{Asked}
+use Rattle.turn_client_proto_allocation.specs.declared.requested.Asked.TheVariants.{ChannelRenewal, Lifetime, NewChannel, NewConnection, NewPermission, Renewal}
 use Rattle.turn_client_proto_connection.specs.Told.{answered, connected, given_up}
 
 -- they are back

@@ -1,11 +1,11 @@
 -- The earliest of the moments until which connections may be bound.
 use Rattle.std.proofs.Common.{◌≡◌, ℕ, List, [], ◌∷◌, ◌++◌, Option, Some, None, fold, min, refl, sym, ap, ◌∙◌}
 use Rattle.std.specs.List.{cons_option, filter_map}
-use Rattle.turn_client_proto_channel.specs.Permission.Api.Least.{IsLeastOf}
-use Rattle.stun_proto_agent.proofs.Leasts.{least_is, least_of}
-use Rattle.turn_client_proto_channel.specs.Permission.Allocation.Polling.{earlier}
-use Rattle.turn_client_proto_channel.specs.Permission.Allocation.declared.allocation.Allocation.{Allocation}
-use Rattle.turn_client_proto_channel.specs.Permission.Allocation.declared.connection.Connection.{Connection}
+use Rattle.turn_client_proto_allocation.specs.StunProtoTransaction.Least.{IsLeastOf}
+use Rattle.turn_client_proto_allocation.proofs.StunProtoTransaction.Leasts.{least_is, least_of}
+use Rattle.turn_client_proto_allocation.specs.Polling.{earlier}
+use Rattle.turn_client_proto_allocation.specs.declared.allocation.Allocation.{Allocation}
+use Rattle.turn_client_proto_allocation.specs.declared.connection.Connection.{Connection}
 use Rattle.turn_client_proto_connection.specs.Lapsing.{all_nexts, earlier_of, next_of, nexts}
 
 -- one allocation after another, the earlier is kept

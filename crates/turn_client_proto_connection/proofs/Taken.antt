@@ -2,7 +2,7 @@
 use Rattle.std.proofs.Common.{◌≡◌, ℕ, Bool, List, [], ◌∷◌, ◌++◌, Some, position, arith, ap, refl}
 use Rattle.std.proofs.lemmas.Grind.{common_steps}
 use Rattle.std.specs.Prelude.{remove}
-use Rattle.turn_client_proto_channel.specs.Permission.Allocation.Changes.{without_first}
+use Rattle.turn_client_proto_allocation.specs.Changes.{without_first}
 
 module _ {X : Type 0} (p : X → Bool) where
   pub taken_at : (xs : List X) (i : ℕ) → position p xs ≡ Some i → remove xs i ≡ without_first p xs

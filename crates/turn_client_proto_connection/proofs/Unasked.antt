@@ -2,7 +2,7 @@
 use Rattle.std.proofs.Common.{◌≡◌, Bool, true, List, [], ◌∷◌, Some, None, refl, sym, ap, ◌∙◌, inl, inr}
 use Rattle.std.proofs.lemmas.Bool.{cases_Bool}
 use Rattle.std.specs.List.{find, list_any}
-use Rattle.turn_client_proto_channel.specs.Permission.Allocation.declared.allocation.Allocation.{Allocation}
+use Rattle.turn_client_proto_allocation.specs.declared.allocation.Allocation.{Allocation}
 use Rattle.turn_client_proto_connection.specs.Waiting.{all_asked, has_unasked, is_unasked, unasked}
 
 -- where one passes, one is found

@@ -3,14 +3,14 @@ use Rattle.std.specs.Prelude.{Bool, not, ◌||◌, [], ◌∷◌, ◌++◌, Opti
 use Rattle.std.specs.List.{list_any}
 use Rattle.std.specs.Net.Socket.{socket_ip}
 use Rattle.std.specs.declared.net.socket_addr.SocketAddr.{SocketAddr}
-use Rattle.turn_client_proto_channel.specs.Permission.Allocation.declared.allocation.Allocation.{Allocation}
-use Rattle.turn_client_proto_channel.specs.Permission.Allocation.declared.connection.Connecting.{Connecting}
-use Rattle.turn_client_proto_channel.specs.Permission.Allocation.declared.connection.Connection.{Connection}
-use Rattle.turn_client_proto_channel.specs.Permission.Allocation.declared.connection.Waiting.{Waiting}
-use Rattle.turn_client_proto_channel.specs.Permission.Api.declared.error.TcpConnectError.{TcpConnectError}
-use Rattle.turn_client_proto_channel.specs.Permission.Api.declared.error.TcpConnectError.TheVariants.{AlreadyExists, NoPermission}
-use Rattle.turn_client_proto_channel.specs.Permission.Asking.{permits}
-use Rattle.turn_client_proto_channel.specs.Permission.Same.{is_same_address}
+use Rattle.turn_client_proto_allocation.specs.declared.allocation.Allocation.{Allocation}
+use Rattle.turn_client_proto_allocation.specs.declared.connection.Connecting.{Connecting}
+use Rattle.turn_client_proto_allocation.specs.declared.connection.Connection.{Connection}
+use Rattle.turn_client_proto_allocation.specs.declared.connection.Waiting.{Waiting}
+use Rattle.turn_client_proto_api.specs.declared.error.TcpConnectError.{TcpConnectError}
+use Rattle.turn_client_proto_api.specs.declared.error.TcpConnectError.TheVariants.{AlreadyExists, NoPermission}
+use Rattle.turn_client_proto_allocation.specs.Permits.{permits}
+use Rattle.turn_client_proto_allocation.specs.Same.{is_same_address}
 
 -- a connection to a peer, one that waits for its socket, and one that was asked for
 abbrev pub is_joined_to : SocketAddr → Connection → Bool

@@ -2,10 +2,10 @@
 use Rattle.std.specs.Prelude.{ℕ, Bool, false, ◌||◌, List, [], ◌∷◌, ◌++◌, find, map, Option, Some, None, option_and_then, option_to_list}
 use Rattle.std.specs.List.{list_any}
 use Rattle.std.specs.declared.net.socket_addr.SocketAddr.{SocketAddr}
-use Rattle.turn_client_proto_channel.specs.Permission.Allocation.Awaited.{is_attempt}
-use Rattle.turn_client_proto_channel.specs.Permission.Allocation.Changes.{without_first}
-use Rattle.turn_client_proto_channel.specs.Permission.Allocation.declared.allocation.Allocation.{Allocation}
-use Rattle.turn_client_proto_channel.specs.Permission.Allocation.declared.connection.Waiting.{Waiting}
+use Rattle.turn_client_proto_allocation.specs.Awaited.{is_attempt}
+use Rattle.turn_client_proto_allocation.specs.Changes.{without_first}
+use Rattle.turn_client_proto_allocation.specs.declared.allocation.Allocation.{Allocation}
+use Rattle.turn_client_proto_allocation.specs.declared.connection.Waiting.{Waiting}
 use Rattle.turn_client_proto_connection.specs.Asking.{is_joined_to, is_waiting_for}
 use Rattle.turn_client_proto_connection.specs.Sockets.{awaits_socket, is_socket_for}
 

@@ -2,13 +2,13 @@
 use Rattle.std.specs.Prelude.{ℕ, ◌==◌, Bool, not, ◌&&◌, List, [], ◌∷◌, ◌++◌, filter, Some}
 use Rattle.std.specs.List.{list_any}
 use Rattle.std.specs.declared.net.socket_addr.SocketAddr.{SocketAddr}
-use Rattle.turn_client_proto_channel.specs.Permission.Allocation.Changes.{without_first}
-use Rattle.turn_client_proto_channel.specs.Permission.Allocation.Streams.{alive}
-use Rattle.turn_client_proto_channel.specs.Permission.Allocation.declared.allocation.Allocation.{Allocation}
-use Rattle.turn_client_proto_channel.specs.Permission.Allocation.declared.connection.Binding.{Binding}
-use Rattle.turn_client_proto_channel.specs.Permission.Allocation.declared.connection.Connection.{Connection}
-use Rattle.turn_client_proto_channel.specs.Permission.Allocation.declared.connection.Waiting.{Waiting}
-use Rattle.turn_client_proto_channel.specs.Permission.Same.{is_same_address}
+use Rattle.turn_client_proto_allocation.specs.Changes.{without_first}
+use Rattle.turn_types_frame.specs.Streams.{alive}
+use Rattle.turn_client_proto_allocation.specs.declared.allocation.Allocation.{Allocation}
+use Rattle.turn_client_proto_allocation.specs.declared.connection.Binding.{Binding}
+use Rattle.turn_client_proto_allocation.specs.declared.connection.Connection.{Connection}
+use Rattle.turn_client_proto_allocation.specs.declared.connection.Waiting.{Waiting}
+use Rattle.turn_client_proto_allocation.specs.Same.{is_same_address}
 
 -- ---- a connection that waits for its socket
 

@@ -2,11 +2,11 @@
 use Rattle.std.specs.Prelude.{ℕ, ◌==◌, Bool, not, ◌&&◌, List, [], find, length, is_none, Option, option_and_then}
 use Rattle.std.specs.List.{list_any}
 use Rattle.std.specs.declared.net.socket_addr.SocketAddr.{SocketAddr}
-use Rattle.turn_client_proto_channel.specs.Permission.Allocation.Changes.{change_first}
-use Rattle.turn_client_proto_channel.specs.Permission.Allocation.Streams.{Stream, alive}
-use Rattle.turn_client_proto_channel.specs.Permission.Allocation.declared.allocation.Allocation.{Allocation}
-use Rattle.turn_client_proto_channel.specs.Permission.Allocation.declared.connection.Binding.{Binding}
-use Rattle.turn_client_proto_channel.specs.Permission.Allocation.declared.connection.Connection.{Connection}
+use Rattle.turn_client_proto_allocation.specs.Changes.{change_first}
+use Rattle.turn_types_frame.specs.Streams.{Stream, alive}
+use Rattle.turn_client_proto_allocation.specs.declared.allocation.Allocation.{Allocation}
+use Rattle.turn_client_proto_allocation.specs.declared.connection.Binding.{Binding}
+use Rattle.turn_client_proto_allocation.specs.declared.connection.Connection.{Connection}
 use Rattle.turn_client_proto_connection.specs.Sockets.{has_from, is_from}
 use Rattle.turn_client_proto_connection.specs.declared.streams.Raw.{Raw}
 

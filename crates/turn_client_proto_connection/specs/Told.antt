@@ -1,16 +1,16 @@
 -- What the response to a CONNECT makes of connections, and what its end without one does (RFC 6062, section 4.3).
 use Rattle.std.specs.Prelude.{ℕ, Bool, true, false, not, List, [], ◌∷◌, ◌++◌, map, filter, Option, Some, None}
 use Rattle.std.specs.declared.net.socket_addr.SocketAddr.{SocketAddr}
-use Rattle.turn_client_proto_channel.specs.Permission.Allocation.Awaited.{is_connecting}
-use Rattle.turn_client_proto_channel.specs.Permission.Allocation.Changes.{change_first}
-use Rattle.turn_client_proto_channel.specs.Permission.Allocation.declared.allocation.Allocation.{Allocation}
-use Rattle.turn_client_proto_channel.specs.Permission.Allocation.declared.connection.Connecting.{Connecting}
-use Rattle.turn_client_proto_channel.specs.Permission.Allocation.declared.connection.Waiting.{Waiting}
-use Rattle.turn_client_proto_channel.specs.Awaited.{awaits_reply}
-use Rattle.turn_client_proto_channel.specs.Permission.Api.declared.event.TurnEvent.{TurnEvent}
-use Rattle.turn_client_proto_channel.specs.Permission.Api.declared.event.TurnEvent.TheVariants.{TcpConnectFailed}
-use Rattle.turn_client_proto_channel.specs.declared.awaited.Asked.{Asked}
-use Rattle.turn_client_proto_channel.specs.declared.awaited.Asked.TheVariants.{NewConnection}
+use Rattle.turn_client_proto_allocation.specs.Awaited.{is_connecting}
+use Rattle.turn_client_proto_allocation.specs.Changes.{change_first}
+use Rattle.turn_client_proto_allocation.specs.declared.allocation.Allocation.{Allocation}
+use Rattle.turn_client_proto_allocation.specs.declared.connection.Connecting.{Connecting}
+use Rattle.turn_client_proto_allocation.specs.declared.connection.Waiting.{Waiting}
+use Rattle.turn_client_proto_allocation.specs.Requested.{awaits_reply}
+use Rattle.turn_client_proto_api.specs.declared.event.TurnEvent.{TurnEvent}
+use Rattle.turn_client_proto_api.specs.declared.event.TurnEvent.TheVariants.{TcpConnectFailed}
+use Rattle.turn_client_proto_allocation.specs.declared.requested.Asked.{Asked}
+use Rattle.turn_client_proto_allocation.specs.declared.requested.Asked.TheVariants.{NewConnection}
 
 -- ---- a request that ended
 

@@ -2,9 +2,9 @@
 use Rattle.std.specs.Prelude.{Bool, true, not, List, find, Option}
 use Rattle.std.specs.List.{list_any}
 use Rattle.std.specs.Option.{option_and_then}
-use Rattle.turn_client_proto_channel.specs.Permission.Allocation.Changes.{change_first}
-use Rattle.turn_client_proto_channel.specs.Permission.Allocation.declared.allocation.Allocation.{Allocation}
-use Rattle.turn_client_proto_channel.specs.Permission.Allocation.declared.connection.Waiting.{Waiting}
+use Rattle.turn_client_proto_allocation.specs.Changes.{change_first}
+use Rattle.turn_client_proto_allocation.specs.declared.allocation.Allocation.{Allocation}
+use Rattle.turn_client_proto_allocation.specs.declared.connection.Waiting.{Waiting}
 
 -- the caller was not asked for its socket
 abbrev pub is_unasked : Waiting → Bool

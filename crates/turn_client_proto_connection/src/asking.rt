@@ -2,19 +2,17 @@
 
 ghost use Rattle.std.specs.Prelude.{◌≡◌, ◌<◌, List, OnOk, OnErr, IfSome, length, slice_get, slice_set};
 ghost use Rattle.std.specs.List.{list_any};
-ghost use Rattle.turn_client_proto_channel.specs.Permission.Allocation.declared.allocation.Allocation.{Allocation as Kept};
-ghost use Rattle.turn_client_proto_channel.specs.Permission.Allocation.declared.connection.Connecting.{Connecting as Asked};
+ghost use Rattle.turn_client_proto_allocation.specs.declared.allocation.Allocation.{Allocation as Kept};
+ghost use Rattle.turn_client_proto_allocation.specs.declared.connection.Connecting.{Connecting as Asked};
 ghost use Rattle.turn_client_proto_connection.specs.Asking.{barring, connecting, has_way_to, is_connecting_to, is_joined_to, is_waiting_for};
 
 use std::net::SocketAddr;
-use stun_types::NoMemory;
-use turn_client_proto_channel::permission::allocation::allocation::Allocation;
-use turn_client_proto_channel::permission::allocation::connection::{
-    Connecting, Connection, Waiting,
-};
-use turn_client_proto_channel::permission::allocation::listed::Allocations;
-use turn_client_proto_channel::permission::api::error::TcpConnectError;
-use turn_client_proto_channel::permission::one::permits;
+use stun_types_base::memory::NoMemory;
+use turn_client_proto_allocation::allocation::Allocation;
+use turn_client_proto_allocation::connection::{Connecting, Connection, Waiting};
+use turn_client_proto_allocation::listed::Allocations;
+use turn_client_proto_allocation::permitted::permits;
+use turn_client_proto_api::error::TcpConnectError;
 
 /// Whether one of the connections is to a peer.
 pub(crate) fn is_any_joined(connections: &[Connection], peer: SocketAddr) -> bool

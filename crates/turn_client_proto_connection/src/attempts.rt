@@ -1,19 +1,20 @@
 //! Connections that peers begin (RFC 6062, section 4.4): the server tells of them by requests of its own.
 
 ghost use Rattle.std.specs.Prelude.{◌≡◌, ◌≢◌, ◌<◌, ◌++◌, [], OnOk, OnErr, IfSome, length, map, position, slice_get, slice_set, take};
-ghost use Rattle.turn_client_proto_channel.specs.Permission.Api.declared.event.TurnEvent.TheVariants.{TcpConnectFailed};
+ghost use Rattle.turn_client_proto_api.specs.declared.event.TurnEvent.TheVariants.{TcpConnectFailed};
 ghost use Rattle.turn_client_proto_connection.specs.Attempts.{attempt_among, attempt_of, attempted, is_joining, is_lost, not_lost, peers_lost};
 
 use crate::asking::{is_any_joined, is_any_waiting};
 use crate::sockets::{place_among, place_of};
 use std::net::SocketAddr;
-use stun_types::message::TransactionId;
-use stun_types::{ListOf, NoMemory};
-use turn_client_proto_channel::permission::allocation::allocation::Allocation;
-use turn_client_proto_channel::permission::allocation::connection::Waiting;
-use turn_client_proto_channel::permission::allocation::listed::Allocations;
-use turn_client_proto_channel::permission::api::event::TurnEvent;
-use turn_client_proto_channel::permission::queue::queue::QueueOf;
+use stun_types_base::list::ListOf;
+use stun_types_base::memory::NoMemory;
+use stun_types_wire::transaction::TransactionId;
+use turn_client_proto_allocation::allocation::Allocation;
+use turn_client_proto_allocation::connection::Waiting;
+use turn_client_proto_allocation::listed::Allocations;
+use turn_client_proto_api::event::TurnEvent;
+use turn_client_proto_api::queue::QueueOf;
 
 /// Whether an allocation has a connection to a peer, or waits for the socket of one. One that was asked for
 /// is no bar to the peer's.

@@ -1,20 +1,20 @@
 //! What becomes of connections that no response binds (RFC 6062, section 4.3), and what is told of it.
 
 ghost use Rattle.std.specs.Prelude.{◌≡◌, ◌≢◌, ◌++◌, [], OnOk, OnErr, length, map, take};
-ghost use Rattle.turn_client_proto_channel.specs.Permission.Api.Least.{IsLeastOf};
-ghost use Rattle.turn_client_proto_channel.specs.Permission.Api.declared.event.TurnEvent.TheVariants.{TcpConnectFailed};
+ghost use Rattle.turn_client_proto_allocation.specs.StunProtoTransaction.Least.{IsLeastOf};
+ghost use Rattle.turn_client_proto_api.specs.declared.event.TurnEvent.TheVariants.{TcpConnectFailed};
 ghost use Rattle.turn_client_proto_connection.specs.Lapsing.{all_gone, all_nexts, earlier_of, has_gone, is_ended, peers_gone, polled, sockets_gone};
 
 use crate::attempts::drop_lost;
 use crate::told::is_over;
 use std::net::SocketAddr;
-use stun_types::NoMemory;
-use stun_types::message::TransactionId;
-use turn_client_proto_channel::permission::allocation::allocation::Allocation;
-use turn_client_proto_channel::permission::allocation::connection::Connection;
-use turn_client_proto_channel::permission::api::Instant;
-use turn_client_proto_channel::permission::api::event::TurnEvent;
-use turn_client_proto_channel::permission::queue::queue::QueueOf;
+use stun_types_base::instant::Instant;
+use stun_types_base::memory::NoMemory;
+use stun_types_wire::transaction::TransactionId;
+use turn_client_proto_allocation::allocation::Allocation;
+use turn_client_proto_allocation::connection::Connection;
+use turn_client_proto_api::event::TurnEvent;
+use turn_client_proto_api::queue::QueueOf;
 
 /// Whether the transaction that ended is that of this number.
 fn is_ended(ended: &Option<TransactionId>, number: TransactionId) -> bool

@@ -12,7 +12,3 @@ pub mod sockets;
 pub mod streams;
 pub mod told;
 pub mod waiting;
-
-// What stands above this crate has these through it.
-pub use turn_client_proto_channel as channel;
-pub use turn_client_proto_channel::permission::allocation;

@@ -3,9 +3,9 @@
 ghost use Rattle.std.specs.Prelude.{◌≡◌, length};
 ghost use Rattle.turn_client_proto_connection.specs.Shown.{connections_of, connections_shown};
 
-use turn_client_proto_channel::permission::allocation::allocation::Allocation;
-use turn_client_proto_channel::permission::allocation::connection::Connection;
-use turn_client_proto_channel::permission::allocation::listed::Allocations;
+use turn_client_proto_allocation::allocation::Allocation;
+use turn_client_proto_allocation::connection::Connection;
+use turn_client_proto_allocation::listed::Allocations;
 
 /// The connections of an allocation, bound or not; none where it is marked as expired.
 pub fn connections_of(a: &Allocation) -> &[Connection]

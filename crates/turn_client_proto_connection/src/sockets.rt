@@ -1,17 +1,18 @@
 //! Sockets for connections to peers, and their end (RFC 6062, sections 4.3 and 4.6).
 
 ghost use Rattle.std.specs.Prelude.{◌≡◌, ◌<◌, List, OnOk, OnErr, IfSome, Some, length, map, position, slice_get, slice_set};
-ghost use Rattle.turn_client_proto_channel.specs.Permission.Allocation.declared.allocation.Allocation.{Allocation as Kept};
-ghost use Rattle.turn_client_proto_channel.specs.Permission.Allocation.declared.connection.Connection.{Connection as Joined};
+ghost use Rattle.turn_client_proto_allocation.specs.declared.allocation.Allocation.{Allocation as Kept};
+ghost use Rattle.turn_client_proto_allocation.specs.declared.connection.Connection.{Connection as Joined};
 ghost use Rattle.turn_client_proto_connection.specs.Sockets.{awaits_socket, binding, closed, has_from, is_any_from, is_socket_for, let_go, not_for, to_bind};
 
 use std::alloc::Global;
 use std::net::SocketAddr;
-use stun_types::{ListOf, NoMemory};
-use turn_client_proto_channel::permission::allocation::allocation::Allocation;
-use turn_client_proto_channel::permission::allocation::connection::{Binding, Connection, Waiting};
-use turn_client_proto_channel::permission::allocation::listed::Allocations;
-use turn_client_proto_channel::permission::allocation::tcp::TurnTcpBuffer;
+use stun_types_base::list::ListOf;
+use stun_types_base::memory::NoMemory;
+use turn_client_proto_allocation::allocation::Allocation;
+use turn_client_proto_allocation::connection::{Binding, Connection, Waiting};
+use turn_client_proto_allocation::listed::Allocations;
+use turn_types_frame::tcp::TurnTcpBuffer;
 
 /// Whether a connection of a number and to a peer waits for its socket in an allocation.
 fn awaits_socket(a: &Allocation, connection: u32, peer: SocketAddr) -> bool

@@ -3,8 +3,8 @@
 
 ghost use Rattle.std.specs.Prelude.{◌≡◌, [], find, map, option_map, position};
 ghost use Rattle.std.specs.List.{list_any};
-ghost use Rattle.turn_client_proto_channel.specs.Permission.Allocation.Changes.{change_first};
-ghost use Rattle.turn_client_proto_channel.specs.Permission.Allocation.Streams.{alive};
+ghost use Rattle.turn_client_proto_allocation.specs.Changes.{change_first};
+ghost use Rattle.turn_types_frame.specs.Streams.{alive};
 ghost use Rattle.turn_client_proto_connection.specs.Sockets.{has_from, is_from};
 ghost use Rattle.turn_client_proto_connection.specs.Streams.{awaiting, emptied, exchanged, first_raw, from, from_in, has_raw, is_any_raw, raw_kept, raw_of, waits_from, with_stream};
 
@@ -12,9 +12,9 @@ use crate::sockets::has_from;
 use std::alloc::Global;
 use std::mem;
 use std::net::SocketAddr;
-use turn_client_proto_channel::permission::allocation::allocation::Allocation;
-use turn_client_proto_channel::permission::allocation::connection::{Binding, Connection};
-use turn_client_proto_channel::permission::allocation::tcp::TurnTcpBuffer;
+use turn_client_proto_allocation::allocation::Allocation;
+use turn_client_proto_allocation::connection::{Binding, Connection};
+use turn_types_frame::tcp::TurnTcpBuffer;
 
 // ---- by own address
 

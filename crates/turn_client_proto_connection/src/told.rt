@@ -2,18 +2,18 @@
 //! section 4.3).
 
 ghost use Rattle.std.specs.Prelude.{◌≡◌, ◌≢◌, ◌++◌, Some, [], IfOk, OnOk, OnErr, length, map, position, take};
-ghost use Rattle.turn_client_proto_channel.specs.Awaited.{asked_by, awaits_reply};
-ghost use Rattle.turn_client_proto_channel.specs.Permission.Api.declared.event.TurnEvent.TheVariants.{TcpConnectFailed};
+ghost use Rattle.turn_client_proto_allocation.specs.Requested.{asked_by, awaits_reply};
+ghost use Rattle.turn_client_proto_api.specs.declared.event.TurnEvent.TheVariants.{TcpConnectFailed};
 ghost use Rattle.turn_client_proto_connection.specs.Told.{all_connected, answered, connected, given_up, is_connect, is_over, peers_over, told_of};
 
 use std::net::SocketAddr;
-use stun_types::NoMemory;
-use stun_types::message::TransactionId;
-use turn_client_proto_channel::awaited::{Asked, asked_by};
-use turn_client_proto_channel::permission::allocation::allocation::Allocation;
-use turn_client_proto_channel::permission::allocation::connection::{Connecting, Waiting};
-use turn_client_proto_channel::permission::api::event::TurnEvent;
-use turn_client_proto_channel::permission::queue::queue::QueueOf;
+use stun_types_base::memory::NoMemory;
+use stun_types_wire::transaction::TransactionId;
+use turn_client_proto_allocation::allocation::Allocation;
+use turn_client_proto_allocation::connection::{Connecting, Waiting};
+use turn_client_proto_allocation::requested::{Asked, asked_by};
+use turn_client_proto_api::event::TurnEvent;
+use turn_client_proto_api::queue::QueueOf;
 
 /// A connection to a peer was granted in an allocation, for which the request of this number asks.
 /// Where memory is refused, nothing changes.

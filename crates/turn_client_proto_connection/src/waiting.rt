@@ -1,11 +1,11 @@
 //! Connections for which the caller is to open a socket (RFC 6062, section 4.3).
 
 ghost use Rattle.std.specs.Prelude.{◌≡◌, find, position};
-ghost use Rattle.turn_client_proto_channel.specs.Permission.Allocation.Changes.{change_first};
+ghost use Rattle.turn_client_proto_allocation.specs.Changes.{change_first};
 ghost use Rattle.turn_client_proto_connection.specs.Waiting.{all_asked, asked, has_unasked, is_unasked, unasked};
 
-use turn_client_proto_channel::permission::allocation::allocation::Allocation;
-use turn_client_proto_channel::permission::allocation::connection::Waiting;
+use turn_client_proto_allocation::allocation::Allocation;
+use turn_client_proto_allocation::connection::Waiting;
 
 /// The place of the first connection for whose socket the caller was not asked.
 fn place_unasked(waiting: &[Waiting]) -> Option<usize>

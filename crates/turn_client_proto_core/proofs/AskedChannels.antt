@@ -5,21 +5,21 @@ use Rattle.std.specs.Net.Socket.{socket_ip}
 use Rattle.std.specs.Prelude.{IfNone, IfSome}
 use Rattle.std.specs.declared.net.ip_addr.IpAddr.{IpAddr}
 use Rattle.std.specs.declared.net.socket_addr.SocketAddr.{SocketAddr}
-use Rattle.stun_types.specs.Family.{family_of_socket}
-use Rattle.stun_types.specs.declared.transport.TransportType.{TransportType}
-use Rattle.turn_client_proto_connection.proofs.Allocation.Changes.{change_first_at}
-use Rattle.turn_client_proto_connection.specs.Allocation.declared.allocation.Allocation.{Allocation}
-use Rattle.turn_client_proto_connection.specs.Allocation.declared.channel.PendingChannel.{PendingChannel}
-use Rattle.turn_client_proto_connection.specs.Channel.Permission.Api.declared.error.BindChannelError.{BindChannelError}
-use Rattle.turn_client_proto_connection.specs.Channel.Permission.Api.declared.error.BindChannelError.TheVariants.{NoAllocation, NoChannel, NoMemory}
-use Rattle.turn_client_proto_connection.proofs.Channel.Permission.Undoing.{set_again}
-use Rattle.turn_client_proto_connection.specs.Channel.Binding.{asking, barring}
-use Rattle.turn_client_proto_connection.specs.Channel.Numbers.{IsLeastFree}
-use Rattle.turn_client_proto_connection.specs.Channel.Permission.Asking.{is_of, is_past, knows}
-use Rattle.turn_client_proto_connection.specs.Channel.Permission.Asking as permissions
-use Rattle.turn_client_proto_request.specs.ToldRequests.{IsLawfulRequest}
-use Rattle.turn_client_proto_request.specs.declared.request.TurnRequest.{TurnRequest}
-use Rattle.turn_client_proto_request.specs.declared.request.TurnRequest.TheVariants.{ChannelBind}
+use Rattle.stun_types_base.specs.Family.{family_of_socket}
+use Rattle.stun_types_base.specs.declared.transport.TransportType.{TransportType}
+use Rattle.turn_client_proto_allocation.proofs.Changes.{change_first_at}
+use Rattle.turn_client_proto_allocation.specs.declared.allocation.Allocation.{Allocation}
+use Rattle.turn_client_proto_allocation.specs.declared.channel.PendingChannel.{PendingChannel}
+use Rattle.turn_client_proto_api.specs.declared.error.BindChannelError.{BindChannelError}
+use Rattle.turn_client_proto_api.specs.declared.error.BindChannelError.TheVariants.{NoAllocation, NoChannel, NoMemory}
+use Rattle.turn_client_proto_allocation.proofs.SetAgain.{set_again}
+use Rattle.turn_client_proto_peers.specs.Channel.Binding.{asking, barring}
+use Rattle.turn_client_proto_peers.specs.Channel.Numbers.{IsLeastFree}
+use Rattle.turn_client_proto_peers.specs.Permission.Asking.{is_of, is_past, knows}
+use Rattle.turn_client_proto_peers.specs.Permission.Asking as permissions
+use Rattle.turn_client_proto_messages.specs.ToldRequests.{IsLawfulRequest}
+use Rattle.turn_client_proto_messages.specs.declared.request.TurnRequest.{TurnRequest}
+use Rattle.turn_client_proto_messages.specs.declared.request.TurnRequest.TheVariants.{ChannelBind}
 use Rattle.turn_client_proto_core.specs.Asking.{asked}
 use Rattle.turn_client_proto_core.specs.Binding.{IsBindAnswered, IsBindTried, after_binding, allocation_to, asking_channel, bind_refusal, bind_refusal_in, bind_refused_in, permission_beside}
 use Rattle.turn_client_proto_core.specs.Deleting.{is_authenticated}

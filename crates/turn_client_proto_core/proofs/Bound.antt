@@ -4,16 +4,17 @@ use Rattle.std.proofs.lemmas.List.{append-nil}
 use Rattle.std.specs.Option.{option_and_then}
 use Rattle.std.specs.declared.net.ip_addr.IpAddr.{IpAddr}
 use Rattle.std.specs.declared.net.socket_addr.SocketAddr.{SocketAddr}
-use Rattle.stun_types.specs.declared.transport.TransportType.{TransportType}
-use Rattle.turn_client_proto_connection.proofs.Allocation.Changes.{found_at}
-use Rattle.turn_client_proto_connection.specs.Allocation.declared.allocation.Allocation.{Allocation}
-use Rattle.turn_client_proto_connection.specs.Channel.Permission.Api.declared.event.TurnEvent.{TurnEvent}
-use Rattle.turn_client_proto_connection.specs.Channel.Permission.Api.declared.event.TurnEvent.TheVariants.{ChannelCreated, ChannelCreateFailed, PermissionCreated, PermissionCreateFailed}
-use Rattle.turn_client_proto_connection.proofs.Channel.Granting.{permitted_awaits}
-use Rattle.turn_client_proto_connection.specs.Channel.Awaited.{asked_by, awaits_reply}
-use Rattle.turn_client_proto_connection.specs.Channel.Granted.{all_bound, all_permitted, let_lapse, permission_asked, renewed, turned_down}
-use Rattle.turn_client_proto_connection.specs.Channel.declared.awaited.Asked.{Asked}
-use Rattle.turn_client_proto_connection.specs.Channel.declared.awaited.Asked.TheVariants.{ChannelRenewal, NewChannel}
+use Rattle.stun_types_base.specs.declared.transport.TransportType.{TransportType}
+use Rattle.turn_client_proto_allocation.proofs.Changes.{found_at}
+use Rattle.turn_client_proto_allocation.specs.declared.allocation.Allocation.{Allocation}
+use Rattle.turn_client_proto_api.specs.declared.event.TurnEvent.{TurnEvent}
+use Rattle.turn_client_proto_api.specs.declared.event.TurnEvent.TheVariants.{ChannelCreated, ChannelCreateFailed, PermissionCreated, PermissionCreateFailed}
+use Rattle.turn_client_proto_peers.proofs.Granting.{permitted_awaits}
+use Rattle.turn_client_proto_allocation.specs.Requested.{asked_by, awaits_reply}
+use Rattle.turn_client_proto_peers.specs.Channel.Granted.{all_bound, let_lapse, renewed, turned_down}
+use Rattle.turn_client_proto_peers.specs.Permission.Permitted.{all_permitted, permission_asked}
+use Rattle.turn_client_proto_allocation.specs.declared.requested.Asked.{Asked}
+use Rattle.turn_client_proto_allocation.specs.declared.requested.Asked.TheVariants.{ChannelRenewal, NewChannel}
 use Rattle.turn_client_proto_core.specs.Binding.{IsBoundFor, IsUnboundFor, bound, lets_lapse, permission_with, permitted_with, renews_channels, told_with, turned_down_with, unbound}
 use Rattle.turn_client_proto_core.specs.declared.protocol.Protocol.{Protocol}
 

@@ -1,14 +1,14 @@
 -- An end that is asked for.
 use Rattle.std.proofs.Common.{◌≡◌, ℕ, true, List, [], ◌∷◌, Option, None, Ok, Err, refl, sym, ap, ◌∙◌, subst}
 use Rattle.std.specs.Prelude.{map, IfNone, IfSome}
-use Rattle.turn_client_proto_connection.specs.Channel.Permission.Api.declared.error.DeleteError.{DeleteError}
-use Rattle.turn_client_proto_request.specs.declared.request.TurnRequest.TheVariants.{Refresh}
+use Rattle.turn_client_proto_api.specs.declared.error.DeleteError.{DeleteError}
+use Rattle.turn_client_proto_messages.specs.declared.request.TurnRequest.TheVariants.{Refresh}
 use Rattle.turn_client_proto_core.specs.Asking.{asked}
 use Rattle.turn_client_proto_core.specs.Deleting.{IsDeleteAnswered, IsDeleted, after_delete, delete_refusal, is_authenticated}
 use Rattle.turn_client_proto_core.specs.Numbering.{IsNextNumber, after_number}
 use Rattle.turn_client_proto_core.specs.declared.protocol.Protocol.{Protocol}
-use Rattle.turn_client_proto_connection.specs.Allocation.Refreshing.{deleted, ended, refreshing}
-use Rattle.turn_client_proto_connection.specs.Allocation.declared.allocation.Allocation.{Allocation}
+use Rattle.turn_client_proto_allocation.specs.Refreshing.{deleted, ended, refreshing}
+use Rattle.turn_client_proto_allocation.specs.declared.allocation.Allocation.{Allocation}
 
 -- a REFRESH is awaited, and then the allocation ends
 pub deleted_each : (number now : ℕ) (all : List Allocation) → map (ended now) (map (refreshing (record { number = number; lifetime = 0 })) all) ≡ map (deleted number now) all

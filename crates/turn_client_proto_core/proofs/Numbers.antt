@@ -5,8 +5,8 @@ use Rattle.std.specs.FinMap as map
 use Rattle.std.proofs.lemmas.Bool.{cases_Bool, ltb-false, ltb-true}
 use Rattle.std.proofs.Math.Nat.{add-mod_left, mod-add-mod, mod-eq_of_lt, mod-lt}
 use Rattle.rand_chacha.specs.ChaCha.{ChaCha}
-use Rattle.turn_client_proto_connection.specs.Allocation.Listed.{is_any_awaited}
-use Rattle.turn_client_proto_connection.specs.Channel.Permission.Api.State.{Agent}
+use Rattle.turn_client_proto_allocation.specs.Listed.{is_any_awaited}
+use Rattle.stun_proto_agent.specs.State.{Agent}
 use Rattle.turn_client_proto_core.specs.Numbering.{AreAllTaken, IsFirstFree, IsUnused, after_number, awaits, behind, is_taken}
 use Rattle.turn_client_proto_core.specs.declared.protocol.Protocol.{Protocol}
 

@@ -3,12 +3,12 @@ use Rattle.std.proofs.Common.{◌≡◌, ℕ, ◌<◌, true, false, List, length
 use Rattle.std.proofs.lemmas.List.{get_or-set_same, length-set}
 use Rattle.std.proofs.lemmas.Option.{slice_get_cases, slice_get_read}
 use Rattle.std.specs.Prelude.{find, IfSome}
-use Rattle.stun_types.specs.declared.family.AddressFamily.{AddressFamily}
-use Rattle.stun_types.specs.declared.transport.TransportType.{TransportType}
-use Rattle.turn_client_proto_connection.proofs.Allocation.Changes.{at_place, changed_at, find_is, found_at}
-use Rattle.turn_client_proto_connection.specs.Allocation.Changes.{change_first}
-use Rattle.turn_client_proto_connection.specs.Allocation.declared.allocation.Allocation.{Allocation}
-use Rattle.turn_client_proto_connection.specs.Channel.Permission.Asking.{is_of, is_past, marked}
+use Rattle.stun_types_base.specs.declared.family.AddressFamily.{AddressFamily}
+use Rattle.stun_types_base.specs.declared.transport.TransportType.{TransportType}
+use Rattle.turn_client_proto_allocation.proofs.Changes.{at_place, changed_at, find_is, found_at}
+use Rattle.turn_client_proto_allocation.specs.Changes.{change_first}
+use Rattle.turn_client_proto_allocation.specs.declared.allocation.Allocation.{Allocation}
+use Rattle.turn_client_proto_peers.specs.Permission.Asking.{is_of, is_past, marked}
 use Rattle.turn_client_proto_core.specs.declared.protocol.Protocol.{Protocol}
 
 -- ---- what stands at a place

@@ -1,9 +1,9 @@
 -- A request that was written is sent, where none of its number is outstanding.
 use Rattle.std.proofs.Common.{◌≡◌, ℕ, true, List, None, refl, ap, ◌∙◌}
 use Rattle.std.specs.FinMap as map
-use Rattle.stun_types.specs.Grammar.{number_at, refusal}
-use Rattle.turn_client_proto_connection.specs.Channel.Permission.Api.Sending.{is_request, request_refusal}
-use Rattle.turn_client_proto_connection.specs.Channel.Permission.Api.State.{Agent}
+use Rattle.stun_types_wire.specs.Grammar.{number_at, refusal}
+use Rattle.stun_proto_agent.specs.Sending.{is_request, request_refusal}
+use Rattle.stun_proto_agent.specs.State.{Agent}
 use Rattle.turn_client_proto_core.specs.Numbering.{IsUnused}
 
 pub sendable : (agent : Agent) (bytes : List ℕ) (number : ℕ) → refusal bytes ≡ None → is_request bytes ≡ true → number_at bytes ≡ number → IsUnused agent number

@@ -1,15 +1,15 @@
 -- The number that a request shows.
 use Rattle.std.proofs.Common.{◌≡◌, ℕ, ◌<◌, ◌^◌, None, refl, ap, ◌∙◌, arith}
 use Rattle.std.specs.FinMap as map
-use Rattle.stun_types.specs.Grammar.{number_at}
-use Rattle.stun_types.specs.Text.{header_text, message_text}
-use Rattle.turn_client_proto_connection.specs.Channel.Permission.Api.Client.{Client}
-use Rattle.turn_client_proto_connection.specs.Channel.Permission.Api.State.{Agent}
-use Rattle.turn_client_proto_request.specs.Requests.{request_text}
-use Rattle.turn_client_proto_request.specs.ShortTexts.{HasShortTexts}
-use Rattle.turn_client_proto_request.specs.declared.request.TurnRequest.{TurnRequest}
-use Rattle.turn_client_proto_request.specs.declared.request.TurnRequest.TheVariants.{Refresh}
-use Rattle.turn_client_proto_request.proofs.Reading.{number_law}
+use Rattle.stun_types_wire.specs.Grammar.{number_at}
+use Rattle.stun_types_wire.specs.Text.{header_text, message_text}
+use Rattle.stun_proto_client.specs.Client.{Client}
+use Rattle.stun_proto_agent.specs.State.{Agent}
+use Rattle.turn_client_proto_messages.specs.Requests.{request_text}
+use Rattle.turn_client_proto_messages.specs.ShortTexts.{HasShortTexts}
+use Rattle.turn_client_proto_messages.specs.declared.request.TurnRequest.{TurnRequest}
+use Rattle.turn_client_proto_messages.specs.declared.request.TurnRequest.TheVariants.{Refresh}
+use Rattle.turn_client_proto_messages.proofs.Reading.{number_law}
 use Rattle.turn_client_proto_core.specs.Numbering.{IsUnused}
 
 -- a client that signs nothing

@@ -2,16 +2,16 @@
 use Rattle.std.proofs.Common.{◌≡◌, ℕ, true, false, List, Option, Some, None, get_or, position, slice_get, slice_set, refl, sym, ap, ◌∙◌}
 use Rattle.std.specs.Prelude.{find, IfSome}
 use Rattle.std.specs.declared.net.socket_addr.SocketAddr.{SocketAddr}
-use Rattle.stun_types.specs.Family.{family_of_socket}
-use Rattle.stun_types.specs.Grammar.{number_at}
-use Rattle.stun_types.specs.declared.family.AddressFamily.{AddressFamily}
-use Rattle.stun_types.specs.declared.transport.TransportType.{TransportType}
-use Rattle.turn_client_proto_connection.proofs.Allocation.Changes.{at_place, changed_at, find_is, found_at}
-use Rattle.turn_client_proto_connection.specs.Allocation.declared.allocation.Allocation.{Allocation}
+use Rattle.stun_types_base.specs.Family.{family_of_socket}
+use Rattle.stun_types_wire.specs.Grammar.{number_at}
+use Rattle.stun_types_base.specs.declared.family.AddressFamily.{AddressFamily}
+use Rattle.stun_types_base.specs.declared.transport.TransportType.{TransportType}
+use Rattle.turn_client_proto_allocation.proofs.Changes.{at_place, changed_at, find_is, found_at}
+use Rattle.turn_client_proto_allocation.specs.declared.allocation.Allocation.{Allocation}
 use Rattle.turn_client_proto_connection.specs.Attempts.{attempted, is_joining}
-use Rattle.turn_client_proto_connection.specs.Channel.Permission.Asking.{is_of}
-use Rattle.turn_client_proto_request.specs.declared.answer.AttemptAnswer.TheVariants.{AlreadyExists, BadRequest}
-use Rattle.turn_client_proto_response.specs.Told.{connection_told, peer_told}
+use Rattle.turn_client_proto_peers.specs.Permission.Asking.{is_of}
+use Rattle.turn_client_proto_messages.specs.declared.answer.AttemptAnswer.TheVariants.{AlreadyExists, BadRequest}
+use Rattle.turn_client_proto_messages.specs.Told.{connection_told, peer_told}
 use Rattle.turn_client_proto_core.specs.Attempting.{after_attempt, after_attempt_in, after_attempt_of, answering, may_join}
 use Rattle.turn_client_proto_core.specs.declared.protocol.Protocol.{Protocol}
 

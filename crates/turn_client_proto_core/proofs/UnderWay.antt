@@ -2,12 +2,12 @@
 use Rattle.std.proofs.Common.{◌≡◌, ℕ, Result, Ok, Err, refl, sym, ap, ◌∙◌, subst, inl, inr}
 use Rattle.std.specs.Prelude.{OnErr, take, length}
 use Rattle.rand_chacha.specs.ChaCha.{ChaCha}
-use Rattle.turn_client_proto_connection.specs.Channel.Permission.Api.State.{Agent}
-use Rattle.turn_client_proto_connection.specs.Channel.Permission.Api.Sending.{IsAfterTransmit}
+use Rattle.stun_proto_agent.specs.State.{Agent}
+use Rattle.stun_proto_agent.specs.Sending.{IsAfterTransmit}
 use Rattle.turn_client_proto_core.specs.Ending.{HasFailed, IsUnderWay, failed}
 use Rattle.turn_client_proto_core.specs.Numbering.{HasDrawn}
 use Rattle.turn_client_proto_core.specs.declared.protocol.Protocol.{Protocol}
-use Rattle.turn_client_proto_connection.proofs.Allocation.Prefixes.{whole_kept}
+use Rattle.turn_client_proto_allocation.proofs.Prefixes.{whole_kept}
 
 -- an agent that was asked for what is due has its transport and its address still
 same_transport : (old new : Agent) (now : ℕ) → IsAfterTransmit old now new → new.transport ≡ old.transport

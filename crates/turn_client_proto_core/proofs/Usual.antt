@@ -1,6 +1,6 @@
 -- What most functions here are proved by, under one name.
-use Rattle.turn_client_proto_connection.proofs.Allocation.Prefixes.{front_kept, whole_kept}
-use Rattle.turn_client_proto_connection.specs.Channel.Permission.Api.Sending.{request_refusal}
+use Rattle.turn_client_proto_allocation.proofs.Prefixes.{front_kept, whole_kept}
+use Rattle.stun_proto_agent.specs.Sending.{request_refusal}
 use Rattle.turn_client_proto_core.specs.Allocating.{allocated}
 use Rattle.turn_client_proto_core.specs.Asking.{asked}
 use Rattle.turn_client_proto_core.specs.Attempting.{answering}

@@ -1,10 +1,10 @@
 -- The success response to an ALLOCATE (RFC 8656, section 7.3).
 use Rattle.std.specs.Prelude.{ℕ, Bool, List, [], ◌∷◌, ◌++◌, map, Option, Some, None}
-use Rattle.turn_client_proto_connection.specs.Allocation.declared.allocation.Allocation.{Allocation}
-use Rattle.turn_client_proto_connection.specs.Channel.Permission.Api.declared.event.TurnEvent.TheVariants.{AllocationCreateFailed}
-use Rattle.turn_client_proto_response.specs.Granting.{allocations_of, families_without}
-use Rattle.turn_client_proto_response.specs.Telling.{created}
-use Rattle.turn_client_proto_response.specs.Told.{lifetime_told, relayed_told}
+use Rattle.turn_client_proto_allocation.specs.declared.allocation.Allocation.{Allocation}
+use Rattle.turn_client_proto_api.specs.declared.event.TurnEvent.TheVariants.{AllocationCreateFailed}
+use Rattle.turn_client_proto_messages.specs.Granting.{allocations_of, families_without}
+use Rattle.turn_client_proto_messages.specs.Telling.{created}
+use Rattle.turn_client_proto_messages.specs.Told.{lifetime_told, relayed_told}
 use Rattle.turn_client_proto_core.specs.Ending.{ended}
 use Rattle.turn_client_proto_core.specs.Outcomes.{IsHandled}
 use Rattle.turn_client_proto_core.specs.declared.protocol.Phase.{Phase}

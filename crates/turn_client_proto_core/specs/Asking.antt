@@ -1,10 +1,10 @@
 -- What a client keeps of a request that it makes (RFC 8489, section 6.2).
 use Rattle.std.specs.Prelude.{ℕ, true, List, [], ◌∷◌, ◌++◌}
 use Rattle.std.specs.declared.net.socket_addr.SocketAddr.{SocketAddr}
-use Rattle.turn_client_proto_connection.specs.Channel.Permission.Api.Sending.{with_request}
-use Rattle.turn_client_proto_request.specs.Requests.{request_text}
-use Rattle.turn_client_proto_request.specs.declared.request.TurnRequest.{TurnRequest}
-use Rattle.turn_client_proto_core.specs.Waiting.{Queued}
+use Rattle.stun_proto_agent.specs.Sending.{with_request}
+use Rattle.turn_client_proto_messages.specs.Requests.{request_text}
+use Rattle.turn_client_proto_messages.specs.declared.request.TurnRequest.{TurnRequest}
+use Rattle.turn_client_proto_messages.specs.Waiting.{Queued}
 use Rattle.turn_client_proto_core.specs.declared.protocol.Protocol.{Protocol}
 
 -- a request that waits to be sent from an address

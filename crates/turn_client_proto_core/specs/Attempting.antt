@@ -2,21 +2,21 @@
 use Rattle.std.specs.Prelude.{ℕ, ◌==◌, Bool, false, ◌&&◌, List, [], ◌∷◌, ◌++◌, find, Option, Some, None, if◌then◌else◌}
 use Rattle.std.specs.Bool.{MatchBool}
 use Rattle.std.specs.declared.net.socket_addr.SocketAddr.{SocketAddr}
-use Rattle.stun_types.specs.Attributes.{kind_at}
-use Rattle.stun_types.specs.Family.{family_of_socket}
-use Rattle.stun_types.specs.Grammar.{number_at}
-use Rattle.stun_types.specs.Types.{method_of}
-use Rattle.turn_types.specs.TurnRegistry.{connection_attempt_method}
-use Rattle.turn_client_proto_connection.specs.Allocation.Changes.{change_first}
-use Rattle.turn_client_proto_connection.specs.Allocation.declared.allocation.Allocation.{Allocation}
+use Rattle.stun_types_wire.specs.Attributes.{kind_at}
+use Rattle.stun_types_base.specs.Family.{family_of_socket}
+use Rattle.stun_types_wire.specs.Grammar.{number_at}
+use Rattle.stun_types_wire.specs.Types.{method_of}
+use Rattle.turn_types_attributes.specs.TurnRegistry.{connection_attempt_method}
+use Rattle.turn_client_proto_allocation.specs.Changes.{change_first}
+use Rattle.turn_client_proto_allocation.specs.declared.allocation.Allocation.{Allocation}
 use Rattle.turn_client_proto_connection.specs.Attempts.{attempted, is_joining}
-use Rattle.turn_client_proto_connection.specs.Channel.Permission.Api.Sending.{is_request}
-use Rattle.turn_client_proto_connection.specs.Channel.Permission.Asking.{is_of}
-use Rattle.turn_client_proto_request.specs.Answers.{answer_text}
-use Rattle.turn_client_proto_request.specs.Waiting.{Queued}
-use Rattle.turn_client_proto_request.specs.declared.answer.AttemptAnswer.{AttemptAnswer}
-use Rattle.turn_client_proto_request.specs.declared.answer.AttemptAnswer.TheVariants.{AlreadyExists, BadRequest}
-use Rattle.turn_client_proto_response.specs.Told.{connection_told, peer_told}
+use Rattle.stun_proto_agent.specs.Sending.{is_request}
+use Rattle.turn_client_proto_peers.specs.Permission.Asking.{is_of}
+use Rattle.turn_client_proto_messages.specs.Answers.{answer_text}
+use Rattle.turn_client_proto_messages.specs.Waiting.{Queued}
+use Rattle.turn_client_proto_messages.specs.declared.answer.AttemptAnswer.{AttemptAnswer}
+use Rattle.turn_client_proto_messages.specs.declared.answer.AttemptAnswer.TheVariants.{AlreadyExists, BadRequest}
+use Rattle.turn_client_proto_messages.specs.Told.{connection_told, peer_told}
 use Rattle.turn_client_proto_core.specs.Outcomes.{IsHandled, IsIgnored}
 use Rattle.turn_client_proto_core.specs.declared.protocol.Protocol.{Protocol}
 

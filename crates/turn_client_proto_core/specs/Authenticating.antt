@@ -1,18 +1,21 @@
 -- What a client that has not allocated makes of a message (RFC 8656, sections 7.3 and 7.4; RFC 8489, section 9.2.5).
 use Rattle.std.specs.Prelude.{ℕ, Bool, List, [], ◌∷◌, ◌++◌, Option, Some, None, Result, Ok, Err, if◌then◌else◌}
 use Rattle.std.specs.Bool.{MatchBool}
-use Rattle.turn_client_proto_connection.specs.Channel.Permission.Api.ClientAuthErrors.{LongTermClientAuthError, IntegrityFailed, NoMemory}
-use Rattle.turn_client_proto_connection.specs.Channel.Permission.Api.ClientValidations.{LongTermClientValidation, ResendRequest, Validated}
-use Rattle.turn_client_proto_connection.specs.Channel.Permission.Api.Handling.{is_awaited}
-use Rattle.stun_types.specs.Attributes.{kind_at}
-use Rattle.stun_types.specs.MessageClasses.{MessageClass, Success, Error}
-use Rattle.stun_types.specs.Registry.{family_not_supported_code}
-use Rattle.stun_types.specs.Types.{class_of}
-use Rattle.stun_types.specs.declared.family.AddressFamily.{AddressFamily}
-use Rattle.stun_types.specs.declared.family.AddressFamily.TheVariants.{IPV4, IPV6}
-use Rattle.turn_client_proto_connection.specs.Channel.Permission.Api.declared.event.TurnEvent.TheVariants.{AllocationCreateFailed}
-use Rattle.turn_client_proto_request.specs.declared.request.TurnRequest.TheVariants.{Allocate}
-use Rattle.turn_client_proto_response.specs.Told.{first_code, is_code}
+use Rattle.stun_proto_client.specs.declared.error.LongTermClientAuthError.{LongTermClientAuthError}
+use Rattle.stun_proto_client.specs.declared.error.LongTermClientAuthError.TheVariants.{IntegrityFailed, NoMemory}
+use Rattle.stun_proto_client.specs.declared.validation.LongTermClientValidation.{LongTermClientValidation}
+use Rattle.stun_proto_client.specs.declared.validation.LongTermClientValidation.TheVariants.{ResendRequest, Validated}
+use Rattle.stun_proto_agent.specs.Handling.{is_awaited}
+use Rattle.stun_types_wire.specs.Attributes.{kind_at}
+use Rattle.stun_types_wire.specs.declared.class.MessageClass.{MessageClass}
+use Rattle.stun_types_wire.specs.declared.class.MessageClass.TheVariants.{Success, Error}
+use Rattle.stun_types_wire.specs.Registry.{family_not_supported_code}
+use Rattle.stun_types_wire.specs.Types.{class_of}
+use Rattle.stun_types_base.specs.declared.family.AddressFamily.{AddressFamily}
+use Rattle.stun_types_base.specs.declared.family.AddressFamily.TheVariants.{IPV4, IPV6}
+use Rattle.turn_client_proto_api.specs.declared.event.TurnEvent.TheVariants.{AllocationCreateFailed}
+use Rattle.turn_client_proto_messages.specs.declared.request.TurnRequest.TheVariants.{Allocate}
+use Rattle.turn_client_proto_messages.specs.Told.{first_code, is_code}
 use Rattle.turn_client_proto_core.specs.Allocating.{IsAllocated}
 use Rattle.turn_client_proto_core.specs.Asking.{asked}
 use Rattle.turn_client_proto_core.specs.Ending.{ended}

@@ -3,9 +3,9 @@ use Rattle.std.specs.Prelude.{◌≡◌, ℕ, List, [], Some, None}
 use Rattle.std.specs.FinMap as map
 use Rattle.std.specs.declared.net.socket_addr.SocketAddr.{SocketAddr}
 use Rattle.rand_chacha.specs.ChaCha.{of_seed}
-use Rattle.stun_types.specs.declared.transport.TransportType.{TransportType}
-use Rattle.turn_client_proto_connection.specs.Channel.Permission.Api.Config.{Config}
-use Rattle.turn_client_proto_request.specs.Judging.{signer_of}
+use Rattle.stun_types_base.specs.declared.transport.TransportType.{TransportType}
+use Rattle.turn_client_proto_api.specs.Config.{Config}
+use Rattle.turn_client_proto_messages.specs.Judging.{signer_of}
 use Rattle.turn_client_proto_core.specs.declared.protocol.Phase.TheVariants.{Initial}
 use Rattle.turn_client_proto_core.specs.declared.protocol.Protocol.{Protocol}
 

@@ -5,29 +5,30 @@ use Rattle.std.specs.Net.Socket.{socket_ip}
 use Rattle.std.specs.Option.{option_and_then, option_or}
 use Rattle.std.specs.declared.net.ip_addr.IpAddr.{IpAddr}
 use Rattle.std.specs.declared.net.socket_addr.SocketAddr.{SocketAddr}
-use Rattle.stun_types.specs.Attributes.{kind_at}
-use Rattle.stun_types.specs.Family.{family_of_socket}
-use Rattle.stun_types.specs.Grammar.{number_at}
-use Rattle.stun_types.specs.Types.{class_of}
-use Rattle.stun_types.specs.declared.transport.TransportType.{TransportType}
-use Rattle.turn_client_proto_connection.specs.Allocation.Changes.{change_first}
-use Rattle.turn_client_proto_connection.specs.Allocation.declared.allocation.Allocation.{Allocation}
-use Rattle.turn_client_proto_connection.specs.Channel.Permission.Api.declared.error.BindChannelError.{BindChannelError}
-use Rattle.turn_client_proto_connection.specs.Channel.Permission.Api.declared.error.BindChannelError.TheVariants.{NoAllocation, NoChannel, NoMemory}
-use Rattle.turn_client_proto_connection.specs.Channel.Permission.Api.declared.event.TurnEvent.{TurnEvent}
-use Rattle.turn_client_proto_connection.specs.Channel.Permission.Api.declared.event.TurnEvent.TheVariants.{ChannelCreated, ChannelCreateFailed, PermissionCreated, PermissionCreateFailed}
-use Rattle.turn_client_proto_connection.specs.Channel.Permission.Asking.{is_of, is_past, knows, marked}
-use Rattle.turn_client_proto_connection.specs.Channel.Permission.Asking as permissions
-use Rattle.turn_client_proto_connection.specs.Channel.Permission.Granted as permitted
-use Rattle.turn_client_proto_connection.specs.Channel.Awaited.{asked_by, awaits_reply}
-use Rattle.turn_client_proto_connection.specs.Channel.Binding.{barring}
-use Rattle.turn_client_proto_connection.specs.Channel.Binding as channels
-use Rattle.turn_client_proto_connection.specs.Channel.Granted.{all_bound, all_permitted, let_lapse, permission_asked, renewed, turned_down}
-use Rattle.turn_client_proto_connection.specs.Channel.Numbers.{IsLeastFree}
-use Rattle.turn_client_proto_connection.specs.Channel.declared.awaited.Asked.{Asked}
-use Rattle.turn_client_proto_connection.specs.Channel.declared.awaited.Asked.TheVariants.{ChannelRenewal, Lifetime, NewChannel, NewConnection, NewPermission, Renewal}
-use Rattle.turn_client_proto_request.specs.ToldRequests.{IsLawfulRequest}
-use Rattle.turn_client_proto_request.specs.declared.request.TurnRequest.TheVariants.{ChannelBind}
+use Rattle.stun_types_wire.specs.Attributes.{kind_at}
+use Rattle.stun_types_base.specs.Family.{family_of_socket}
+use Rattle.stun_types_wire.specs.Grammar.{number_at}
+use Rattle.stun_types_wire.specs.Types.{class_of}
+use Rattle.stun_types_base.specs.declared.transport.TransportType.{TransportType}
+use Rattle.turn_client_proto_allocation.specs.Changes.{change_first}
+use Rattle.turn_client_proto_allocation.specs.declared.allocation.Allocation.{Allocation}
+use Rattle.turn_client_proto_api.specs.declared.error.BindChannelError.{BindChannelError}
+use Rattle.turn_client_proto_api.specs.declared.error.BindChannelError.TheVariants.{NoAllocation, NoChannel, NoMemory}
+use Rattle.turn_client_proto_api.specs.declared.event.TurnEvent.{TurnEvent}
+use Rattle.turn_client_proto_api.specs.declared.event.TurnEvent.TheVariants.{ChannelCreated, ChannelCreateFailed, PermissionCreated, PermissionCreateFailed}
+use Rattle.turn_client_proto_peers.specs.Permission.Asking.{is_of, is_past, knows, marked}
+use Rattle.turn_client_proto_peers.specs.Permission.Asking as permissions
+use Rattle.turn_client_proto_peers.specs.Permission.Granted as permitted
+use Rattle.turn_client_proto_allocation.specs.Requested.{asked_by, awaits_reply}
+use Rattle.turn_client_proto_peers.specs.Channel.Binding.{barring}
+use Rattle.turn_client_proto_peers.specs.Channel.Binding as channels
+use Rattle.turn_client_proto_peers.specs.Channel.Granted.{all_bound, let_lapse, renewed, turned_down}
+use Rattle.turn_client_proto_peers.specs.Permission.Permitted.{all_permitted, permission_asked}
+use Rattle.turn_client_proto_peers.specs.Channel.Numbers.{IsLeastFree}
+use Rattle.turn_client_proto_allocation.specs.declared.requested.Asked.{Asked}
+use Rattle.turn_client_proto_allocation.specs.declared.requested.Asked.TheVariants.{ChannelRenewal, Lifetime, NewChannel, NewConnection, NewPermission, Renewal}
+use Rattle.turn_client_proto_messages.specs.ToldRequests.{IsLawfulRequest}
+use Rattle.turn_client_proto_messages.specs.declared.request.TurnRequest.TheVariants.{ChannelBind}
 use Rattle.turn_client_proto_core.specs.Asking.{asked}
 use Rattle.turn_client_proto_core.specs.Deleting.{is_authenticated}
 use Rattle.turn_client_proto_core.specs.Numbering.{IsNextNumber, after_number}

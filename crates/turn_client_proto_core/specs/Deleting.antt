@@ -1,9 +1,9 @@
 -- How a client asks for the end of its allocations (RFC 8656, section 8.1).
 use Rattle.std.specs.Prelude.{◌≡◌, ℕ, Bool, true, false, if◌then◌else◌, map, Option, Some, None, Result, Err, MatchResult, IfSome, IfNone}
-use Rattle.turn_client_proto_connection.specs.Allocation.Refreshing.{deleted}
-use Rattle.turn_client_proto_connection.specs.Channel.Permission.Api.declared.error.DeleteError.{DeleteError}
-use Rattle.turn_client_proto_connection.specs.Channel.Permission.Api.declared.error.DeleteError.TheVariants.{NoAllocation, NoMemory}
-use Rattle.turn_client_proto_request.specs.declared.request.TurnRequest.TheVariants.{Refresh}
+use Rattle.turn_client_proto_allocation.specs.Refreshing.{deleted}
+use Rattle.turn_client_proto_api.specs.declared.error.DeleteError.{DeleteError}
+use Rattle.turn_client_proto_api.specs.declared.error.DeleteError.TheVariants.{NoAllocation, NoMemory}
+use Rattle.turn_client_proto_messages.specs.declared.request.TurnRequest.TheVariants.{Refresh}
 use Rattle.turn_client_proto_core.specs.Asking.{asked}
 use Rattle.turn_client_proto_core.specs.Numbering.{IsNextNumber, after_number}
 use Rattle.turn_client_proto_core.specs.declared.protocol.Phase.{Phase}

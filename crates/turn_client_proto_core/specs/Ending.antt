@@ -1,8 +1,8 @@
 -- How a client ends.
 use Rattle.std.specs.Prelude.{◌≡◌, ℕ, [], ◌++◌, map, take, length, None}
 use Rattle.std.specs.FinMap as finite
-use Rattle.turn_client_proto_connection.specs.Channel.Permission.Api.State.{default_waits}
-use Rattle.turn_client_proto_connection.specs.Channel.Permission.Api.declared.event.TurnEvent.TheVariants.{AllocationCreateFailed}
+use Rattle.stun_proto_agent.specs.State.{default_waits}
+use Rattle.turn_client_proto_api.specs.declared.event.TurnEvent.TheVariants.{AllocationCreateFailed}
 use Rattle.turn_client_proto_core.specs.Numbering.{HasDrawn}
 use Rattle.turn_client_proto_core.specs.declared.protocol.Phase.TheVariants.{Ended}
 use Rattle.turn_client_proto_core.specs.declared.protocol.Protocol.{Protocol}

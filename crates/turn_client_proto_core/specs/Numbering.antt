@@ -2,9 +2,9 @@
 use Rattle.std.specs.Prelude.{◌≡◌, ◌⊎◌, ℕ, ◌+◌, ◌*◌, ◌%◌, ◌^◌, ◌<◌, Bool, ◌||◌, true, false, None, is_some}
 use Rattle.std.specs.FinMap as map
 use Rattle.rand_chacha.specs.ChaCha.{ChaCha, next_word}
-use Rattle.turn_client_proto_connection.specs.Allocation.Awaited.{has_number}
-use Rattle.turn_client_proto_connection.specs.Allocation.Listed.{is_any_awaited}
-use Rattle.turn_client_proto_connection.specs.Channel.Permission.Api.State.{Agent}
+use Rattle.turn_client_proto_allocation.specs.Awaited.{has_number}
+use Rattle.turn_client_proto_allocation.specs.Listed.{is_any_awaited}
+use Rattle.stun_proto_agent.specs.State.{Agent}
 use Rattle.turn_client_proto_core.specs.declared.protocol.Phase.{Phase}
 use Rattle.turn_client_proto_core.specs.declared.protocol.Phase.TheVariants.{Initial, InitialSent, Authenticating, Authenticated, Ended}
 use Rattle.turn_client_proto_core.specs.declared.protocol.Protocol.{Protocol}

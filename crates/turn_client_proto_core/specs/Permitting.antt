@@ -2,24 +2,24 @@
 use Rattle.std.specs.Prelude.{◌≡◌, ℕ, Bool, List, [], ◌∷◌, ◌++◌, find, map, Option, Some, None, Result, Err, MatchResult, IfSome, IfNone, if◌then◌else◌}
 use Rattle.std.specs.Bool.{MatchBool}
 use Rattle.std.specs.declared.net.ip_addr.IpAddr.{IpAddr}
-use Rattle.stun_types.specs.Attributes.{kind_at}
-use Rattle.stun_types.specs.Grammar.{number_at}
-pub use Rattle.stun_types.specs.Family.{family_of_ip}
-use Rattle.stun_types.specs.Types.{class_of}
-use Rattle.stun_types.specs.declared.transport.TransportType.{TransportType}
-use Rattle.turn_client_proto_connection.specs.Allocation.Changes.{change_first}
-use Rattle.turn_client_proto_connection.specs.Allocation.declared.allocation.Allocation.{Allocation}
-use Rattle.turn_client_proto_connection.specs.Channel.Permission.Api.declared.error.CreatePermissionError.{CreatePermissionError}
-use Rattle.turn_client_proto_connection.specs.Channel.Permission.Api.declared.error.CreatePermissionError.TheVariants.{AlreadyExists, NoAllocation, NoMemory}
-use Rattle.turn_client_proto_connection.specs.Channel.Permission.Api.declared.event.TurnEvent.TheVariants.{PermissionCreated, PermissionCreateFailed}
-use Rattle.turn_client_proto_connection.specs.Channel.Permission.Asking.{asking, is_of, is_past, knows, marked}
-use Rattle.turn_client_proto_connection.specs.Channel.Awaited.{asked_by}
-use Rattle.turn_client_proto_connection.specs.Channel.Granted.{all_permitted}
-use Rattle.turn_client_proto_connection.specs.Channel.Permission.Granted.{renewed, turned_down}
-use Rattle.turn_client_proto_connection.specs.Channel.declared.awaited.Asked.{Asked}
-use Rattle.turn_client_proto_connection.specs.Channel.declared.awaited.Asked.TheVariants.{ChannelRenewal, Lifetime, NewChannel, NewConnection, NewPermission, Renewal}
-use Rattle.turn_client_proto_request.specs.ToldRequests.{IsLawfulRequest}
-use Rattle.turn_client_proto_request.specs.declared.request.TurnRequest.TheVariants.{CreatePermission}
+use Rattle.stun_types_wire.specs.Attributes.{kind_at}
+use Rattle.stun_types_wire.specs.Grammar.{number_at}
+pub use Rattle.stun_types_base.specs.Family.{family_of_ip}
+use Rattle.stun_types_wire.specs.Types.{class_of}
+use Rattle.stun_types_base.specs.declared.transport.TransportType.{TransportType}
+use Rattle.turn_client_proto_allocation.specs.Changes.{change_first}
+use Rattle.turn_client_proto_allocation.specs.declared.allocation.Allocation.{Allocation}
+use Rattle.turn_client_proto_api.specs.declared.error.CreatePermissionError.{CreatePermissionError}
+use Rattle.turn_client_proto_api.specs.declared.error.CreatePermissionError.TheVariants.{AlreadyExists, NoAllocation, NoMemory}
+use Rattle.turn_client_proto_api.specs.declared.event.TurnEvent.TheVariants.{PermissionCreated, PermissionCreateFailed}
+use Rattle.turn_client_proto_peers.specs.Permission.Asking.{asking, is_of, is_past, knows, marked}
+use Rattle.turn_client_proto_allocation.specs.Requested.{asked_by}
+use Rattle.turn_client_proto_peers.specs.Permission.Permitted.{all_permitted}
+use Rattle.turn_client_proto_peers.specs.Permission.Granted.{renewed, turned_down}
+use Rattle.turn_client_proto_allocation.specs.declared.requested.Asked.{Asked}
+use Rattle.turn_client_proto_allocation.specs.declared.requested.Asked.TheVariants.{ChannelRenewal, Lifetime, NewChannel, NewConnection, NewPermission, Renewal}
+use Rattle.turn_client_proto_messages.specs.ToldRequests.{IsLawfulRequest}
+use Rattle.turn_client_proto_messages.specs.declared.request.TurnRequest.TheVariants.{CreatePermission}
 use Rattle.turn_client_proto_core.specs.Asking.{asked}
 use Rattle.turn_client_proto_core.specs.Deleting.{is_authenticated}
 use Rattle.turn_client_proto_core.specs.Numbering.{IsNextNumber, after_number}

@@ -1,17 +1,19 @@
 -- What a client makes of a message that came from the server (RFC 8489, section 6.3; RFC 8656).
 use Rattle.std.specs.Prelude.{◌≡◌, ◌≢◌, ℕ, Bool, true, ◌&&◌, List, [], Result, Ok, Err}
 use Rattle.std.specs.Bool.{MatchBool}
-use Rattle.turn_client_proto_connection.specs.Channel.Permission.Api.Client as auth
-use Rattle.turn_client_proto_connection.specs.Channel.Permission.Api.ClientAuthErrors.{LongTermClientAuthError, IntegrityFailed, NoMemory}
-use Rattle.turn_client_proto_connection.specs.Channel.Permission.Api.ClientValidations.{LongTermClientValidation, ResendRequest, Validated}
-use Rattle.turn_client_proto_connection.specs.Channel.Permission.Api.Handling.{is_awaited, is_response}
-use Rattle.stun_types.specs.Attributes.{kind_at}
-use Rattle.stun_types.specs.Grammar.{number_at}
-use Rattle.stun_types.specs.Types.{class_of}
-use Rattle.turn_client_proto_connection.specs.Allocation.Awaited.{has_number}
+use Rattle.stun_proto_client.specs.Client as auth
+use Rattle.stun_proto_client.specs.declared.error.LongTermClientAuthError.{LongTermClientAuthError}
+use Rattle.stun_proto_client.specs.declared.error.LongTermClientAuthError.TheVariants.{IntegrityFailed, NoMemory}
+use Rattle.stun_proto_client.specs.declared.validation.LongTermClientValidation.{LongTermClientValidation}
+use Rattle.stun_proto_client.specs.declared.validation.LongTermClientValidation.TheVariants.{ResendRequest, Validated}
+use Rattle.stun_proto_agent.specs.Handling.{is_awaited, is_response}
+use Rattle.stun_types_wire.specs.Attributes.{kind_at}
+use Rattle.stun_types_wire.specs.Grammar.{number_at}
+use Rattle.stun_types_wire.specs.Types.{class_of}
+use Rattle.turn_client_proto_allocation.specs.Awaited.{has_number}
 use Rattle.turn_client_proto_core.specs.Authenticating.{IsFirstJudged, IsSignedJudged}
-use Rattle.turn_client_proto_request.specs.Indications.{is_indication}
-use Rattle.turn_client_proto_request.specs.Judging.{IsJudged}
+use Rattle.turn_client_proto_messages.specs.TurnRuns.Indications.{is_indication}
+use Rattle.turn_client_proto_messages.specs.Judging.{IsJudged}
 use Rattle.turn_client_proto_core.specs.Outcomes.{IsIgnored}
 use Rattle.turn_client_proto_core.specs.Responding.{judged}
 use Rattle.turn_client_proto_core.specs.Standing.{IsJudgedStanding, counts}

@@ -1,8 +1,9 @@
 -- What responses and challenges do to a client, whatever it asked for (RFC 8489, sections 6.3 and 9.2.5).
 use Rattle.std.specs.Prelude.{ℕ, ◌+◌, nat_lt, Bool, true, false, List}
-use Rattle.turn_client_proto_connection.specs.Channel.Permission.Api.Client as auth
-use Rattle.turn_client_proto_connection.specs.Channel.Permission.Api.Handling.{after_message}
-use Rattle.stun_types.specs.MessageClasses.{MessageClass, Error}
+use Rattle.stun_proto_client.specs.Client as auth
+use Rattle.stun_proto_agent.specs.Handling.{after_message}
+use Rattle.stun_types_wire.specs.declared.class.MessageClass.{MessageClass}
+use Rattle.stun_types_wire.specs.declared.class.MessageClass.TheVariants.{Error}
 use Rattle.turn_client_proto_core.specs.declared.protocol.Protocol.{Protocol}
 
 -- a client that has answered more challenges than this in a row, with no accepted response between, answers no more:

@@ -2,23 +2,25 @@
 use Rattle.std.specs.Prelude.{◌≡◌, ℕ, ◌==◌, Bool, true, ◌&&◌, ◌||◌, List, [], ◌++◌, map, Option, Some, None, Result, Ok, Err, if◌then◌else◌}
 use Rattle.std.specs.Bool.{MatchBool}
 use Rattle.std.specs.List.{list_any}
-use Rattle.turn_client_proto_connection.specs.Channel.Permission.Api.ClientAuthErrors.{LongTermClientAuthError, NoMemory}
-use Rattle.turn_client_proto_connection.specs.Channel.Permission.Api.ClientValidations.{LongTermClientValidation, ResendRequest, Validated}
-use Rattle.turn_client_proto_connection.specs.Channel.Permission.Api.Handling.{is_awaited, is_response}
-use Rattle.stun_types.specs.Attributes.{kind_at}
-use Rattle.stun_types.specs.Grammar.{number_at}
-use Rattle.stun_types.specs.Registry.{allocation_mismatch_code}
-use Rattle.stun_types.specs.Types.{class_of, method_of}
-use Rattle.turn_types.specs.TurnRegistry.{channel_bind_method, connect_method, create_permission_method, refresh_method}
-use Rattle.turn_client_proto_connection.specs.Allocation.Refreshing.{ends_by, renewed}
-use Rattle.turn_client_proto_connection.specs.Channel.Awaited.{all_asked_too, asked_by}
-use Rattle.turn_client_proto_connection.specs.Channel.declared.awaited.Asked.{Asked}
-use Rattle.turn_client_proto_connection.specs.Channel.declared.awaited.Asked.TheVariants.{ChannelRenewal, Lifetime, NewChannel, NewConnection, NewPermission, Renewal}
-use Rattle.turn_client_proto_request.specs.ToldRequests.{IsLawfulRequest}
-use Rattle.turn_client_proto_request.specs.declared.request.TurnRequest.{TurnRequest}
-use Rattle.turn_client_proto_request.specs.declared.request.TurnRequest.TheVariants.{ChannelBind, Connect, CreatePermission, Refresh}
+use Rattle.stun_proto_client.specs.declared.error.LongTermClientAuthError.{LongTermClientAuthError}
+use Rattle.stun_proto_client.specs.declared.error.LongTermClientAuthError.TheVariants.{NoMemory}
+use Rattle.stun_proto_client.specs.declared.validation.LongTermClientValidation.{LongTermClientValidation}
+use Rattle.stun_proto_client.specs.declared.validation.LongTermClientValidation.TheVariants.{ResendRequest, Validated}
+use Rattle.stun_proto_agent.specs.Handling.{is_awaited, is_response}
+use Rattle.stun_types_wire.specs.Attributes.{kind_at}
+use Rattle.stun_types_wire.specs.Grammar.{number_at}
+use Rattle.stun_types_wire.specs.Registry.{allocation_mismatch_code}
+use Rattle.stun_types_wire.specs.Types.{class_of, method_of}
+use Rattle.turn_types_attributes.specs.TurnRegistry.{channel_bind_method, connect_method, create_permission_method, refresh_method}
+use Rattle.turn_client_proto_allocation.specs.Refreshing.{ends_by, renewed}
+use Rattle.turn_client_proto_allocation.specs.Requested.{all_asked_too, asked_by}
+use Rattle.turn_client_proto_allocation.specs.declared.requested.Asked.{Asked}
+use Rattle.turn_client_proto_allocation.specs.declared.requested.Asked.TheVariants.{ChannelRenewal, Lifetime, NewChannel, NewConnection, NewPermission, Renewal}
+use Rattle.turn_client_proto_messages.specs.ToldRequests.{IsLawfulRequest}
+use Rattle.turn_client_proto_messages.specs.declared.request.TurnRequest.{TurnRequest}
+use Rattle.turn_client_proto_messages.specs.declared.request.TurnRequest.TheVariants.{ChannelBind, Connect, CreatePermission, Refresh}
 use Rattle.turn_client_proto_connection.specs.Told.{answered as connections_answered, is_connect, told_of}
-use Rattle.turn_client_proto_response.specs.Told.{connection_told, first_code, is_code, lifetime_told}
+use Rattle.turn_client_proto_messages.specs.Told.{connection_told, first_code, is_code, lifetime_told}
 use Rattle.turn_client_proto_core.specs.Asking.{asked}
 use Rattle.turn_client_proto_core.specs.Attempting.{IsAttemptTaken, is_attempt}
 use Rattle.turn_client_proto_core.specs.Binding.{IsBindResponded}

@@ -4,15 +4,16 @@ ghost use Rattle.std.specs.Prelude.{◌≡◌, IfOk, OnOk, OnErr};
 ghost use Rattle.turn_client_proto_core.specs.Allocating.{IsAllocated, allocated, phase_by};
 ghost use Rattle.turn_client_proto_core.specs.Ending.{IsUnderWay};
 
+use crate::ending::end;
 use crate::protocol::{Phase, Protocol};
-use stun_types::NoMemory;
-use stun_types::message::Message;
-use turn_client_proto_connection::allocation::allocation::Allocation;
-use turn_client_proto_connection::allocation::listed::Allocations;
-use turn_client_proto_connection::channel::permission::api::Instant;
-use turn_client_proto_response::granting::{Terms, allocations_of};
-use turn_client_proto_response::telling::{tell_created, tell_without};
-use turn_client_proto_response::told::lifetime_told;
+use stun_types_base::instant::Instant;
+use stun_types_base::memory::NoMemory;
+use stun_types_message::parsed::Message;
+use turn_client_proto_allocation::allocation::Allocation;
+use turn_client_proto_allocation::listed::Allocations;
+use turn_client_proto_messages::granting::{Terms, allocations_of};
+use turn_client_proto_messages::telling::{tell_created, tell_without};
+use turn_client_proto_messages::told::lifetime_told;
 
 /// How far a client is that has these allocations.
 fn phase_by(allocations: &[Allocation]) -> Phase
@@ -37,7 +38,7 @@ impl Protocol {
         ensures err { OnErr result (IsUnderWay self.old self.new) }
     {
         let Some(lifetime) = lifetime_told(message) else {
-            self.end()?;
+            end(self)?;
             return Ok(true);
         };
         let terms = Terms {

@@ -6,12 +6,12 @@ ghost use Rattle.turn_client_proto_core.specs.Numbering.{IsUnused};
 
 use crate::protocol::Protocol;
 use std::net::SocketAddr;
-use stun_types::NoMemory;
-use stun_types::message::TransactionId;
-use turn_client_proto_connection::channel::permission::api::Instant;
-use turn_client_proto_connection::channel::permission::api::agent::StunError;
-use turn_client_proto_request::queued::Queued;
-use turn_client_proto_request::request::TurnRequest;
+use stun_proto_agent::error::StunError;
+use stun_types_base::instant::Instant;
+use stun_types_base::memory::NoMemory;
+use stun_types_wire::transaction::TransactionId;
+use turn_client_proto_messages::queued::Queued;
+use turn_client_proto_messages::request::TurnRequest;
 
 impl Protocol {
     /// Makes a request of this number: it is outstanding from now on, and waits to be sent from the

@@ -4,14 +4,17 @@ ghost use Rattle.std.specs.Prelude.{◌≡◌, IfOk, OnErr, OnOk, true};
 ghost use Rattle.turn_client_proto_core.specs.Attempting.{IsAttemptTaken, after_attempt, answering, is_attempt};
 
 use crate::protocol::Protocol;
-use stun_types::message::{Message, MessageClass, TransactionId};
-use stun_types::{AddressFamily, NoMemory};
+use stun_types_base::family::AddressFamily;
+use stun_types_base::memory::NoMemory;
+use stun_types_message::parsed::Message;
+use stun_types_wire::class::MessageClass;
+use stun_types_wire::transaction::TransactionId;
 use turn_client_proto_connection::attempts::{begin, is_joining};
-use turn_client_proto_connection::channel::permission::asking::place_of;
-use turn_client_proto_request::answer::AttemptAnswer;
-use turn_client_proto_request::queued::Queued;
-use turn_client_proto_response::told::{connection_told, peer_told};
-use turn_types::message::CONNECTION_ATTEMPT;
+use turn_client_proto_messages::answer::AttemptAnswer;
+use turn_client_proto_messages::queued::Queued;
+use turn_client_proto_messages::told::{connection_told, peer_told};
+use turn_client_proto_peers::permission::asking::place_of;
+use turn_types_attributes::registry::CONNECTION_ATTEMPT;
 
 impl Protocol {
     /// The response to the server's request of a number waits to be sent. `Err` changes nothing.

@@ -1,11 +1,11 @@
 //! What a client that has not allocated makes of a message (RFC 8656, sections 7.3 and 7.4).
 
 ghost use Rattle.std.specs.Prelude.{◌≡◌, ◌++◌, ◌∷◌, [], ℕ, IfOk, OnOk, OnErr, Some, None, true};
-ghost use Rattle.turn_client_proto_connection.specs.Channel.Permission.Api.Handling.{is_awaited, is_response};
-ghost use Rattle.stun_types.specs.Attributes.{kind_at};
-ghost use Rattle.stun_types.specs.Grammar.{number_at};
-ghost use Rattle.stun_types.specs.Types.{class_of};
-ghost use Rattle.turn_client_proto_request.specs.declared.request.TurnRequest.TheVariants.{Allocate};
+ghost use Rattle.stun_proto_agent.specs.Handling.{is_awaited, is_response};
+ghost use Rattle.stun_types_wire.specs.Attributes.{kind_at};
+ghost use Rattle.stun_types_wire.specs.Grammar.{number_at};
+ghost use Rattle.stun_types_wire.specs.Types.{class_of};
+ghost use Rattle.turn_client_proto_messages.specs.declared.request.TurnRequest.TheVariants.{Allocate};
 ghost use Rattle.turn_client_proto_core.specs.Asking.{asked};
 ghost use Rattle.turn_client_proto_core.specs.Authenticating.{IsAccepted, IsAllocateAnswered, IsChallenged, IsErrorAnswered, IsFirstJudged, IsSignedJudged, IsTurnedAway, allocates_again, allocates_other, family_left, numbers_sent, other_family};
 ghost use Rattle.turn_client_proto_core.specs.Ending.{IsUnderWay};
@@ -13,20 +13,24 @@ ghost use Rattle.turn_client_proto_core.specs.Numbering.{IsNextNumber, after_num
 ghost use Rattle.turn_client_proto_core.specs.Receiving.{GrowsBy, GrowsFirst, GrowsSigned, IsFollowed};
 ghost use Rattle.turn_client_proto_core.specs.Responding.{accepted, answered, is_tired};
 
+use crate::ending::end;
 use crate::protocol::{Phase, Protocol};
 use std::alloc::Global;
 use std::mem;
-use stun_types::message::{Message, MessageClass, TransactionId};
-use stun_types::registry::ADDRESS_FAMILY_NOT_SUPPORTED;
-use stun_types::{AddressFamily, ListOf, NoMemory};
-use turn_client_proto_connection::channel::permission::api::Instant;
-use turn_client_proto_connection::channel::permission::api::auth::{
-    LongTermClientAuthError, LongTermClientValidation,
-};
-use turn_client_proto_connection::channel::permission::api::event::TurnEvent;
-use turn_client_proto_connection::channel::permission::api::families::RequestedFamilies;
-use turn_client_proto_request::request::TurnRequest;
-use turn_client_proto_response::told::first_code;
+use stun_proto_client::error::LongTermClientAuthError;
+use stun_proto_client::validation::LongTermClientValidation;
+use stun_types_base::family::AddressFamily;
+use stun_types_base::instant::Instant;
+use stun_types_base::list::ListOf;
+use stun_types_base::memory::NoMemory;
+use stun_types_message::parsed::Message;
+use stun_types_wire::class::MessageClass;
+use stun_types_wire::registry::ADDRESS_FAMILY_NOT_SUPPORTED;
+use stun_types_wire::transaction::TransactionId;
+use turn_client_proto_api::event::TurnEvent;
+use turn_client_proto_api::families::RequestedFamilies;
+use turn_client_proto_messages::request::TurnRequest;
+use turn_client_proto_messages::told::first_code;
 
 /// The family that is left where the server has no addresses of IPv4, and both were asked for.
 fn other_family(families: RequestedFamilies) -> Option<AddressFamily>
@@ -76,7 +80,7 @@ impl Protocol {
             return Ok(false);
         }
         if self.is_tired() {
-            self.end()?;
+            end(self)?;
             return Ok(true);
         }
         self.allocate_again(now)?;
@@ -94,7 +98,7 @@ impl Protocol {
             return Ok(false);
         }
         self.answer(message)?;
-        self.end()?;
+        end(self)?;
         Ok(true)
     }
 
@@ -112,7 +116,7 @@ impl Protocol {
         match self.auth.validate_incoming_message(message) {
             Ok(LongTermClientValidation::ResendRequest(_)) => self.answer_challenge(message, now),
             Ok(LongTermClientValidation::Validated(_)) => {
-                self.end()?;
+                end(self)?;
                 Ok(false)
             }
             Err(LongTermClientAuthError::NoMemory) => Err(NoMemory),
@@ -135,7 +139,7 @@ impl Protocol {
             Ok(LongTermClientValidation::ResendRequest(_)) => self.answer_challenge(message, now),
             Ok(LongTermClientValidation::Validated(_)) => self.take_response(message, now),
             Err(LongTermClientAuthError::IntegrityFailed(_)) => {
-                self.end()?;
+                end(self)?;
                 Ok(true)
             }
             Err(LongTermClientAuthError::NoMemory) => Err(NoMemory),
@@ -188,7 +192,7 @@ impl Protocol {
         ensures err { OnErr result (IsUnderWay self.old self.new) }
     {
         let Some(family) = self.family_left(message) else {
-            self.end()?;
+            end(self)?;
             return Ok(true);
         };
         self.allocate_other(family, now)?;

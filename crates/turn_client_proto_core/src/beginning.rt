@@ -1,7 +1,7 @@
 //! How a client begins.
 
 ghost use Rattle.std.specs.Prelude.{◌≡◌, ◌≤◌, length};
-ghost use Rattle.stun_types.specs.Registry.{longest_username};
+ghost use Rattle.stun_types_wire.specs.Registry.{longest_username};
 ghost use Rattle.turn_client_proto_core.specs.Beginning.{IsNew};
 
 use crate::protocol::{Phase, Protocol};
@@ -9,11 +9,11 @@ use rand_chacha::ChaCha20Rng;
 use rand_core::SeedableRng;
 use std::alloc::Global;
 use std::net::SocketAddr;
-use stun_types::TransportType;
-use turn_client_proto_connection::allocation::listed::Allocations;
-use turn_client_proto_connection::channel::permission::api::config::TurnConfig;
-use turn_client_proto_queue::queue::QueueOf;
-use turn_client_proto_request::signer::Signer;
+use stun_types_base::transport::TransportType;
+use turn_client_proto_allocation::listed::Allocations;
+use turn_client_proto_api::config::TurnConfig;
+use turn_client_proto_api::queue::QueueOf;
+use turn_client_proto_messages::signer::Signer;
 
 impl Protocol {
     /// A client with these settings that nothing was sent by, and nothing asked of, yet. It keeps

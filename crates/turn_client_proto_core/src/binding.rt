@@ -2,10 +2,10 @@
 
 ghost use Rattle.std.specs.Prelude.{◌≡◌, ◌<◌, ◌++◌, ℕ, ◌∷◌, [], IfOk, IfSome, OnErr, OnOk, Some, length, position, slice_get, slice_set};
 ghost use Rattle.std.specs.Net.Socket.{socket_ip};
-ghost use Rattle.turn_client_proto_connection.specs.Channel.Permission.Api.declared.event.TurnEvent.TheVariants.{PermissionCreated, PermissionCreateFailed};
-ghost use Rattle.turn_client_proto_connection.specs.Channel.Awaited.{asked_by, awaits_reply};
-ghost use Rattle.turn_client_proto_request.specs.ToldRequests.{IsLawfulRequest};
-ghost use Rattle.turn_client_proto_request.specs.declared.request.TurnRequest.TheVariants.{ChannelBind};
+ghost use Rattle.turn_client_proto_api.specs.declared.event.TurnEvent.TheVariants.{PermissionCreated, PermissionCreateFailed};
+ghost use Rattle.turn_client_proto_allocation.specs.Requested.{asked_by, awaits_reply};
+ghost use Rattle.turn_client_proto_messages.specs.ToldRequests.{IsLawfulRequest};
+ghost use Rattle.turn_client_proto_messages.specs.declared.request.TurnRequest.TheVariants.{ChannelBind};
 ghost use Rattle.turn_client_proto_core.specs.Asking.{asked};
 ghost use Rattle.turn_client_proto_core.specs.Binding.{IsBindAnswered, IsBindResponded, IsBoundFor, IsUnboundFor, asking_channel, permission_beside, permission_with, permitted_with, told_with, turned_down_with, unbound};
 ghost use Rattle.turn_client_proto_core.specs.Ending.{IsUnderWay};
@@ -13,62 +13,66 @@ ghost use Rattle.turn_client_proto_core.specs.Numbering.{IsNextNumber, IsUnused,
 
 use crate::protocol::Protocol;
 use std::net::{IpAddr, SocketAddr};
-use stun_types::message::{Message, MessageClass, TransactionId};
-use stun_types::{AddressFamily, NoMemory, TransportType};
-use turn_client_proto_connection::allocation::channel::ChannelId;
-use turn_client_proto_connection::channel::awaited::{Asked, asked_by};
-use turn_client_proto_connection::channel::binding::{ask, barring, forget, pending_channel};
-use turn_client_proto_connection::channel::free::free_number;
-use turn_client_proto_connection::channel::granted;
-use turn_client_proto_connection::channel::permission::api::Instant;
-use turn_client_proto_connection::channel::permission::api::error::BindChannelError;
-use turn_client_proto_connection::channel::permission::api::event::TurnEvent;
-use turn_client_proto_connection::channel::permission::{asking, granted as permitted, one};
-use turn_client_proto_request::laws::requests_are_lawful;
-use turn_client_proto_request::request::TurnRequest;
+use stun_types_base::family::AddressFamily;
+use stun_types_base::instant::Instant;
+use stun_types_base::memory::NoMemory;
+use stun_types_base::transport::TransportType;
+use stun_types_message::parsed::Message;
+use stun_types_wire::class::MessageClass;
+use stun_types_wire::transaction::TransactionId;
+use turn_client_proto_allocation::channel::ChannelId;
+use turn_client_proto_allocation::requested::{Asked, asked_by};
+use turn_client_proto_api::error::BindChannelError;
+use turn_client_proto_api::event::TurnEvent;
+use turn_client_proto_messages::laws::requests_are_lawful;
+use turn_client_proto_messages::request::TurnRequest;
+use turn_client_proto_peers::channel::binding::{ask, barring, forget, pending_channel};
+use turn_client_proto_peers::channel::free::free_number;
+use turn_client_proto_peers::channel::granted;
+use turn_client_proto_peers::permission::{asking, granted as permitted, one, permit};
+
+/// Asks for a channel to a peer (RFC 8656, sections 12 and 12.1), in the first allocation of a
+/// transport whose address is of the same family as the peer's, under the least number that is
+/// free; and for a permission for its address, where none stands there or was asked for. It is
+/// refused, by the first that holds, with `NoAllocation` where there is no such allocation, or
+/// its time is over: then it is marked as expired; `AlreadyExists` where a channel to the peer
+/// stands there (one that was asked for is no bar); `ExpiredChannelExists` where one to the peer
+/// has lapsed there, until and at the moment that it tells; `NoAllocation` where the client has
+/// ended; `NoChannel` where no number is free; `NoMemory`. Nothing changes but that mark, and the
+/// words that were drawn where memory is refused.
+pub fn bind_channel(
+    protocol: &mut Protocol,
+    transport: TransportType,
+    peer: SocketAddr,
+    now: Instant,
+) -> Result<(), BindChannelError>
+    ensures { IsBindAnswered protocol.old transport peer now result protocol.new }
+{
+    let family = AddressFamily::from(&peer);
+    let Some(place) = asking::place_of(protocol.allocations.as_slice(), transport, family) else {
+        return Err(BindChannelError::NoAllocation);
+    };
+    let allocation = &protocol.allocations.as_slice()[place];
+    if one::is_past(allocation, now) {
+        asking::mark(&mut protocol.allocations, place);
+        return Err(BindChannelError::NoAllocation);
+    }
+    if let Some(error) = barring(allocation, peer, now) {
+        return Err(error);
+    }
+    if !protocol.is_authenticated() {
+        return Err(BindChannelError::NoAllocation);
+    }
+    let Some(channel) = free_number(protocol.allocations.as_slice(), now) else {
+        return Err(BindChannelError::NoChannel);
+    };
+    match protocol.ask_channel(place, channel, peer, now) {
+        Ok(()) => Ok(()),
+        Err(NoMemory) => Err(BindChannelError::NoMemory),
+    }
+}
 
 impl Protocol {
-    /// Asks for a channel to a peer (RFC 8656, sections 12 and 12.1), in the first allocation of a
-    /// transport whose address is of the same family as the peer's, under the least number that is
-    /// free; and for a permission for its address, where none stands there or was asked for. It is
-    /// refused, by the first that holds, with `NoAllocation` where there is no such allocation, or
-    /// its time is over: then it is marked as expired; `AlreadyExists` where a channel to the peer
-    /// stands there (one that was asked for is no bar); `ExpiredChannelExists` where one to the peer
-    /// has lapsed there, until and at the moment that it tells; `NoAllocation` where the client has
-    /// ended; `NoChannel` where no number is free; `NoMemory`. Nothing changes but that mark, and the
-    /// words that were drawn where memory is refused.
-    pub fn bind_channel(
-        &mut self,
-        transport: TransportType,
-        peer: SocketAddr,
-        now: Instant,
-    ) -> Result<(), BindChannelError>
-        ensures { IsBindAnswered self.old transport peer now result self.new }
-    {
-        let family = AddressFamily::from(&peer);
-        let Some(place) = asking::place_of(self.allocations.as_slice(), transport, family) else {
-            return Err(BindChannelError::NoAllocation);
-        };
-        let allocation = &self.allocations.as_slice()[place];
-        if one::is_past(allocation, now) {
-            asking::mark(&mut self.allocations, place);
-            return Err(BindChannelError::NoAllocation);
-        }
-        if let Some(error) = barring(allocation, peer, now) {
-            return Err(error);
-        }
-        if !self.is_authenticated() {
-            return Err(BindChannelError::NoAllocation);
-        }
-        let Some(channel) = free_number(self.allocations.as_slice(), now) else {
-            return Err(BindChannelError::NoChannel);
-        };
-        match self.ask_channel(place, channel, peer, now) {
-            Ok(()) => Ok(()),
-            Err(NoMemory) => Err(BindChannelError::NoMemory),
-        }
-    }
-
     /// Asks for a channel in the allocation at a place, and for the permission that it needs.
     /// Where memory is refused, nothing changes but the words that were drawn.
     fn ask_channel(
@@ -195,13 +199,13 @@ impl Protocol {
         ensures err { OnErr result (IsUnderWay self.old self.new) }
     {
         let allocation = &self.allocations.as_slice()[place];
-        let Some(ip) = granted::permission_asked(allocation, number) else {
+        let Some(ip) = permit::permission_asked(allocation, number) else {
             return Ok(());
         };
         self.events
             .push_back(TurnEvent::PermissionCreated(transport, ip))?;
         let allocations = self.allocations.as_mut_slice();
-        granted::permit(self.alloc, allocations, place, ip, number, now)
+        permit::permit(self.alloc, allocations, place, ip, number, now)
     }
 
     /// The request of this number was refused: the channel that it asked for and its permission go,
@@ -247,7 +251,7 @@ impl Protocol {
         ensures err { OnErr result (IsUnderWay self.old self.new) }
     {
         let allocation = &self.allocations.as_slice()[place];
-        let beside = granted::permission_asked(allocation, number);
+        let beside = permit::permission_asked(allocation, number);
         self.events
             .push_back(TurnEvent::ChannelCreateFailed(transport, peer))?;
         granted::turn_down(self.allocations.as_mut_slice(), number);

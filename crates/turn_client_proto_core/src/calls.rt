@@ -4,7 +4,16 @@ ghost use Rattle.std.specs.Prelude.{◌≡◌, ◌++◌, [], IfNone, option_to_l
 ghost use Rattle.turn_client_proto_core.specs.Deleting.{is_authenticated};
 
 use crate::protocol::{Phase, Protocol};
-use turn_client_proto_connection::channel::permission::api::event::TurnEvent;
+use turn_client_proto_api::event::TurnEvent;
+
+/// The event that has waited longest.
+pub fn poll_event(protocol: &mut Protocol) -> Option<TurnEvent>
+    ensures event { protocol.old.events ≡ option_to_list result ++ protocol.new.events }
+    ensures none { IfNone result (protocol.old.events ≡ []) }
+    ensures others { protocol.new ≡ record protocol.old { events = protocol.new.events } }
+{
+    protocol.events.pop_front()
+}
 
 impl Protocol {
     /// Whether the server has allocated, and the client has not ended.
@@ -12,14 +21,5 @@ impl Protocol {
         ensures { result ≡ is_authenticated self.now.phase }
     {
         matches!(self.phase, Phase::Authenticated)
-    }
-
-    /// The event that has waited longest.
-    pub fn poll_event(&mut self) -> Option<TurnEvent>
-        ensures event { self.old.events ≡ option_to_list result ++ self.new.events }
-        ensures none { IfNone result (self.old.events ≡ []) }
-        ensures others { self.new ≡ record self.old { events = self.new.events } }
-    {
-        self.events.pop_front()
     }
 }

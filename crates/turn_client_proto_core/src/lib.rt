@@ -17,11 +17,3 @@ pub mod protocol;
 pub mod receiving;
 pub mod standing;
 pub mod transactions;
-
-// What stands above this crate has these through it.
-pub use turn_client_proto_connection as connection;
-pub use turn_client_proto_connection::channel::permission;
-pub use turn_client_proto_connection::channel::permission::api;
-pub use turn_client_proto_connection::channel::permission::api::{Instant, agent, laws};
-pub use turn_client_proto_connection::{allocation, channel};
-pub use turn_client_proto_request as request;

@@ -2,14 +2,14 @@
 
 ghost use Rattle.std.specs.Prelude.{◌≡◌, ◌+◌, ◌%◌, ◌^◌, IfOk, OnErr};
 ghost use Rattle.std.specs.FinMap as finite;
-ghost use Rattle.turn_client_proto_connection.specs.Allocation.Awaited.{has_number};
+ghost use Rattle.turn_client_proto_allocation.specs.Awaited.{has_number};
 ghost use Rattle.turn_client_proto_core.specs.Numbering.{AreAllTaken, IsFirstFree, IsNextNumber, after_draw, after_number, behind, drawn, is_taken};
 
 use crate::protocol::Protocol;
 use rand_chacha::ChaCha20Rng;
 use rand_core::utils::NextWord;
-use stun_types::NoMemory;
-use stun_types::message::TransactionId;
+use stun_types_base::memory::NoMemory;
+use stun_types_wire::transaction::TransactionId;
 
 /// How many numbers there are.
 const NUMBERS: u128 = 1 << 96;

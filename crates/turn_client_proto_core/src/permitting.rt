@@ -2,10 +2,10 @@
 //! section 10).
 
 ghost use Rattle.std.specs.Prelude.{◌≡◌, ◌<◌, ℕ, ◌∷◌, [], List, IfOk, IfSome, OnErr, OnOk, length, slice_get, slice_set};
-ghost use Rattle.turn_client_proto_connection.specs.Channel.Permission.Asking.{asking};
-ghost use Rattle.turn_client_proto_connection.specs.Channel.Awaited.{asked_by};
-ghost use Rattle.turn_client_proto_request.specs.ToldRequests.{IsLawfulRequest};
-ghost use Rattle.turn_client_proto_request.specs.declared.request.TurnRequest.TheVariants.{CreatePermission};
+ghost use Rattle.turn_client_proto_peers.specs.Permission.Asking.{asking};
+ghost use Rattle.turn_client_proto_allocation.specs.Requested.{asked_by};
+ghost use Rattle.turn_client_proto_messages.specs.ToldRequests.{IsLawfulRequest};
+ghost use Rattle.turn_client_proto_messages.specs.declared.request.TurnRequest.TheVariants.{CreatePermission};
 ghost use Rattle.turn_client_proto_core.specs.Asking.{asked};
 ghost use Rattle.turn_client_proto_core.specs.Ending.{IsUnderWay};
 ghost use Rattle.turn_client_proto_core.specs.Numbering.{IsNextNumber, IsUnused, after_number};
@@ -13,54 +13,58 @@ ghost use Rattle.turn_client_proto_core.specs.Permitting.{IsGrantedFor, IsPermis
 
 use crate::protocol::Protocol;
 use std::net::IpAddr;
-use stun_types::message::{Message, MessageClass, TransactionId};
-use stun_types::{AddressFamily, NoMemory, TransportType};
-use turn_client_proto_connection::allocation::permission::PendingPermission;
-use turn_client_proto_connection::channel::awaited::{Asked, asked_by};
-use turn_client_proto_connection::channel::granted::permit;
-use turn_client_proto_connection::channel::permission::api::Instant;
-use turn_client_proto_connection::channel::permission::api::error::CreatePermissionError;
-use turn_client_proto_connection::channel::permission::api::event::TurnEvent;
-use turn_client_proto_connection::channel::permission::{asking, granted, one};
-use turn_client_proto_request::laws::requests_are_lawful;
-use turn_client_proto_request::request::TurnRequest;
+use stun_types_base::family::AddressFamily;
+use stun_types_base::instant::Instant;
+use stun_types_base::memory::NoMemory;
+use stun_types_base::transport::TransportType;
+use stun_types_message::parsed::Message;
+use stun_types_wire::class::MessageClass;
+use stun_types_wire::transaction::TransactionId;
+use turn_client_proto_allocation::permission::PendingPermission;
+use turn_client_proto_allocation::requested::{Asked, asked_by};
+use turn_client_proto_api::error::CreatePermissionError;
+use turn_client_proto_api::event::TurnEvent;
+use turn_client_proto_messages::laws::requests_are_lawful;
+use turn_client_proto_messages::request::TurnRequest;
+use turn_client_proto_peers::permission::permit::permit;
+use turn_client_proto_peers::permission::{asking, granted, one};
+
+/// Asks for a permission for an address (RFC 8656, section 10.1), in the first allocation of a
+/// transport whose address is of the same family. Refused with `NoAllocation` where there is
+/// none, or its time is over: then it is marked as expired; with `AlreadyExists` where a
+/// permission for the address stands there, or was asked for; and with `NoAllocation` where the
+/// client has ended. Where memory is refused, `NoMemory`, and nothing changes but the words
+/// that were drawn.
+pub fn create_permission(
+    protocol: &mut Protocol,
+    transport: TransportType,
+    ip: IpAddr,
+    now: Instant,
+) -> Result<(), CreatePermissionError>
+    ensures { IsPermissionAnswered protocol.old transport ip now result protocol.new }
+{
+    let family = AddressFamily::from(&ip);
+    let Some(place) = asking::place_of(protocol.allocations.as_slice(), transport, family) else {
+        return Err(CreatePermissionError::NoAllocation);
+    };
+    let allocation = &protocol.allocations.as_slice()[place];
+    if one::is_past(allocation, now) {
+        asking::mark(&mut protocol.allocations, place);
+        return Err(CreatePermissionError::NoAllocation);
+    }
+    if one::knows(allocation, ip) {
+        return Err(CreatePermissionError::AlreadyExists);
+    }
+    if !protocol.is_authenticated() {
+        return Err(CreatePermissionError::NoAllocation);
+    }
+    match protocol.ask_permission(place, ip, now) {
+        Ok(()) => Ok(()),
+        Err(NoMemory) => Err(CreatePermissionError::NoMemory),
+    }
+}
 
 impl Protocol {
-    /// Asks for a permission for an address (RFC 8656, section 10.1), in the first allocation of a
-    /// transport whose address is of the same family. Refused with `NoAllocation` where there is
-    /// none, or its time is over: then it is marked as expired; with `AlreadyExists` where a
-    /// permission for the address stands there, or was asked for; and with `NoAllocation` where the
-    /// client has ended. Where memory is refused, `NoMemory`, and nothing changes but the words
-    /// that were drawn.
-    pub fn create_permission(
-        &mut self,
-        transport: TransportType,
-        ip: IpAddr,
-        now: Instant,
-    ) -> Result<(), CreatePermissionError>
-        ensures { IsPermissionAnswered self.old transport ip now result self.new }
-    {
-        let family = AddressFamily::from(&ip);
-        let Some(place) = asking::place_of(self.allocations.as_slice(), transport, family) else {
-            return Err(CreatePermissionError::NoAllocation);
-        };
-        let allocation = &self.allocations.as_slice()[place];
-        if one::is_past(allocation, now) {
-            asking::mark(&mut self.allocations, place);
-            return Err(CreatePermissionError::NoAllocation);
-        }
-        if one::knows(allocation, ip) {
-            return Err(CreatePermissionError::AlreadyExists);
-        }
-        if !self.is_authenticated() {
-            return Err(CreatePermissionError::NoAllocation);
-        }
-        match self.ask_permission(place, ip, now) {
-            Ok(()) => Ok(()),
-            Err(NoMemory) => Err(CreatePermissionError::NoMemory),
-        }
-    }
-
     /// Asks for a permission for an address in the allocation at a place. Where memory is refused,
     /// nothing changes but the words that were drawn.
     fn ask_permission(&mut self, place: usize, ip: IpAddr, now: Instant) -> Result<(), NoMemory>

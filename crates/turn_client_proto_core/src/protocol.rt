@@ -1,23 +1,24 @@
 //! What a TURN client keeps.
 
 ghost use Rattle.std.specs.Prelude.{◌≡◌};
-ghost use Rattle.turn_client_proto_connection.specs.Allocation.Awaited.{has_number};
+ghost use Rattle.turn_client_proto_allocation.specs.Awaited.{has_number};
 ghost use Rattle.turn_client_proto_core.specs.Numbering.{awaits};
 
 use rand_chacha::ChaCha20Rng;
 use std::alloc::Global;
 use std::net::SocketAddr;
-use stun_types::message::TransactionId;
-use stun_types::{ListOf, TransportType};
-use turn_client_proto_connection::allocation::listed::Allocations;
-use turn_client_proto_connection::allocation::numbers::has_number;
-use turn_client_proto_connection::channel::permission::api::Instant;
-use turn_client_proto_connection::channel::permission::api::agent::StunAgent;
-use turn_client_proto_connection::channel::permission::api::event::TurnEvent;
-use turn_client_proto_connection::channel::permission::api::families::RequestedFamilies;
-use turn_client_proto_queue::queue::QueueOf;
-use turn_client_proto_request::queued::Queued;
-use turn_client_proto_request::signer::Signer;
+use stun_proto_agent::agent::StunAgent;
+use stun_types_base::instant::Instant;
+use stun_types_base::list::ListOf;
+use stun_types_base::transport::TransportType;
+use stun_types_wire::transaction::TransactionId;
+use turn_client_proto_allocation::listed::Allocations;
+use turn_client_proto_allocation::numbers::has_number;
+use turn_client_proto_api::event::TurnEvent;
+use turn_client_proto_api::families::RequestedFamilies;
+use turn_client_proto_api::queue::QueueOf;
+use turn_client_proto_messages::queued::Queued;
+use turn_client_proto_messages::signer::Signer;
 
 /// How far a client is.
 #[derive(Debug, Drop)]

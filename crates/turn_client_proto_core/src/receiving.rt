@@ -5,10 +5,11 @@ ghost use Rattle.turn_client_proto_core.specs.Ending.{HasFailed, IsUnderWay};
 ghost use Rattle.turn_client_proto_core.specs.Receiving.{IsHeard, MayGrow};
 
 use crate::protocol::{Phase, Protocol};
-use stun_types::NoMemory;
-use stun_types::message::{Message, MessageClass};
-use turn_client_proto_connection::allocation::numbers::has_number;
-use turn_client_proto_connection::channel::permission::api::Instant;
+use stun_types_base::instant::Instant;
+use stun_types_base::memory::NoMemory;
+use stun_types_message::parsed::Message;
+use stun_types_wire::class::MessageClass;
+use turn_client_proto_allocation::numbers::has_number;
 
 impl Protocol {
     /// A message came from the server at a moment. Answers whether it was for the client. Where

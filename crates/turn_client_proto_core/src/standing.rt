@@ -1,28 +1,30 @@
 //! What a client that has allocated makes of a message (RFC 8656, section 8.3).
 
 ghost use Rattle.std.specs.Prelude.{◌≡◌, ℕ, IfOk, OnOk, OnErr, Some, position, true};
-ghost use Rattle.stun_types.specs.Grammar.{number_at};
+ghost use Rattle.stun_types_wire.specs.Grammar.{number_at};
 ghost use Rattle.turn_client_proto_core.specs.Ending.{IsUnderWay};
 ghost use Rattle.turn_client_proto_core.specs.Numbering.{IsNextNumber};
 ghost use Rattle.turn_client_proto_core.specs.Receiving.{GrowsBy, GrowsStanding, IsFollowed};
 ghost use Rattle.turn_client_proto_core.specs.Standing.{IsConnectResponded, IsJudgedStanding, IsRechallenged, IsTakenUp, after_refresh, asks_again, counts, deallocated, is_refreshed, refreshed, request_for};
-ghost use Rattle.turn_client_proto_connection.specs.Channel.Awaited.{awaits_reply};
-ghost use Rattle.turn_client_proto_request.specs.ToldRequests.{IsLawfulRequest};
+ghost use Rattle.turn_client_proto_allocation.specs.Requested.{awaits_reply};
+ghost use Rattle.turn_client_proto_messages.specs.ToldRequests.{IsLawfulRequest};
 
+use crate::ending::end;
 use crate::protocol::{Phase, Protocol};
-use stun_types::NoMemory;
-use stun_types::message::{Message, MessageClass, TransactionId};
-use stun_types::registry::ALLOCATION_MISMATCH;
-use turn_client_proto_connection::channel::awaited::{Asked, ask_too, asked_by};
-use turn_client_proto_connection::channel::permission::api::Instant;
-use turn_client_proto_connection::channel::permission::api::auth::{
-    LongTermClientAuthError, LongTermClientValidation,
-};
+use stun_proto_client::error::LongTermClientAuthError;
+use stun_proto_client::validation::LongTermClientValidation;
+use stun_types_base::instant::Instant;
+use stun_types_base::memory::NoMemory;
+use stun_types_message::parsed::Message;
+use stun_types_wire::class::MessageClass;
+use stun_types_wire::registry::ALLOCATION_MISMATCH;
+use stun_types_wire::transaction::TransactionId;
+use turn_client_proto_allocation::requested::{Asked, ask_too, asked_by};
 use turn_client_proto_connection::told::answer;
-use turn_client_proto_request::laws::requests_are_lawful;
-use turn_client_proto_request::request::TurnRequest;
-use turn_client_proto_response::told::{connection_told, first_code, lifetime_told};
-use turn_types::message::{CHANNEL_BIND, CONNECT, CREATE_PERMISSION, REFRESH};
+use turn_client_proto_messages::laws::requests_are_lawful;
+use turn_client_proto_messages::request::TurnRequest;
+use turn_client_proto_messages::told::{connection_told, first_code, lifetime_told};
+use turn_types_attributes::registry::{CHANNEL_BIND, CONNECT, CREATE_PERMISSION, REFRESH};
 
 /// Whether a REFRESH is granted by its response: by a success, or by the error that there is no
 /// allocation.
@@ -76,7 +78,7 @@ impl Protocol {
         ensures err { OnErr result (IsUnderWay self.old self.new) }
     {
         if self.is_tired() {
-            self.end()?;
+            end(self)?;
             return Ok(true);
         }
         if !self.is_awaited(message) {

@@ -2,12 +2,12 @@
 //! many challenges are answered in a row (RFC 8489, sections 6.3 and 9.2.5).
 
 ghost use Rattle.std.specs.Prelude.{◌≡◌, OnOk, OnErr, false};
-ghost use Rattle.turn_client_proto_connection.specs.Channel.Permission.Api.Handling.{is_awaited};
+ghost use Rattle.stun_proto_agent.specs.Handling.{is_awaited};
 ghost use Rattle.turn_client_proto_core.specs.Responding.{accepted, answered, challenged, is_tired};
 
 use crate::protocol::Protocol;
-use stun_types::NoMemory;
-use stun_types::message::Message;
+use stun_types_base::memory::NoMemory;
+use stun_types_message::parsed::Message;
 
 /// A client that has answered more challenges than this in a row, with no accepted response
 /// between, answers no more. So it answers nine, and the tenth ends it: before the server has

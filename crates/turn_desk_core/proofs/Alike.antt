@@ -4,21 +4,21 @@ use Rattle.std.proofs.lemmas.List.{append-nil}
 use Rattle.std.specs.FinMap as map
 use Rattle.std.specs.declared.net.socket_addr.SocketAddr.{SocketAddr}
 use Rattle.rand_core.specs.Stream.{Stream}
-use Rattle.stun_types.specs.Grammar.{number_at}
-use Rattle.stun_types.specs.Integrity.{Validates}
-use Rattle.stun_types.specs.MessageReading.{IsReadAs}
-use Rattle.stun_types.specs.Objections.{error_type}
-use Rattle.stun_types.specs.Signing.{text_to_sign}
-use Rattle.stun_types.specs.Text.{message_text}
-use Rattle.stun_proto.specs.Judgement.{user_key}
-use Rattle.stun_proto.specs.Knowledge.{Outcome}
-use Rattle.stun_proto.specs.Server.{SameFor, Server, refreshed, with_outcome}
-use Rattle.stun_proto.specs.ServerSigning.{Party}
+use Rattle.stun_types_wire.specs.Grammar.{number_at}
+use Rattle.stun_types_add.specs.Integrity.Integrity.{Validates}
+use Rattle.stun_types_wire.specs.MessageReading.{IsReadAs}
+use Rattle.stun_types_message.specs.Objections.{error_type}
+use Rattle.stun_types_add.specs.Integrity.Signing.{text_to_sign}
+use Rattle.stun_types_wire.specs.Text.{message_text}
+use Rattle.stun_proto_verify.specs.Judgement.{user_key}
+use Rattle.stun_proto_verify.specs.Knowledge.{Outcome}
+use Rattle.stun_proto_server.specs.Server.{SameFor, Server, refreshed, with_outcome}
+use Rattle.stun_proto_server.specs.ServerSigning.{Party}
 use Rattle.stun_proto_server.proofs.Isolated.{answers_alike, leaves_alike}
-use Rattle.turn_desk_grant.specs.Replies.{signed_attributes, signed_text}
-use Rattle.turn_desk_grant.specs.declared.decision.Decision.{Decision}
-use Rattle.turn_desk_grant.specs.declared.verdict.Verdict.{Verdict}
-use Rattle.turn_desk_grant.specs.Verdicts.{grants_of, reply_attributes, reply_type, verdict_on}
+use Rattle.turn_desk_core.specs.Replies.{signed_attributes, signed_text}
+use Rattle.turn_desk_core.specs.declared.decision.Decision.{Decision}
+use Rattle.turn_desk_core.specs.declared.verdict.Verdict.{Verdict}
+use Rattle.turn_desk_core.specs.Verdicts.{grants_of, reply_attributes, reply_type, verdict_on}
 use Rattle.turn_desk_core.specs.DeskIsolation.{IsAnsweredAlike}
 use Rattle.turn_desk_core.specs.State.{State}
 use Rattle.turn_desk_core.specs.Steps.{FitsChallenge, IsAnswer, IsChallenge, IsVerdict, refusal_attributes, unvalidated_party}

@@ -7,37 +7,38 @@ use Rattle.std.specs.Option.{option_and_then, option_copied, option_map, option_
 use Rattle.std.specs.FinMap as map
 use Rattle.std.specs.declared.net.socket_addr.SocketAddr.{SocketAddr}
 use Rattle.rand_core.specs.Stream.{Stream}
-use Rattle.stun_types.specs.IntegrityAlgorithms.{IntegrityAlgorithm}
-use Rattle.stun_types.specs.MessageClasses.{MessageClass, Error}
-use Rattle.stun_types.specs.Attributes.{Attr, kind_at}
-use Rattle.stun_types.specs.Types.{class_of, method_of, type_of}
-use Rattle.stun_types.specs.Shape.{rank}
-use Rattle.stun_types.specs.WriteErrors.{StunWriteError}
-use Rattle.stun_types.specs.Adding.{IsBegun, add_refusal}
-use Rattle.stun_types.specs.Drafts.{Draft, empty}
-use Rattle.stun_types.specs.Text.{header_text, message_text}
-use Rattle.stun_types.specs.Entries.{entries}
-use Rattle.stun_types.specs.Grammar.{number_at}
-use Rattle.stun_types.specs.Calls.{Add, IsOrdinary, IsWritten, Ordinary}
-use Rattle.stun_types.specs.MessageReading.{IsReadAs}
-use Rattle.stun_types.specs.ValueReading.{utf8_refusal}
-use Rattle.stun_types.specs.Objections.{error_attribute, error_type}
-use Rattle.stun_types_integrity_laws.proofs.Composed.{composed_read, written_text}
-use Rattle.stun_proto.specs.Addition.{Addition, PartOf, algorithms_of, attrs, calls_of_parts, nonce_of, parts_refusal, realm_of, size_of_part}
-use Rattle.stun_proto.specs.AdditionStages.{FitsBehind, IsMade}
-use Rattle.stun_proto.specs.Nonce.{features_told}
-use Rattle.stun_proto.specs.SupportedAlgorithms.{is_same_algorithm, list_of}
-use Rattle.stun_proto.specs.Server.{Client, Server, nonce_at, outcome_at, refreshed, with_outcome}
-use Rattle.stun_proto.specs.ServerAuthErrors.{LongTermServerAuthError}
-use Rattle.stun_proto.specs.ServerSigning.{Party, addition, addition_for, challenge_parts, list_for, party_by_client, party_by_outcome, signing_refusal_for}
-use Rattle.stun_proto_auth.proofs.Keeping.{few as three_at_most}
-use Rattle.stun_proto_sign.proofs.Making.{made_written, parts_accept}
-use Rattle.stun_proto_sign.proofs.Reaching.{reached_end, reached_first, reached_step}
-use Rattle.turn_desk_grant.specs.Replies.{IsReply, failure_attributes}
-use Rattle.turn_desk_grant.proofs.Room.{room_left, text_accepted}
-use Rattle.turn_desk_grant.proofs.Sizes.{failure-length}
-use Rattle.turn_desk_grant.specs.Requests.{IsServed}
-use Rattle.turn_desk_grant.proofs.Methods.{by_method}
+use Rattle.stun_types_wire.specs.declared.algorithm.IntegrityAlgorithm.{IntegrityAlgorithm}
+use Rattle.stun_types_wire.specs.declared.class.MessageClass.{MessageClass}
+use Rattle.stun_types_wire.specs.declared.class.MessageClass.TheVariants.{Error}
+use Rattle.stun_types_wire.specs.Attributes.{Attr, kind_at}
+use Rattle.stun_types_wire.specs.Types.{class_of, method_of, type_of}
+use Rattle.stun_types_wire.specs.Shape.{rank}
+use Rattle.stun_types_wire.specs.declared.error.StunWriteError.{StunWriteError}
+use Rattle.stun_types_write.specs.Adding.{IsBegun, add_refusal}
+use Rattle.stun_types_write.specs.Drafts.{Draft, empty}
+use Rattle.stun_types_wire.specs.Text.{header_text, message_text}
+use Rattle.stun_types_attributes.specs.AuthAttributes.Entries.{entries}
+use Rattle.stun_types_wire.specs.Grammar.{number_at}
+use Rattle.stun_types_add.specs.Calls.{Add, IsOrdinary, IsWritten, Ordinary}
+use Rattle.stun_types_wire.specs.MessageReading.{IsReadAs}
+use Rattle.stun_types_write.specs.ValueReading.{utf8_refusal}
+use Rattle.stun_types_message.specs.Objections.{error_attribute, error_type}
+use Rattle.stun_types_message.proofs.Composed.{composed_read, written_text}
+use Rattle.stun_proto_verify.specs.Auth.Addition.{Addition, PartOf, algorithms_of, attrs, calls_of_parts, nonce_of, parts_refusal, realm_of, size_of_part}
+use Rattle.stun_proto_verify.specs.Auth.AdditionStages.{FitsBehind, IsMade}
+use Rattle.stun_proto_verify.specs.Auth.Nonce.{features_told}
+use Rattle.stun_proto_verify.specs.Auth.SupportedAlgorithms.{is_same_algorithm, list_of}
+use Rattle.stun_proto_server.specs.Server.{Client, Server, nonce_at, outcome_at, refreshed, with_outcome}
+use Rattle.stun_proto_verify.specs.declared.error.LongTermServerAuthError.{LongTermServerAuthError}
+use Rattle.stun_proto_server.specs.ServerSigning.{Party, addition, addition_for, challenge_parts, list_for, party_by_client, party_by_outcome, signing_refusal_for}
+use Rattle.stun_proto_verify.proofs.Auth.Keeping.{few as three_at_most}
+use Rattle.stun_proto_verify.proofs.Auth.Making.{made_written, parts_accept}
+use Rattle.stun_proto_verify.proofs.Auth.Reaching.{reached_end, reached_first, reached_step}
+use Rattle.turn_desk_core.specs.Replies.{IsReply, failure_attributes}
+use Rattle.turn_desk_core.proofs.Room.{room_left, text_accepted}
+use Rattle.turn_desk_core.proofs.Sizes.{failure-length}
+use Rattle.turn_desk_core.specs.Requests.{IsServed}
+use Rattle.turn_desk_core.proofs.Methods.{by_method}
 use Rattle.turn_desk_core.specs.State.{State}
 use Rattle.turn_desk_core.specs.Steps.{FitsChallenge, IsChallenge, IsTurnedAway, IsTurnedReply, challenge_attributes, refusal_attributes, unvalidated_party}
 use Rattle.turn_desk_core.proofs.Keys.{kept_outcome}

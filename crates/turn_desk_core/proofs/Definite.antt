@@ -3,21 +3,21 @@ use Rattle.std.proofs.Common.{◌≡◌, ℕ, List, Option, Some, sym, ap, ◌�
 use Rattle.std.specs.FinMap as map
 use Rattle.std.specs.declared.net.socket_addr.SocketAddr.{SocketAddr}
 use Rattle.rand_core.specs.Stream.{Stream}
-use Rattle.stun_types.specs.Grammar.{number_at}
-use Rattle.stun_types.specs.IntegrityAlgorithms.{IntegrityAlgorithm}
-use Rattle.stun_types.specs.Objections.{error_type}
-use Rattle.stun_types.specs.Text.{message_text}
-use Rattle.stun_proto.specs.Claims.{claimed}
-use Rattle.stun_proto.specs.Judgement.{user_key}
-use Rattle.stun_proto.specs.Server.{Server, nonce_at, refreshed, with_outcome}
-use Rattle.stun_proto.specs.ServerAuthErrors.{LongTermServerAuthError}
-use Rattle.stun_proto.specs.Users.{NamesOne}
+use Rattle.stun_types_wire.specs.Grammar.{number_at}
+use Rattle.stun_types_wire.specs.declared.algorithm.IntegrityAlgorithm.{IntegrityAlgorithm}
+use Rattle.stun_types_message.specs.Objections.{error_type}
+use Rattle.stun_types_wire.specs.Text.{message_text}
+use Rattle.stun_proto_verify.specs.Auth.Claims.{claimed}
+use Rattle.stun_proto_verify.specs.Judgement.{user_key}
+use Rattle.stun_proto_server.specs.Server.{Server, nonce_at, refreshed, with_outcome}
+use Rattle.stun_proto_verify.specs.declared.error.LongTermServerAuthError.{LongTermServerAuthError}
+use Rattle.stun_proto_server.specs.Users.{NamesOne}
 use Rattle.stun_proto_server.proofs.Definite.{accepted_same, refused_same}
 use Rattle.stun_proto_server.proofs.Named.{inside, never_both}
 use Rattle.stun_proto_server.proofs.Validated.{names_one_still}
-use Rattle.turn_desk_grant.specs.Replies.{signed_text}
-use Rattle.turn_desk_grant.specs.Verdicts.{reply_attributes, reply_type, verdict_on}
-use Rattle.turn_desk_grant.specs.declared.decision.Decision.{Decision}
+use Rattle.turn_desk_core.specs.Replies.{signed_text}
+use Rattle.turn_desk_core.specs.Verdicts.{reply_attributes, reply_type, verdict_on}
+use Rattle.turn_desk_core.specs.declared.decision.Decision.{Decision}
 use Rattle.turn_desk_core.specs.State.{State}
 use Rattle.turn_desk_core.specs.Steps.{IsAnswer, IsChallenge, IsVerdict, refusal_attributes, unvalidated_party}
 

@@ -3,19 +3,19 @@ use Rattle.std.proofs.Common.{◌≡◌, ◌≢◌, ℕ, Bool, true, false, List
 use Rattle.std.proofs.lemmas.List.{append-nil}
 use Rattle.std.specs.declared.net.socket_addr.SocketAddr.{SocketAddr}
 use Rattle.rand_core.specs.Stream.{Stream}
-use Rattle.stun_proto.specs.AuthCalls.{AuthCall}
-use Rattle.stun_proto.specs.AuthRuns.{concerns as concerns_auth, is_same_address}
-use Rattle.stun_proto.specs.Knowledge.{Outcome}
-use Rattle.stun_proto.specs.Server.{SameFor, Server, refreshed, with_outcome}
+use Rattle.stun_proto_server.specs.AuthCalls.{AuthCall}
+use Rattle.stun_proto_server.specs.AuthRuns.{concerns as concerns_auth, is_same_address}
+use Rattle.stun_proto_verify.specs.Knowledge.{Outcome}
+use Rattle.stun_proto_server.specs.Server.{SameFor, Server, refreshed, with_outcome}
 use Rattle.stun_proto_server.proofs.Alone.{bool_is, filter_no, filter_yes}
 use Rattle.stun_proto_server.proofs.Apart.{same_for-refl, same_for-then}
 use Rattle.stun_proto_server.proofs.Calls.{called_alike, called_unseen, other_address_is, same_address_is}
 use Rattle.stun_proto_server.proofs.Isolated.{leaves_alone, turned}
-use Rattle.turn_desk_grant.specs.Verdicts.{bare_grant, grants_of, verdict_on}
-use Rattle.turn_desk_grant.specs.declared.decision.Decision.{Decision}
-use Rattle.turn_desk_grant.specs.declared.grant.Grant as granted
-use Rattle.turn_desk_grant.specs.declared.verdict.Verdict.{Verdict}
-use Rattle.turn_desk_grant.specs.declared.verdict.Verdict.TheVariants.{Fails, Allocates, Refreshes, Permits, Binds, Connects, Joins}
+use Rattle.turn_desk_core.specs.Verdicts.{bare_grant, grants_of, verdict_on}
+use Rattle.turn_desk_core.specs.declared.decision.Decision.{Decision}
+use Rattle.turn_desk_core.specs.declared.grant.Grant as granted
+use Rattle.turn_desk_core.specs.declared.verdict.Verdict.{Verdict}
+use Rattle.turn_desk_core.specs.declared.verdict.Verdict.TheVariants.{Fails, Allocates, Refreshes, Permits, Binds, Connects, Joins}
 use Rattle.turn_desk_core.specs.DeskCalls.{AreAlike, IsAuthCalled, IsHandled, IsHandledBy, IsServerCalled, IsServerRun, ServerAnswer, ServerCall, StandsAlone, concerning, concerns, grants_to}
 use Rattle.turn_desk_core.specs.DeskCalls as call
 use Rattle.turn_desk_core.specs.State.{State}

@@ -3,18 +3,18 @@ use Rattle.std.proofs.Common.{◌≡◌, ℕ, List, [], ◌∷◌, Bool, true, f
 use Rattle.std.specs.FinMap as finite
 use Rattle.std.specs.declared.net.socket_addr.SocketAddr.{SocketAddr}
 use Rattle.rand_core.specs.Stream.{Stream}
-use Rattle.stun_proto.specs.AuthCalls.{AuthAnswer, AuthCall, IsCalled, IsJudged}
-use Rattle.stun_proto.specs.AuthCalls as auth
-use Rattle.stun_proto.specs.AuthRuns.{CallNamesOne, EachNamesOne, with_users_of}
-use Rattle.stun_proto.specs.Claims.{Claimed, claimed}
-use Rattle.stun_proto.specs.Judgement.{is_response}
-use Rattle.stun_proto.specs.Knowledge.{Outcome}
-use Rattle.stun_proto.specs.Server.{Server, has_standing_nonce, refreshed, with_new_nonce, with_outcome}
-use Rattle.stun_proto.specs.ServerValidation.{after_refusal}
-use Rattle.stun_proto.specs.ServerValidations.{Validated}
-use Rattle.stun_proto.specs.Users.{NamesOne}
+use Rattle.stun_proto_server.specs.AuthCalls.{AuthAnswer, AuthCall, IsCalled, IsJudged}
+use Rattle.stun_proto_server.specs.AuthCalls as auth
+use Rattle.stun_proto_server.specs.AuthRuns.{CallNamesOne, EachNamesOne, with_users_of}
+use Rattle.stun_proto_verify.specs.Auth.Claims.{Claimed, claimed}
+use Rattle.stun_proto_verify.specs.Judgement.{is_response}
+use Rattle.stun_proto_verify.specs.Knowledge.{Outcome}
+use Rattle.stun_proto_server.specs.Server.{Server, has_standing_nonce, refreshed, with_new_nonce, with_outcome}
+use Rattle.stun_proto_server.specs.ServerValidation.{after_refusal}
+use Rattle.stun_proto_server.specs.declared.validation.LongTermServerValidation.TheVariants.{Validated}
+use Rattle.stun_proto_server.specs.Users.{NamesOne}
 use Rattle.stun_proto_server.proofs.Definite.{called_same}
-use Rattle.turn_desk_grant.specs.declared.decision.Decision.{Decision}
+use Rattle.turn_desk_core.specs.declared.decision.Decision.{Decision}
 use Rattle.turn_desk_core.specs.DeskCalls.{AreAlike, AreAnsweredAlike, IsAuthCalled, IsHandledBy, IsServerCalled, IsServerRun, NameOneUser, ServerAnswer, ServerCall, auth_call, calls_concerning, concerning}
 use Rattle.turn_desk_core.specs.DeskCalls as call
 use Rattle.turn_desk_core.specs.State.{State}

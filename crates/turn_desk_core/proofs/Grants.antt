@@ -4,20 +4,20 @@ use Rattle.std.proofs.Common.{sym, ap, ◌∙◌, subst, arith, inl, inr}
 use Rattle.std.proofs.lemmas.List.{length-append}
 use Rattle.std.specs.declared.net.socket_addr.SocketAddr.{SocketAddr}
 use Rattle.rand_core.specs.Stream.{Stream}
-use Rattle.stun_types.specs.Grammar.{number_at}
-use Rattle.stun_types.specs.MessageReading.{IsReadAs}
-use Rattle.stun_proto.specs.Judgement.{user_key}
-use Rattle.stun_types.specs.MessageClasses.{Success, Error}
-use Rattle.stun_types.specs.Attributes.{kind_at}
-use Rattle.stun_types.specs.Types.{method_of, type_of}
-use Rattle.stun_types.specs.Objections.{error_type}
-use Rattle.turn_desk_grant.specs.Replies.{signed_attributes, success_type}
-use Rattle.turn_desk_grant.proofs.Methods.{by_method}
-use Rattle.turn_desk_grant.specs.declared.decision.Decision.{Decision}
-use Rattle.turn_desk_grant.specs.declared.grant.Grant as granted
-use Rattle.turn_desk_grant.specs.Requests.{IsServed}
-use Rattle.turn_desk_grant.specs.Verdicts.{grants_of, reply_attributes, verdict_on}
-use Rattle.turn_desk_grant.proofs.Granting.{granted_kept, verdict_kept}
+use Rattle.stun_types_wire.specs.Grammar.{number_at}
+use Rattle.stun_types_wire.specs.MessageReading.{IsReadAs}
+use Rattle.stun_proto_verify.specs.Judgement.{user_key}
+use Rattle.stun_types_wire.specs.declared.class.MessageClass.TheVariants.{Success, Error}
+use Rattle.stun_types_wire.specs.Attributes.{kind_at}
+use Rattle.stun_types_wire.specs.Types.{method_of, type_of}
+use Rattle.stun_types_message.specs.Objections.{error_type}
+use Rattle.turn_desk_core.specs.Replies.{signed_attributes, success_type}
+use Rattle.turn_desk_core.proofs.Methods.{by_method}
+use Rattle.turn_desk_core.specs.declared.decision.Decision.{Decision}
+use Rattle.turn_desk_core.specs.declared.grant.Grant as granted
+use Rattle.turn_desk_core.specs.Requests.{IsServed}
+use Rattle.turn_desk_core.specs.Verdicts.{grants_of, reply_attributes, verdict_on}
+use Rattle.turn_desk_core.proofs.Granting.{granted_kept, verdict_kept}
 use Rattle.turn_desk_core.specs.State.{State}
 use Rattle.turn_desk_core.specs.Steps.{IsAnswer, IsGranted, IsVerdict}
 

@@ -8,35 +8,37 @@ use Rattle.std.specs.Cmp.{eq_by_cmp_equiv}
 use Rattle.std.specs.FinMap as map
 use Rattle.std.specs.declared.net.socket_addr.SocketAddr.{SocketAddr}
 use Rattle.rand_core.specs.Stream.{Stream}
-use Rattle.stun_types.specs.SocketAddrs.{socket_addr_cmp, socket_addr_cmp_total}
-use Rattle.stun_types.specs.IntegrityAlgorithms.{IntegrityAlgorithm}
-use Rattle.stun_types.specs.MessageClasses.{MessageClass, Request, Indication, Success, Error}
-use Rattle.stun_types.specs.Attributes.{Attr}
-use Rattle.stun_types.specs.Types.{is_response_class}
-use Rattle.stun_types.specs.Drafts.{Draft}
-use Rattle.stun_types.specs.Credentials.{Key}
-use Rattle.stun_types.specs.Integrity.{Validates}
-use Rattle.stun_types.specs.Signing.{signing_refusal, text_to_sign}
-use Rattle.stun_types.specs.Text.{message_text}
-use Rattle.stun_types.specs.Calls.{Integrity, IsWritten, Ordinary, after_calls}
-use Rattle.stun_types.specs.MessageReading.{IsReadAs}
-use Rattle.stun_types_integrity_laws.proofs.Composed.{signed_read, signed_text_of}
-use Rattle.stun_proto.specs.Addition.{Addition, parts_refusal}
-use Rattle.stun_proto.specs.AdditionStages.{IsMade}
-use Rattle.stun_proto_sign.proofs.Making.{made_written}
-use Rattle.stun_proto.specs.Judgement.{is_response, user_key}
-use Rattle.stun_proto.specs.Knowledge.{Outcome}
-use Rattle.stun_proto.specs.Server.{Client, Server, nonce_at, has_standing_nonce, refreshed, with_outcome, set_outcome}
-use Rattle.stun_proto.specs.ServerSigning.{Party, Signer, addition, addition_by, addition_for, key_in, party_at, party_by_client, party_by_outcome, party_by_password, signing_refusal_for}
-use Rattle.stun_proto.specs.ServerValidation.{IsValidated, after_refusal}
-use Rattle.stun_types.specs.Grammar.{number_at}
-use Rattle.stun_proto.specs.ServerValidations.{LongTermServerValidation, Validated}
-use Rattle.turn_desk_grant.specs.Replies.{IsReply, signed_attributes, signed_text}
-use Rattle.turn_desk_grant.specs.declared.verdict.Verdict.{Verdict}
-use Rattle.turn_desk_grant.specs.Requests.{IsServed}
+use Rattle.stun_types_base.specs.SocketAddrs.{socket_addr_cmp, socket_addr_cmp_total}
+use Rattle.stun_types_wire.specs.declared.algorithm.IntegrityAlgorithm.{IntegrityAlgorithm}
+use Rattle.stun_types_wire.specs.declared.class.MessageClass.{MessageClass}
+use Rattle.stun_types_wire.specs.declared.class.MessageClass.TheVariants.{Request, Indication, Success, Error}
+use Rattle.stun_types_wire.specs.Attributes.{Attr}
+use Rattle.stun_types_wire.specs.Types.{is_response_class}
+use Rattle.stun_types_write.specs.Drafts.{Draft}
+use Rattle.stun_types_add.specs.Integrity.Credentials.{Key}
+use Rattle.stun_types_add.specs.Integrity.Integrity.{Validates}
+use Rattle.stun_types_add.specs.Integrity.Signing.{signing_refusal, text_to_sign}
+use Rattle.stun_types_wire.specs.Text.{message_text}
+use Rattle.stun_types_add.specs.Calls.{Integrity, IsWritten, Ordinary, after_calls}
+use Rattle.stun_types_wire.specs.MessageReading.{IsReadAs}
+use Rattle.stun_types_message.proofs.Composed.{signed_read, signed_text_of}
+use Rattle.stun_proto_verify.specs.Auth.Addition.{Addition, parts_refusal}
+use Rattle.stun_proto_verify.specs.Auth.AdditionStages.{IsMade}
+use Rattle.stun_proto_verify.proofs.Auth.Making.{made_written}
+use Rattle.stun_proto_verify.specs.Judgement.{is_response, user_key}
+use Rattle.stun_proto_verify.specs.Knowledge.{Outcome}
+use Rattle.stun_proto_server.specs.Server.{Client, Server, nonce_at, has_standing_nonce, refreshed, with_outcome, set_outcome}
+use Rattle.stun_proto_server.specs.ServerSigning.{Party, Signer, addition, addition_by, addition_for, key_in, party_at, party_by_client, party_by_outcome, party_by_password, signing_refusal_for}
+use Rattle.stun_proto_server.specs.ServerValidation.{IsValidated, after_refusal}
+use Rattle.stun_types_wire.specs.Grammar.{number_at}
+use Rattle.stun_proto_server.specs.declared.validation.LongTermServerValidation.{LongTermServerValidation}
+use Rattle.stun_proto_server.specs.declared.validation.LongTermServerValidation.TheVariants.{Validated}
+use Rattle.turn_desk_core.specs.Replies.{IsReply, signed_attributes, signed_text}
+use Rattle.turn_desk_core.specs.declared.verdict.Verdict.{Verdict}
+use Rattle.turn_desk_core.specs.Requests.{IsServed}
 use Rattle.turn_desk_core.specs.State.{State}
 use Rattle.turn_desk_core.specs.Steps.{IsSignedFor, IsTaken, IsVerdict, key_at, key_of_party}
-use Rattle.turn_desk_grant.specs.Verdicts.{grants_of, reply_attributes, reply_type}
+use Rattle.turn_desk_core.specs.Verdicts.{grants_of, reply_attributes, reply_type}
 use Rattle.turn_desk_core.proofs.Numbers.{number_fits, reply_type_fits}
 use Rattle.turn_desk_core.proofs.Nonces.{refreshed_nonce, refreshed_realm}
 use Rattle.turn_desk_core.proofs.Ordinary.{signed_valid}

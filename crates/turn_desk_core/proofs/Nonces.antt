@@ -8,8 +8,8 @@ use Rattle.std.specs.Cmp.{eq_by_cmp_equiv}
 use Rattle.std.specs.FinMap as map
 use Rattle.std.specs.declared.net.socket_addr.SocketAddr.{SocketAddr}
 use Rattle.rand_core.specs.Stream.{Stream}
-use Rattle.stun_types.specs.SocketAddrs.{socket_addr_cmp, socket_addr_cmp_total}
-use Rattle.stun_proto.specs.Server.{Client, Server, nonce_at, is_standing, has_standing_nonce, new_client, refreshed}
+use Rattle.stun_types_base.specs.SocketAddrs.{socket_addr_cmp, socket_addr_cmp_total}
+use Rattle.stun_proto_server.specs.Server.{Client, Server, nonce_at, is_standing, has_standing_nonce, new_client, refreshed}
 
 nonce_of_some : (kept : Option Client) (expiry now : ℕ) → is_standing expiry now kept ≡ true → IsSome (option_map (λ (c : Client). c.nonce) kept)
 nonce_of_some None expiry now h = absurd (let p : false ≡ true = h in cc)

@@ -3,19 +3,19 @@ use Rattle.std.specs.Prelude.{ℕ, suc, ◌^◌, ◌<◌, slice_index, List, [],
 use Rattle.std.proofs.Common.{refl, arith, ltb}
 use Rattle.std.proofs.lemmas.Bool.{lt-ltb, and_from}
 use Rattle.std.specs.List.{list_all}
-use Rattle.stun_types.specs.Grammar.{number_at}
-use Rattle.stun_types.specs.Headers.{AreBytes}
-use Rattle.stun_types_grammar_laws.proofs.Converse.{has_text}
-use Rattle.stun_types.specs.Objections.{error_type}
-use Rattle.stun_types.specs.Attributes.{kind_at}
-use Rattle.stun_types.specs.MessageClasses.{Success, Error}
-use Rattle.stun_types.specs.Types.{method_of, type_of}
-use Rattle.turn_desk_grant.specs.Replies.{success_type}
-use Rattle.turn_desk_grant.proofs.Methods.{by_method}
-use Rattle.turn_desk_grant.specs.declared.verdict.Verdict.{Verdict}
-use Rattle.turn_desk_grant.specs.declared.verdict.Verdict.TheVariants.{Fails, Allocates, Refreshes, Permits, Binds, Connects, Joins}
-use Rattle.turn_desk_grant.specs.Requests.{IsServed}
-use Rattle.turn_desk_grant.specs.Verdicts.{reply_type}
+use Rattle.stun_types_wire.specs.Grammar.{number_at}
+use Rattle.stun_types_wire.specs.Headers.{AreBytes}
+use Rattle.stun_types_wire.proofs.Converse.{has_text}
+use Rattle.stun_types_message.specs.Objections.{error_type}
+use Rattle.stun_types_wire.specs.Attributes.{kind_at}
+use Rattle.stun_types_wire.specs.declared.class.MessageClass.TheVariants.{Success, Error}
+use Rattle.stun_types_wire.specs.Types.{method_of, type_of}
+use Rattle.turn_desk_core.specs.Replies.{success_type}
+use Rattle.turn_desk_core.proofs.Methods.{by_method}
+use Rattle.turn_desk_core.specs.declared.verdict.Verdict.{Verdict}
+use Rattle.turn_desk_core.specs.declared.verdict.Verdict.TheVariants.{Fails, Allocates, Refreshes, Permits, Binds, Connects, Joins}
+use Rattle.turn_desk_core.specs.Requests.{IsServed}
+use Rattle.turn_desk_core.specs.Verdicts.{reply_type}
 
 bytes_are : (bytes : List ℕ) → ((i : ℕ) → slice_index bytes i < 256) → AreBytes bytes
 bytes_are [] h = refl

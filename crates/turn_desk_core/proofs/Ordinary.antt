@@ -3,14 +3,14 @@ use Rattle.std.specs.Prelude.{◌≡◌, ℕ, ◌<◌, ◌^◌, List, [], ◌∷
 use Rattle.std.proofs.Common.{sym, ◌∙◌, subst, append_assoc}
 use Rattle.std.proofs.lemmas.List.{append-nil}
 use Rattle.std.specs.List.{AllByRecursion}
-use Rattle.stun_types.specs.IntegrityAlgorithms.{IntegrityAlgorithm}
-use Rattle.stun_types.specs.Attributes.{Attr}
-use Rattle.stun_types.specs.Drafts.{Draft}
-use Rattle.stun_types.specs.Text.{message_text}
-use Rattle.stun_types.specs.Calls.{Integrity, IsLawful, IsOrdinary, IsWritten, Ordinary, attributes_after}
-use Rattle.stun_types.specs.Integrity.{Validates}
-use Rattle.stun_types.specs.Signing.{text_to_sign}
-use Rattle.stun_types_integrity_laws.proofs.Composed.{calls_validate}
+use Rattle.stun_types_wire.specs.declared.algorithm.IntegrityAlgorithm.{IntegrityAlgorithm}
+use Rattle.stun_types_wire.specs.Attributes.{Attr}
+use Rattle.stun_types_write.specs.Drafts.{Draft}
+use Rattle.stun_types_wire.specs.Text.{message_text}
+use Rattle.stun_types_add.specs.Calls.{Integrity, IsLawful, IsOrdinary, IsWritten, Ordinary, attributes_after}
+use Rattle.stun_types_add.specs.Integrity.Integrity.{Validates}
+use Rattle.stun_types_add.specs.Integrity.Signing.{text_to_sign}
+use Rattle.stun_types_message.proofs.Composed.{calls_validate}
 
 -- the attributes of ordinary calls are those that they add
 pub ordinary_after : (mtype number : ℕ) (all before : List Attr) → attributes_after mtype number (map Ordinary all) before ≡ before ++ all

@@ -1,19 +1,19 @@
 -- A reply to a request that is served is a response.
 use Rattle.std.specs.Prelude.{◌≡◌, ℕ, true, List}
 use Rattle.std.proofs.Common.{refl, ap, ◌∙◌}
-use Rattle.stun_types.specs.MessageClasses.{Success, Error}
-use Rattle.stun_types.specs.Attributes.{Attr, kind_at}
-use Rattle.stun_types.specs.Types.{method_of, type_of}
-use Rattle.stun_types.specs.Drafts.{Draft}
-use Rattle.stun_types.specs.Objections.{error_type}
-use Rattle.stun_types.specs.Text.{header_text, message_text}
-use Rattle.stun_proto.specs.Judgement.{is_response}
-use Rattle.turn_desk_grant.specs.Replies.{IsReply, success_type}
-use Rattle.turn_desk_grant.specs.declared.verdict.Verdict.{Verdict}
-use Rattle.turn_desk_grant.specs.declared.verdict.Verdict.TheVariants.{Fails, Allocates, Refreshes, Permits, Binds, Connects, Joins}
-use Rattle.turn_desk_grant.specs.Requests.{IsServed}
-use Rattle.turn_desk_grant.specs.Verdicts.{reply_type}
-use Rattle.turn_desk_grant.proofs.Methods.{by_method}
+use Rattle.stun_types_wire.specs.declared.class.MessageClass.TheVariants.{Success, Error}
+use Rattle.stun_types_wire.specs.Attributes.{Attr, kind_at}
+use Rattle.stun_types_wire.specs.Types.{method_of, type_of}
+use Rattle.stun_types_write.specs.Drafts.{Draft}
+use Rattle.stun_types_message.specs.Objections.{error_type}
+use Rattle.stun_types_wire.specs.Text.{header_text, message_text}
+use Rattle.stun_proto_verify.specs.Judgement.{is_response}
+use Rattle.turn_desk_core.specs.Replies.{IsReply, success_type}
+use Rattle.turn_desk_core.specs.declared.verdict.Verdict.{Verdict}
+use Rattle.turn_desk_core.specs.declared.verdict.Verdict.TheVariants.{Fails, Allocates, Refreshes, Permits, Binds, Connects, Joins}
+use Rattle.turn_desk_core.specs.Requests.{IsServed}
+use Rattle.turn_desk_core.specs.Verdicts.{reply_type}
+use Rattle.turn_desk_core.proofs.Methods.{by_method}
 
 error_class : (bytes : List ℕ) (number : ℕ) (attributes : List Attr) → IsServed bytes → is_response (message_text (error_type bytes) number attributes) ≡ true
 unfolding message_text header_text

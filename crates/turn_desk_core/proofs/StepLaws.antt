@@ -6,36 +6,39 @@ use Rattle.std.specs.List.{AllByRecursion}
 use Rattle.std.specs.FinMap as map
 use Rattle.std.specs.declared.net.socket_addr.SocketAddr.{SocketAddr}
 use Rattle.rand_core.specs.Stream.{Stream}
-use Rattle.stun_types.specs.IntegrityAlgorithms.{IntegrityAlgorithm, Sha1, Sha256, Sha512}
-use Rattle.stun_types.specs.MessageClasses.{MessageClass, Success, Error}
-use Rattle.stun_types.specs.Attributes.{Attr, attr_size, kind_at, numbered}
-use Rattle.stun_types.specs.Types.{class_of, is_response_class, method_of, type_of}
-use Rattle.stun_types.specs.Adding.{has_kind}
-use Rattle.stun_types.specs.Shape.{kinds_of, rank}
-use Rattle.stun_types.specs.Grammar.{number_at, shown}
-use Rattle.stun_types.specs.Text.{message_text}
-use Rattle.stun_types.specs.Integrity.{Validates, attribute_kind}
-use Rattle.stun_types.specs.Signing.{signature, text_to_sign}
-use Rattle.stun_types.specs.Objections.{error_type}
-use Rattle.stun_proto.specs.Knowledge.{Named}
-use Rattle.stun_proto.specs.Nonce.{features_told}
-use Rattle.stun_proto.specs.Addition.{attrs}
-use Rattle.stun_proto.specs.Judgement.{user_key}
-use Rattle.stun_proto.specs.Server.{Server, refreshed}
-use Rattle.stun_proto.specs.ServerAuthErrors.{LongTermServerAuthError, BadRequest, IntegrityFailed, NoMemory, StaleNonce, Unauthorized}
-use Rattle.stun_proto.specs.ServerSigning.{Party, list_for}
-use Rattle.stun_proto.specs.ServerValidation.{Accepts}
-use Rattle.turn_desk_grant.specs.TurnRegistry.{connection_id_kind}
-use Rattle.turn_desk_grant.specs.Replies.{failure_attributes, success_type}
-use Rattle.turn_desk_grant.specs.declared.decision.Decision.{Decision}
-use Rattle.turn_desk_grant.specs.declared.grant.Grant as granted
-use Rattle.turn_desk_grant.specs.declared.verdict.Verdict.{Verdict}
-use Rattle.turn_desk_grant.specs.declared.verdict.Verdict.TheVariants.{Fails, Allocates, Refreshes, Permits, Binds, Connects, Joins}
-use Rattle.turn_desk_grant.specs.Grants.{IsGrant, Allocated, Refreshed, Permitted, Bound, Connected, Joined}
-use Rattle.turn_desk_grant.specs.Requests.{IsServed}
-use Rattle.turn_desk_grant.specs.Verdicts.{grants_of, reply_attributes, reply_type, verdict_on}
-use Rattle.turn_desk_grant.proofs.Granting.{verdict_kept}
-use Rattle.turn_desk_grant.proofs.Methods.{by_method}
+use Rattle.stun_types_wire.specs.declared.algorithm.IntegrityAlgorithm.{IntegrityAlgorithm}
+use Rattle.stun_types_wire.specs.declared.algorithm.IntegrityAlgorithm.TheVariants.{Sha1, Sha256, Sha512}
+use Rattle.stun_types_wire.specs.declared.class.MessageClass.{MessageClass}
+use Rattle.stun_types_wire.specs.declared.class.MessageClass.TheVariants.{Success, Error}
+use Rattle.stun_types_wire.specs.Attributes.{Attr, attr_size, kind_at, numbered}
+use Rattle.stun_types_wire.specs.Types.{class_of, is_response_class, method_of, type_of}
+use Rattle.stun_types_write.specs.Adding.{has_kind}
+use Rattle.stun_types_wire.specs.Shape.{kinds_of, rank}
+use Rattle.stun_types_wire.specs.Grammar.{number_at, shown}
+use Rattle.stun_types_wire.specs.Text.{message_text}
+use Rattle.stun_types_add.specs.Integrity.Integrity.{Validates, attribute_kind}
+use Rattle.stun_types_add.specs.Integrity.Signing.{signature, text_to_sign}
+use Rattle.stun_types_message.specs.Objections.{error_type}
+use Rattle.stun_proto_verify.specs.Knowledge.{Named}
+use Rattle.stun_proto_verify.specs.Auth.Nonce.{features_told}
+use Rattle.stun_proto_verify.specs.Auth.Addition.{attrs}
+use Rattle.stun_proto_verify.specs.Judgement.{user_key}
+use Rattle.stun_proto_server.specs.Server.{Server, refreshed}
+use Rattle.stun_proto_verify.specs.declared.error.LongTermServerAuthError.{LongTermServerAuthError}
+use Rattle.stun_proto_verify.specs.declared.error.LongTermServerAuthError.TheVariants.{BadRequest, IntegrityFailed, NoMemory, StaleNonce, Unauthorized}
+use Rattle.stun_proto_server.specs.ServerSigning.{Party, list_for}
+use Rattle.stun_proto_server.specs.ServerValidation.{Accepts}
+use Rattle.turn_types_attributes.specs.TurnRegistry.{connection_id_kind}
+use Rattle.turn_desk_core.specs.Replies.{failure_attributes, success_type}
+use Rattle.turn_desk_core.specs.declared.decision.Decision.{Decision}
+use Rattle.turn_desk_core.specs.declared.grant.Grant as granted
+use Rattle.turn_desk_core.specs.declared.verdict.Verdict.{Verdict}
+use Rattle.turn_desk_core.specs.declared.verdict.Verdict.TheVariants.{Fails, Allocates, Refreshes, Permits, Binds, Connects, Joins}
+use Rattle.turn_desk_core.specs.Grants.{IsGrant, Allocated, Refreshed, Permitted, Bound, Connected, Joined}
+use Rattle.turn_desk_core.specs.Requests.{IsServed}
+use Rattle.turn_desk_core.specs.Verdicts.{grants_of, reply_attributes, reply_type, verdict_on}
+use Rattle.turn_desk_core.proofs.Granting.{verdict_kept}
+use Rattle.turn_desk_core.proofs.Methods.{by_method}
 use Rattle.turn_desk_core.specs.State.{State}
 use Rattle.turn_desk_core.specs.Steps.{IsAnswer, IsChallenge, IsVerdict, refusal_attributes, unvalidated_party}
 use Rattle.turn_desk_core.specs.DeskSteps.{DeskStep, IsRecorded, IsSignedAlike, IsUnsigned}

@@ -1,6 +1,6 @@
 -- What a desk is once a `&mut` to its authenticator has ended.
 use Rattle.std.specs.Borrow.{Lends, Fml, MutBor}
-use Rattle.stun_proto.specs.Server.{Server}
+use Rattle.stun_proto_server.specs.Server.{Server}
 use Rattle.stun_proto_server.specs.contracts.long_term.LongTermServerAuth as auth
 use Rattle.turn_desk_core.specs.State.{State}
 use Rattle.turn_desk_core.specs.contracts.desk.Desk.{the_row}

@@ -3,12 +3,12 @@
 use Rattle.std.specs.Prelude.{◌≡◌, ◌≢◌, ◌↔◌, ℕ, Bool, List, [], ◌∷◌, ◌++◌, filter, map}
 use Rattle.std.specs.declared.net.socket_addr.SocketAddr.{SocketAddr}
 use Rattle.rand_core.specs.Stream.{Stream}
-use Rattle.stun_proto.specs.AuthCalls.{AuthAnswer, AuthCall, IsCalled, Validate}
-use Rattle.stun_proto.specs.AuthRuns.{EachNamesOne, concerns as concerns_auth, is_same_address}
-use Rattle.stun_proto.specs.Server.{SameFor, Server}
-use Rattle.turn_desk_grant.specs.Requests.{IsServed}
-use Rattle.turn_desk_grant.specs.declared.decision.Decision.{Decision}
-use Rattle.turn_desk_grant.specs.declared.grant.Grant as granted
+use Rattle.stun_proto_server.specs.AuthCalls.{AuthAnswer, AuthCall, IsCalled, Validate}
+use Rattle.stun_proto_server.specs.AuthRuns.{EachNamesOne, concerns as concerns_auth, is_same_address}
+use Rattle.stun_proto_server.specs.Server.{SameFor, Server}
+use Rattle.turn_desk_core.specs.Requests.{IsServed}
+use Rattle.turn_desk_core.specs.declared.decision.Decision.{Decision}
+use Rattle.turn_desk_core.specs.declared.grant.Grant as granted
 use Rattle.turn_desk_core.specs.State.{State}
 use Rattle.turn_desk_core.specs.Steps.{IsAnswer, IsGranted}
 

@@ -2,20 +2,20 @@
 use Rattle.std.specs.Prelude.{◌≡◌, ◌⊎◌, ℕ, List, [], ◌∷◌, ◌++◌, Some, false, true}
 use Rattle.std.specs.FinMap as map
 use Rattle.std.specs.declared.net.socket_addr.SocketAddr.{SocketAddr}
-use Rattle.stun_types.specs.IntegrityAlgorithms.{IntegrityAlgorithm}
-use Rattle.stun_types.specs.MessageClasses.{Success, Error}
-use Rattle.stun_types.specs.Attributes.{Attr, kind_at}
-use Rattle.stun_types.specs.Types.{class_of, method_of}
-use Rattle.stun_types.specs.Grammar.{number_at, shown}
-use Rattle.stun_types.specs.Adding.{has_kind}
-use Rattle.stun_types.specs.Shape.{kinds_of}
-use Rattle.stun_types.specs.Integrity.{Validates}
-use Rattle.stun_proto.specs.Judgement.{is_response, user_key}
-use Rattle.stun_proto.specs.Server.{Server}
-use Rattle.turn_desk_grant.specs.TurnRegistry.{connection_id_kind}
-use Rattle.turn_desk_grant.specs.declared.decision.Decision.{Decision}
-use Rattle.turn_desk_grant.specs.declared.grant.Grant as granted
-use Rattle.turn_desk_grant.specs.Grants.{IsGrant}
+use Rattle.stun_types_wire.specs.declared.algorithm.IntegrityAlgorithm.{IntegrityAlgorithm}
+use Rattle.stun_types_wire.specs.declared.class.MessageClass.TheVariants.{Success, Error}
+use Rattle.stun_types_wire.specs.Attributes.{Attr, kind_at}
+use Rattle.stun_types_wire.specs.Types.{class_of, method_of}
+use Rattle.stun_types_wire.specs.Grammar.{number_at, shown}
+use Rattle.stun_types_write.specs.Adding.{has_kind}
+use Rattle.stun_types_wire.specs.Shape.{kinds_of}
+use Rattle.stun_types_add.specs.Integrity.Integrity.{Validates}
+use Rattle.stun_proto_verify.specs.Judgement.{is_response, user_key}
+use Rattle.stun_proto_server.specs.Server.{Server}
+use Rattle.turn_types_attributes.specs.TurnRegistry.{connection_id_kind}
+use Rattle.turn_desk_core.specs.declared.decision.Decision.{Decision}
+use Rattle.turn_desk_core.specs.declared.grant.Grant as granted
+use Rattle.turn_desk_core.specs.Grants.{IsGrant}
 use Rattle.turn_desk_core.specs.State.{State}
 
 -- ---- under which key

@@ -6,32 +6,33 @@ use Rattle.std.specs.List.{IsDistinct}
 use Rattle.std.specs.Option.{option_and_then, option_map}
 use Rattle.std.specs.declared.net.socket_addr.SocketAddr.{SocketAddr}
 use Rattle.rand_core.specs.Stream.{Stream}
-use Rattle.stun_types.specs.IntegrityAlgorithms.{IntegrityAlgorithm}
-use Rattle.stun_types.specs.Attributes.{Attr}
-use Rattle.stun_types.specs.Grammar.{number_at}
-use Rattle.stun_types.specs.Text.{message_text}
-use Rattle.stun_types.specs.MessageReading.{IsReadAs}
-use Rattle.stun_types.specs.Credentials.{Key}
-use Rattle.stun_types.specs.Integrity.{Validates}
-use Rattle.stun_types.specs.Signing.{text_to_sign}
-use Rattle.stun_types.specs.ValueReading.{utf8_refusal}
-use Rattle.stun_proto.specs.ServerAuthErrors.{LongTermServerAuthError, BadRequest, StaleNonce, NoMemory}
-use Rattle.stun_proto.specs.Judgement.{user_key}
-use Rattle.stun_proto.specs.Server.{Server, nonce_at, refreshed, with_outcome}
-use Rattle.stun_proto.specs.Addition.{attrs}
-use Rattle.stun_proto.specs.ServerSigning.{Party, challenge_parts, key_in, party_at}
-use Rattle.stun_proto.specs.ServerValidation.{Accepts, IsAfterNoMemory, Refuses}
-use Rattle.stun_proto.specs.SupportedAlgorithms.{is_same_algorithm}
-use Rattle.turn_desk_grant.specs.declared.decision.Decision.{Decision}
-use Rattle.turn_desk_grant.specs.declared.grant.Grant as granted
-use Rattle.turn_desk_grant.specs.declared.verdict.Verdict.{Verdict}
-use Rattle.turn_desk_grant.specs.Grants.{IsGrant}
+use Rattle.stun_types_wire.specs.declared.algorithm.IntegrityAlgorithm.{IntegrityAlgorithm}
+use Rattle.stun_types_wire.specs.Attributes.{Attr}
+use Rattle.stun_types_wire.specs.Grammar.{number_at}
+use Rattle.stun_types_wire.specs.Text.{message_text}
+use Rattle.stun_types_wire.specs.MessageReading.{IsReadAs}
+use Rattle.stun_types_add.specs.Integrity.Credentials.{Key}
+use Rattle.stun_types_add.specs.Integrity.Integrity.{Validates}
+use Rattle.stun_types_add.specs.Integrity.Signing.{text_to_sign}
+use Rattle.stun_types_write.specs.ValueReading.{utf8_refusal}
+use Rattle.stun_proto_verify.specs.declared.error.LongTermServerAuthError.{LongTermServerAuthError}
+use Rattle.stun_proto_verify.specs.declared.error.LongTermServerAuthError.TheVariants.{BadRequest, StaleNonce, NoMemory}
+use Rattle.stun_proto_verify.specs.Judgement.{user_key}
+use Rattle.stun_proto_server.specs.Server.{Server, nonce_at, refreshed, with_outcome}
+use Rattle.stun_proto_verify.specs.Auth.Addition.{attrs}
+use Rattle.stun_proto_server.specs.ServerSigning.{Party, challenge_parts, key_in, party_at}
+use Rattle.stun_proto_server.specs.ServerValidation.{Accepts, IsAfterNoMemory, Refuses}
+use Rattle.stun_proto_verify.specs.Auth.SupportedAlgorithms.{is_same_algorithm}
+use Rattle.turn_desk_core.specs.declared.decision.Decision.{Decision}
+use Rattle.turn_desk_core.specs.declared.grant.Grant as granted
+use Rattle.turn_desk_core.specs.declared.verdict.Verdict.{Verdict}
+use Rattle.turn_desk_core.specs.Grants.{IsGrant}
 use Rattle.turn_desk_core.specs.State.{State}
-use Rattle.turn_desk_grant.specs.Verdicts.{grants_of, reply_attributes, reply_type, verdict_on}
-use Rattle.stun_types.specs.Objections.{error_type}
-use Rattle.turn_desk_grant.specs.Replies.{failure_attributes, signed_attributes, signed_text, success_type}
-use Rattle.stun_types.specs.Registry.{longest_text, most_algorithms}
-use Rattle.stun_types.specs.Registry.{bad_request_code, stale_nonce_code, unauthorized_code}
+use Rattle.turn_desk_core.specs.Verdicts.{grants_of, reply_attributes, reply_type, verdict_on}
+use Rattle.stun_types_message.specs.Objections.{error_type}
+use Rattle.turn_desk_core.specs.Replies.{failure_attributes, signed_attributes, signed_text, success_type}
+use Rattle.stun_types_wire.specs.Registry.{longest_text, most_algorithms}
+use Rattle.stun_types_wire.specs.Registry.{bad_request_code, stale_nonce_code, unauthorized_code}
 
 -- ---- the key of a party
 

@@ -3,14 +3,14 @@
 ghost use Rattle.std.specs.Prelude.{◌≡◌, List, ℕ};
 ghost use Rattle.std.specs.declared.net.socket_addr.SocketAddr.{SocketAddr};
 ghost use Rattle.rand_core.specs.Stream.{Stream};
-ghost use Rattle.turn_desk_grant.specs.declared.decision.Decision.{Decision};
-ghost use Rattle.turn_desk_grant.specs.Requests.{IsServed};
+ghost use Rattle.turn_desk_core.specs.declared.decision.Decision.{Decision};
+ghost use Rattle.turn_desk_core.specs.Requests.{IsServed};
 ghost use Rattle.turn_desk_core.specs.State.{State};
 ghost use Rattle.turn_desk_core.specs.Steps.{IsAnswer};
 ghost use Rattle.turn_desk_core.specs.DeskCalls.{AreAlike, AreAnsweredAlike, IsServerRun, NameOneUser, ServerAnswer, ServerCall, StandsAlone, calls_concerning};
 ghost use Rattle.turn_desk_core.specs.DeskIsolation.{IsAnsweredAlike};
 ghost use Rattle.turn_desk_core.specs.DeskSteps.{DeskStep};
-ghost use Rattle.stun_proto.specs.Server.{SameFor};
+ghost use Rattle.stun_proto_server.specs.Server.{SameFor};
 
 /// An answer to a request that is served is a response to it, never a request. A success says that the
 /// request validated under the key of a user, and that one grant of it is kept, with its number, its

@@ -1,10 +1,16 @@
-//! The core of a small TURN server: it judges requests by what its driver decides, and keeps what it
-//! granted. It does no IO: bytes, addresses, moments and random words come in, replies go out.
+//! The server core: what is asked for, what is granted, the reply, and `Desk`, which authenticates a
+//! request before it does any of these.
 #![tactic(auto)]
 
+pub mod allocated;
+pub mod asked;
+pub mod decision;
 pub mod desk;
+pub mod failure;
+pub mod grant;
+pub mod granted;
 pub mod laws;
-
-// What stands above this crate has these through it.
-pub use stun_proto as proto;
-pub use turn_desk_grant::{decision, grant, verdict};
+pub mod peers;
+pub mod reply;
+pub mod request;
+pub mod verdict;

@@ -1,9 +1,10 @@
 //! What events in a world are answered.
 
 use std::net::{IpAddr, SocketAddr};
-use stun_types::data::Data;
-use stun_types::{Transmit, TransportType};
-use turn_client_proto_api::Instant;
+use stun_types_base::data::Data;
+use stun_types_base::instant::Instant;
+use stun_types_base::transmit::Transmit;
+use stun_types_base::transport::TransportType;
 use turn_client_proto_api::answer::Socket5Tuple;
 use turn_client_proto_api::data::TurnPeerData;
 use turn_client_proto_api::error::{

@@ -1,9 +1,9 @@
 //! What happens in a world.
 
 use std::net::{IpAddr, SocketAddr};
-use stun_types::TransportType;
-use turn_client_proto_api::Instant;
-use turn_desk_grant::decision::Decision;
+use stun_types_base::instant::Instant;
+use stun_types_base::transport::TransportType;
+use turn_desk_core::decision::Decision;
 
 /// A call of a client by its user.
 #[derive(Debug, Drop)]

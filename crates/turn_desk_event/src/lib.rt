@@ -1,9 +1,6 @@
-//! What happens to a client and a desk between which a network lies, and what it is answered.
+//! The events of a simulation and their answers, and the lines by which a trace prints them.
 #![tactic(auto)]
 
 pub mod answer;
 pub mod event;
-
-// What stands above this crate has these through it.
-pub use turn_client_proto_api::{answer as api_answer, error, event as api_event};
-pub use turn_desk_grant::{decision, grant};
+pub mod print;

@@ -5,8 +5,9 @@ use Rattle.std.specs.List.{IsDistinct, after_first, before_first, position_or_le
 use Rattle.std.proofs.lemmas.List.{append-nil, length-drop}
 use Rattle.std.proofs.lemmas.List.Splits.{slice_split_first, slice_split_none}
 use Rattle.std.proofs.lemmas.List.Sums.{fails_before_first}
-use Rattle.stun_proto.specs.SupportedAlgorithms.{is_same_algorithm}
-use Rattle.stun_types.specs.IntegrityAlgorithms.{IntegrityAlgorithm, Sha1, Sha256, Sha512}
+use Rattle.stun_proto_auth.specs.SupportedAlgorithms.{is_same_algorithm}
+use Rattle.stun_types_wire.specs.declared.algorithm.IntegrityAlgorithm.{IntegrityAlgorithm}
+use Rattle.stun_types_wire.specs.declared.algorithm.IntegrityAlgorithm.TheVariants.{Sha1, Sha256, Sha512}
 use Rattle.stun_proto_auth.proofs.Adding.{not_before}
 use Rattle.stun_proto_auth.proofs.Keeping.{more_distinct}
 use Rattle.turn_desk_trace.specs.Algorithms.{AreAlgorithms, IsAnother, algorithm_word}

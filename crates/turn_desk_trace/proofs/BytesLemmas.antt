@@ -6,7 +6,7 @@ use Rattle.std.proofs.lemmas.List.{drop_all, append-nil}
 use Rattle.std.proofs.Common.{Bor, suc}
 use Rattle.std.proofs.lemmas.Bool.{ne_eqb}
 use Rattle.turn_desk_trace.specs.Bytes.{answered_part, both, joined, part_bytes, prepend, some_bytes, named_bytes}
-use Rattle.program_lines.specs.LowerHex.{hex_bytes, is_dash}
+use Rattle.line_io.specs.LowerHex.{hex_bytes, is_dash}
 
 -- a part that begins with `@`
 pub part_answered : (answers : List (List ℕ)) (piece rest : List ℕ) → piece ≡ 64 ∷ rest

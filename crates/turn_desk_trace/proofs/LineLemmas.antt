@@ -3,8 +3,8 @@ use Rattle.std.proofs.Common.{ℕ, List, subst}
 use Rattle.std.specs.Prelude.{Result, Ok, Err, IfOk}
 use Rattle.turn_desk_trace.specs.declared.line.Line.{Line}
 use Rattle.turn_desk_trace.specs.TraceLines.{IsLine, IsLineOf}
-use Rattle.program_lines.specs.LineWords.{AreWords}
-use Rattle.program_lines.proofs.WordLemmas.{same_words}
+use Rattle.line_io.specs.LineWords.{AreWords}
+use Rattle.line_io.proofs.WordLemmas.{same_words}
 
 -- the words of a line spell it
 pub line_ok : {E : Type 0} (answers : List (List ℕ)) (text : List ℕ) (words : List (List ℕ)) (r : Result Line E)

@@ -1,8 +1,9 @@
 -- Integrity algorithms of a trace.
 use Rattle.std.specs.Prelude.{ℕ, ◌≡◌, List, [], ◌∷◌, ◌++◌, map, codes, Option, Some, None, false}
 use Rattle.std.specs.List.{IsDistinct, list_any}
-use Rattle.stun_proto.specs.SupportedAlgorithms.{is_same_algorithm}
-use Rattle.stun_types.specs.IntegrityAlgorithms.{IntegrityAlgorithm, Sha1, Sha256, Sha512}
+use Rattle.stun_proto_auth.specs.SupportedAlgorithms.{is_same_algorithm}
+use Rattle.stun_types_wire.specs.declared.algorithm.IntegrityAlgorithm.{IntegrityAlgorithm}
+use Rattle.stun_types_wire.specs.declared.algorithm.IntegrityAlgorithm.TheVariants.{Sha1, Sha256, Sha512}
 
 -- the name of an algorithm
 abbrev pub algorithm_word : IntegrityAlgorithm → List ℕ

@@ -1,6 +1,6 @@
 -- Which bytes of an answer later lines name.
 use Rattle.std.specs.Prelude.{ℕ, List, [], Option, Some, None}
-use Rattle.stun_types.specs.Data.{data_bytes}
+use Rattle.stun_types_base.specs.Data.{data_bytes}
 use Rattle.turn_desk_event.specs.declared.answer.Answer.{Answer}
 use Rattle.turn_desk_event.specs.declared.answer.Answer.TheVariants as Answers
 

@@ -3,7 +3,7 @@
 use Rattle.std.specs.Prelude.{ℕ, ◌-◌, ◌==◌, nat_le, ◌&&◌, if◌then◌else◌, List, [], ◌∷◌, ◌++◌, map, drop, length, slice_get, slice_range, slice_index, Option, Some, None}
 use Rattle.std.specs.Option.{option_map}
 use Rattle.std.specs.List.{slice_split}
-use Rattle.program_lines.specs.LowerHex.{hex_bytes, is_dash}
+use Rattle.line_io.specs.LowerHex.{hex_bytes, is_dash}
 use Rattle.turn_desk_trace.specs.TraceNumbers.{number}
 
 -- what the event line of this number was answered, event lines counted from 1

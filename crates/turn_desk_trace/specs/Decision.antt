@@ -1,11 +1,11 @@
 -- Decisions of a trace.
 use Rattle.std.specs.Prelude.{ℕ, ◌≡◌, ◌-◌, ◌^◌, ◌==◌, List, [], ◌∷◌, codes, Some}
 use Rattle.std.specs.List.{slice_split}
-use Rattle.turn_desk_event.specs.declared.decision.Decision.{Decision}
-use Rattle.turn_desk_event.specs.declared.decision.Decision.TheVariants.{Refuse, Allocate, Refresh, Connect, Grant}
+use Rattle.turn_desk_core.specs.declared.decision.Decision.{Decision}
+use Rattle.turn_desk_core.specs.declared.decision.Decision.TheVariants.{Refuse, Allocate, Refresh, Connect, Grant}
 use Rattle.turn_desk_trace.specs.Address.{AreAddresses}
 use Rattle.turn_desk_trace.specs.TraceNumbers.{number_within}
-use Rattle.stun_types.specs.Registry.{greatest_code, least_code}
+use Rattle.stun_types_wire.specs.Registry.{greatest_code, least_code}
 
 -- the word spells a number of 32 bits
 abbrev pub IsU32 : List ℕ → ℕ → Type 0

@@ -3,12 +3,12 @@ use Rattle.std.specs.Prelude.{ℕ, ◌≡◌, List, [], ◌∷◌, ◌⊎◌, Op
 use Rattle.std.specs.Net.Grammar.{IsIpText, IsSocketText}
 use Rattle.std.specs.declared.net.ip_addr.IpAddr.{IpAddr}
 use Rattle.std.specs.declared.net.socket_addr.SocketAddr.{SocketAddr}
-use Rattle.stun_types.specs.declared.transport.TransportType.{TransportType}
+use Rattle.stun_types_base.specs.declared.transport.TransportType.{TransportType}
 use Rattle.turn_desk_event.specs.declared.event.ClientCall.{ClientCall}
 use Rattle.turn_desk_event.specs.declared.event.ClientCall.TheVariants.{Poll, PollEvent, Delete, CreatePermission, HavePermission, Permissions, BindChannel, Channels, SendTo, PollRecv, ProtocolError, RelayedAddresses, TcpConnect, AllocatedTcpSocket, TcpClosed, Connections}
 use Rattle.turn_desk_event.specs.declared.event.Event.{Event}
 use Rattle.turn_desk_event.specs.declared.event.Event.TheVariants.{Call, Draw, ToClient, ToDesk}
-use Rattle.turn_desk_print.specs.Printed.{transport_word}
+use Rattle.turn_desk_event.specs.Printed.{transport_word}
 use Rattle.turn_desk_trace.specs.Bytes.{named_bytes}
 use Rattle.turn_desk_trace.specs.Decision.{IsDecision, IsU32}
 use Rattle.turn_desk_trace.specs.TraceNumbers.{number, seed_of}

@@ -5,12 +5,13 @@ use Rattle.std.specs.List.{slice_split}
 use Rattle.std.specs.Option.{option_map}
 use Rattle.std.specs.Net.Grammar.{IsSocketText}
 use Rattle.std.specs.declared.time.Duration.{Duration}
-use Rattle.stun_proto.specs.Features.{Feature, Auto, Required, Disabled}
-use Rattle.stun_types.specs.declared.family.AddressFamily.{AddressFamily}
-use Rattle.stun_types.specs.declared.family.AddressFamily.TheVariants.{IPV4, IPV6}
-use Rattle.stun_types.specs.declared.transport.TransportType.{TransportType}
-use Rattle.stun_types.specs.declared.transport.TransportType.TheVariants.{Udp, Tcp}
-use Rattle.turn_desk_print.specs.Printed.{transport_word}
+use Rattle.stun_proto_auth.specs.declared.feature.Feature.{Feature}
+use Rattle.stun_proto_auth.specs.declared.feature.Feature.TheVariants.{Auto, Required, Disabled}
+use Rattle.stun_types_base.specs.declared.family.AddressFamily.{AddressFamily}
+use Rattle.stun_types_base.specs.declared.family.AddressFamily.TheVariants.{IPV4, IPV6}
+use Rattle.stun_types_base.specs.declared.transport.TransportType.{TransportType}
+use Rattle.stun_types_base.specs.declared.transport.TransportType.TheVariants.{Udp, Tcp}
+use Rattle.turn_desk_event.specs.Printed.{transport_word}
 use Rattle.turn_desk_trace.specs.Algorithms.{AreAlgorithms}
 use Rattle.turn_desk_trace.specs.Decision.{IsU32}
 use Rattle.turn_desk_trace.specs.TraceNumbers.{number, seed_of}

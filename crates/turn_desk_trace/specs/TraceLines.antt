@@ -1,7 +1,7 @@
 -- Lines of a trace.
 use Rattle.std.specs.Prelude.{ℕ, ◌≡◌, ◌⊎◌, List, true}
-use Rattle.program_lines.specs.Cut.{says_nothing}
-use Rattle.program_lines.specs.LineWords.{AreWords}
+use Rattle.line_io.specs.Cut.{says_nothing}
+use Rattle.line_io.specs.LineWords.{AreWords}
 use Rattle.turn_desk_trace.specs.declared.line.Line.{Line}
 use Rattle.turn_desk_trace.specs.declared.line.Line.TheVariants.{Setup, Event}
 use Rattle.turn_desk_trace.specs.Event.{IsEvent}

@@ -5,15 +5,17 @@ ghost use Rattle.std.specs.List.{slice_split};
 ghost use Rattle.std.specs.Net.Grammar.{IsIpText, IsSocketText};
 ghost use Rattle.std.specs.declared.net.ip_addr.IpAddr.{IpAddr};
 ghost use Rattle.std.specs.declared.net.socket_addr.SocketAddr.{SocketAddr};
-ghost use Rattle.stun_types.specs.declared.transport.TransportType.{TransportType};
+ghost use Rattle.stun_types_base.specs.declared.transport.TransportType.{TransportType};
 ghost use Rattle.turn_desk_trace.specs.Address.{AreAddresses};
-ghost use Rattle.turn_desk_print.specs.Printed.{transport_word};
+ghost use Rattle.turn_desk_event.specs.Printed.{transport_word};
 
-use program_lines::refusal::LineError;
-use program_lines::word::pieces;
+use line_io::refusal::LineError;
+use line_io::word::pieces;
 use std::alloc::Global;
 use std::net::{IpAddr, SocketAddr};
-use stun_types::{ListOf, NoMemory, TransportType};
+use stun_types_base::list::ListOf;
+use stun_types_base::memory::NoMemory;
+use stun_types_base::transport::TransportType;
 
 /// The transport address that a word spells, as `192.0.2.1:3478` or `[2001:db8::1]:3478`. None
 /// where it spells none.

@@ -2,11 +2,11 @@
 
 ghost use Rattle.std.specs.Prelude.{◌≡◌, ◌≢◌, ◌∷◌, [], ◌==◌, ◌<◌, List, IfSome, MatchOption, length};
 ghost use Rattle.std.specs.List.{slice_split};
-ghost use Rattle.stun_types.specs.IntegrityAlgorithms.{IntegrityAlgorithm};
+ghost use Rattle.stun_types_wire.specs.declared.algorithm.IntegrityAlgorithm.{IntegrityAlgorithm};
 ghost use Rattle.turn_desk_trace.specs.Algorithms.{AreAlgorithms, IsAnother, algorithm_word, listed};
 
-use stun_proto::auth::SupportedIntegrity;
-use stun_types::message::IntegrityAlgorithm;
+use stun_proto_auth::supported::SupportedIntegrity;
+use stun_types_wire::algorithm::IntegrityAlgorithm;
 
 /// The algorithm that a word names. None where it names none.
 pub fn read_algorithm(word: &str) -> Option<IntegrityAlgorithm>

@@ -2,17 +2,17 @@
 
 ghost use Rattle.std.specs.Prelude.{◌≡◌, Some, None, Err, IfOk, OnOk, map};
 ghost use Rattle.std.specs.Option.{option_copied};
-ghost use Rattle.program_lines.specs.LowerHex.{hex_bytes};
+ghost use Rattle.line_io.specs.LowerHex.{hex_bytes};
 ghost use Rattle.turn_desk_trace.specs.TraceNumbers.{number};
 ghost use Rattle.turn_desk_trace.specs.Bytes.{answer_of, answered_part, joined, named_bytes, part_bytes, prepend, range_of, reference_bytes, some_bytes};
 
 use crate::named::Named;
 use crate::number::read_u64;
-use program_lines::lower_hex::{decode_lower, is_no_bytes};
-use program_lines::refusal::LineError;
-use program_lines::word::pieces;
+use line_io::lower_hex::{decode_lower, is_no_bytes};
+use line_io::refusal::LineError;
+use line_io::word::pieces;
 use std::alloc::Global;
-use stun_types::NoMemory;
+use stun_types_base::memory::NoMemory;
 
 /// The bytes that a BYTES word names: `-` is no bytes, and else its parts, which `+` joins, give
 /// theirs in their order. A part that names no bytes makes the word bad. All bytes are read, however

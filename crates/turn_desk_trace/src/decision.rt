@@ -1,14 +1,14 @@
 //! Decisions of a trace: what the desk is told of a request.
 
 ghost use Rattle.std.specs.Prelude.{◌≡◌, Err, IfOk, MatchOption, map};
-ghost use Rattle.turn_desk_event.specs.declared.decision.Decision.{Decision};
+ghost use Rattle.turn_desk_core.specs.declared.decision.Decision.{Decision};
 ghost use Rattle.turn_desk_trace.specs.Decision.{IsAllocate, IsDecision, IsNumbered};
 
 use crate::address::read_addresses;
 use crate::number::{read_code, read_u32};
-use program_lines::refusal::LineError;
+use line_io::refusal::LineError;
 use std::alloc::Global;
-use turn_desk_event::decision::Decision;
+use turn_desk_core::decision::Decision;
 
 /// The decision that the last words of a line spell. Refused with `Bad` where they spell none, and
 /// with `NoMemory` where memory is refused.

@@ -3,7 +3,7 @@
 ghost use Rattle.std.specs.Prelude.{◌≡◌, ℕ, Err, IfOk, MatchOption, Option, map};
 ghost use Rattle.std.specs.declared.net.ip_addr.IpAddr.{IpAddr};
 ghost use Rattle.std.specs.declared.net.socket_addr.SocketAddr.{SocketAddr};
-ghost use Rattle.stun_types.specs.declared.transport.TransportType.{TransportType};
+ghost use Rattle.stun_types_base.specs.declared.transport.TransportType.{TransportType};
 ghost use Rattle.turn_desk_event.specs.declared.event.ClientCall.{ClientCall};
 ghost use Rattle.turn_desk_event.specs.declared.event.Event.{Event};
 ghost use Rattle.turn_desk_trace.specs.Event.{IsBind, IsCall, IsEvent, IsMoment, IsNoMoment, IsPermission, IsPlacedIp, IsPlacedSocket, IsSend, IsToClient, IsToClientFrom, IsToClientOf, IsToDesk, IsToDeskFrom, IsToDeskOf, IsConnect, IsAllocated, IsClosed, IsSocket};
@@ -13,11 +13,11 @@ use crate::bytes::read_bytes;
 use crate::decision::read_decision;
 use crate::named::Named;
 use crate::number::{read_seed, read_u32, read_u64};
-use program_lines::refusal::LineError;
+use line_io::refusal::LineError;
 use std::alloc::Global;
 use std::net::{IpAddr, SocketAddr};
-use stun_proto::Instant;
-use stun_types::TransportType;
+use stun_types_base::instant::Instant;
+use stun_types_base::transport::TransportType;
 use turn_desk_event::event::{ClientCall, Event};
 
 /// The event that some words spell. `answers` are those of the event lines so far. Refused with

@@ -7,8 +7,8 @@ ghost use Rattle.turn_desk_trace.specs.TraceLines.{IsLine, IsLineOf};
 use crate::event::read_event;
 use crate::named::Named;
 use crate::setup::{Setup, read_setup};
-use program_lines::refusal::LineError;
-use program_lines::word::read_words;
+use line_io::refusal::LineError;
+use line_io::word::read_words;
 use std::alloc::Global;
 use turn_desk_event::event::Event;
 

@@ -2,9 +2,9 @@
 
 ghost use Rattle.std.specs.Prelude.{◌≡◌, ◌-◌, ◌^◌, ◌≤◌, IfSome};
 ghost use Rattle.turn_desk_trace.specs.TraceNumbers.{number_within, seed_of};
-ghost use Rattle.stun_types.specs.Registry.{greatest_code, least_code};
+ghost use Rattle.stun_types_wire.specs.Registry.{greatest_code, least_code};
 
-use stun_types::registry;
+use stun_types_wire::registry;
 
 /// The least error code that a decision may have.
 pub const LEAST_CODE: u16 = registry::MIN_ERROR_CODE;

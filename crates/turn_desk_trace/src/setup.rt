@@ -2,8 +2,8 @@
 
 ghost use Rattle.std.specs.Prelude.{◌≡◌, ◌≢◌, MatchOption, map};
 ghost use Rattle.std.specs.declared.time.Duration.{Duration};
-ghost use Rattle.stun_proto.specs.Features.{Feature};
-ghost use Rattle.stun_types.specs.declared.transport.TransportType.{TransportType};
+ghost use Rattle.stun_proto_auth.specs.declared.feature.Feature.{Feature};
+ghost use Rattle.stun_types_base.specs.declared.transport.TransportType.{TransportType};
 ghost use Rattle.turn_desk_trace.specs.declared.setup.Client.{Client};
 ghost use Rattle.turn_desk_trace.specs.declared.setup.Families.{Families};
 ghost use Rattle.turn_desk_trace.specs.declared.setup.Setup.{Setup};
@@ -14,8 +14,10 @@ use crate::algorithms::read_algorithms;
 use crate::number::{SEED_LENGTH, read_seed, read_u32, read_u64};
 use std::net::SocketAddr;
 use std::time::Duration;
-use stun_proto::auth::{Feature as Anonymity, SupportedIntegrity};
-use stun_types::{TransportType, registry};
+use stun_proto_auth::feature::Feature as Anonymity;
+use stun_proto_auth::supported::SupportedIntegrity;
+use stun_types_base::transport::TransportType;
+use stun_types_wire::registry;
 
 /// The most bytes of a realm (RFC 8489, section 14.9).
 pub const MAX_REALM: usize = registry::MAX_TEXT_LENGTH;

@@ -5,8 +5,8 @@ use Rattle.std.specs.Prelude.{IfOk, Result, Ok, Err}
 use Rattle.std.proofs.lemmas.List.{take_more}
 use Rattle.turn_desk_event.specs.declared.answer.Answer.{Answer}
 use Rattle.std.specs.declared.net.socket_addr.SocketAddr.{SocketAddr}
-use Rattle.turn_client_proto.specs.Kept.{Kept, Leaves}
-use Rattle.turn_desk_steps.specs.State.{State}
+use Rattle.turn_client_proto.specs.Recv.Kept.{Kept, Leaves}
+use Rattle.turn_desk_core.specs.State.{State}
 use Rattle.turn_desk_event.specs.declared.event.ClientCall.{ClientCall}
 use Rattle.turn_desk_event.specs.declared.event.Event.{Event}
 use Rattle.turn_desk_event.specs.declared.event.Event.TheVariants.{Call, Draw, ToClient}

@@ -1,23 +1,11 @@
-pub mod AddressAlone
-pub mod Addresses
-pub mod Answered
-pub mod AtClient
-pub mod AtDesk
-pub mod AtSocket
-pub mod AtStream
-pub mod Beginning
 pub mod Bytes
-pub mod Chain
-pub mod Counting
-pub mod Determined
-pub mod Ends
-pub mod Handed
 pub mod Joined
-pub mod Once
-pub mod Receiving
-pub mod Safe
-pub mod Shown
-pub mod Sides
-pub mod SocketOnce
-pub mod Streaming
-pub mod Telling
+pub mod Clients
+pub mod KeepingLemmas
+pub mod KeptLemmas
+pub mod OneLine
+pub mod Replays
+pub mod Standing
+pub mod WantedLemmas
+-- What stands above this crate has these through it.
+pub use Rattle.turn_client_proto.proofs.PayloadPart as TurnClientProtoPayload

@@ -3,31 +3,32 @@ use Rattle.std.specs.Prelude.{◌≡◌, ◌≢◌, ℕ, List, [], ◌∷◌, Op
 use Rattle.std.specs.Borrow.{Bor}
 use Rattle.std.specs.declared.net.ip_addr.IpAddr.{IpAddr}
 use Rattle.std.specs.declared.net.socket_addr.SocketAddr.{SocketAddr}
-use Rattle.stun_types.specs.Headers.{AreBytes}
-use Rattle.stun_types.specs.declared.transmit.Transmit.{Transmit}
-use Rattle.stun_types.specs.declared.transport.TransportType.{TransportType}
-use Rattle.turn_client_proto.specs.Api.declared.answer.TurnPollRet.TheVariants as poll
-use Rattle.turn_client_proto.specs.Api.declared.answer.TurnRecvRet.{TurnRecvRet}
-use Rattle.turn_client_proto.specs.Api.declared.answer.TurnRecvRet.TheVariants as recv
-use Rattle.turn_client_proto.specs.Api.declared.error.BindChannelError.TheVariants as not_bound
-use Rattle.turn_client_proto.specs.Api.declared.error.CreatePermissionError.TheVariants as not_permitted
-use Rattle.turn_client_proto.specs.Api.declared.error.DeleteError.TheVariants as not_deleted
-use Rattle.turn_client_proto.specs.Api.declared.error.SendError.TheVariants as not_sent
-use Rattle.turn_client_proto.specs.Api.declared.answer.Socket5Tuple.{Socket5Tuple}
-use Rattle.turn_client_proto.specs.Api.declared.error.TcpAllocateError.TheVariants as not_taken
-use Rattle.turn_client_proto.specs.Api.declared.error.TcpConnectError.TheVariants as not_connected
-use Rattle.turn_client_proto.specs.Closing.{after_close}
-use Rattle.turn_client_proto.specs.Connecting.{IsConnectAnswered}
+use Rattle.stun_types_wire.specs.Headers.{AreBytes}
+use Rattle.stun_types_base.specs.declared.transmit.Transmit.{Transmit}
+use Rattle.stun_types_base.specs.declared.transport.TransportType.{TransportType}
+use Rattle.turn_client_proto_api.specs.declared.answer.TurnPollRet.TheVariants as poll
+use Rattle.turn_client_proto_api.specs.declared.answer.TurnRecvRet.{TurnRecvRet}
+use Rattle.turn_client_proto_api.specs.declared.answer.TurnRecvRet.TheVariants as recv
+use Rattle.turn_client_proto_api.specs.declared.error.BindChannelError.TheVariants as not_bound
+use Rattle.turn_client_proto_api.specs.declared.error.CreatePermissionError.TheVariants as not_permitted
+use Rattle.turn_client_proto_api.specs.declared.error.DeleteError.TheVariants as not_deleted
+use Rattle.turn_client_proto_api.specs.declared.error.SendError.TheVariants as not_sent
+use Rattle.turn_client_proto_api.specs.declared.answer.Socket5Tuple.{Socket5Tuple}
+use Rattle.turn_client_proto_api.specs.declared.error.TcpAllocateError.TheVariants as not_taken
+use Rattle.turn_client_proto_api.specs.declared.error.TcpConnectError.TheVariants as not_connected
+use Rattle.turn_client_proto.specs.Recv.Closing.{after_close}
+use Rattle.turn_client_proto.specs.Recv.Connecting.{IsConnectAnswered}
 use Rattle.turn_client_proto.specs.Getters.{channels_of, connections_of, has_permission, permissions_of, relayed_of}
-use Rattle.turn_client_proto.specs.Receipts.{IsReceived, IsWaitingGiven}
-use Rattle.turn_client_proto.specs.Binding.{IsBindAnswered}
-use Rattle.turn_client_proto.specs.Deleting.{IsDeleteAnswered}
-use Rattle.turn_client_proto.specs.Drawing.{IsDrawn, sent_of}
-use Rattle.turn_client_proto.specs.Ending.{ended}
-use Rattle.turn_client_proto.specs.Permitting.{IsPermissionAnswered}
-use Rattle.turn_client_proto.specs.Polling.{IsPolled}
-use Rattle.turn_client_proto.specs.Kept.{Kept, Leaves, Protocol}
-use Rattle.turn_client_proto.specs.Sending.{IsSendAnswered}
+use Rattle.turn_client_proto.specs.Recv.Receipts.{IsReceived, IsWaitingGiven}
+use Rattle.turn_client_proto.specs.Core.Binding.{IsBindAnswered}
+use Rattle.turn_client_proto.specs.Core.Deleting.{IsDeleteAnswered}
+use Rattle.turn_client_proto.specs.Timers.Drawing.{IsDrawn}
+use Rattle.turn_client_proto_api.specs.Sent.{sent_of}
+use Rattle.turn_client_proto.specs.Core.Ending.{ended}
+use Rattle.turn_client_proto.specs.Core.Permitting.{IsPermissionAnswered}
+use Rattle.turn_client_proto.specs.Timers.Polling.{IsPolled}
+use Rattle.turn_client_proto.specs.Recv.Kept.{Kept, Leaves, Protocol}
+use Rattle.turn_client_proto.specs.PayloadPart.Sending.{IsSendAnswered}
 use Rattle.turn_client_proto.specs.SocketsTold.{IsSocketTold}
 use Rattle.turn_desk_event.specs.declared.answer.Answer.{Answer}
 use Rattle.turn_desk_event.specs.declared.answer.Answer.TheVariants as answer

@@ -4,14 +4,14 @@ use Rattle.std.specs.declared.net.socket_addr.SocketAddr.{SocketAddr}
 use Rattle.rand_chacha.specs.ChaCha.{next_word, of_seed}
 use Rattle.rand_core.specs.Steps.{steps_u32, stream_of}
 use Rattle.rand_core.specs.Stream.{Stream}
-use Rattle.stun_proto.specs.Server.{SameFor}
-use Rattle.stun_types.specs.Headers.{AreBytes}
-use Rattle.turn_desk_steps.specs.State.{State}
-use Rattle.turn_desk_steps.specs.Steps.{IsAnswer, IsGranted}
-use Rattle.turn_desk_event.specs.Requests.{IsServed}
-use Rattle.turn_desk_event.specs.declared.decision.Decision.{Decision}
-use Rattle.turn_desk_event.specs.declared.decision.Decision.TheVariants as by
-use Rattle.turn_desk_event.specs.declared.grant.Grant.{Grant}
+use Rattle.stun_proto_server.specs.Server.{SameFor}
+use Rattle.stun_types_wire.specs.Headers.{AreBytes}
+use Rattle.turn_desk_core.specs.State.{State}
+use Rattle.turn_desk_core.specs.Steps.{IsAnswer, IsGranted}
+use Rattle.turn_desk_core.specs.Requests.{IsServed}
+use Rattle.turn_desk_core.specs.declared.decision.Decision.{Decision}
+use Rattle.turn_desk_core.specs.declared.decision.Decision.TheVariants as by
+use Rattle.turn_desk_core.specs.declared.grant.Grant.{Grant}
 use Rattle.turn_desk_event.specs.declared.answer.Answer.{Answer}
 use Rattle.turn_desk_event.specs.declared.answer.Answer.TheVariants as answer
 

@@ -1,6 +1,6 @@
 -- That a run is determined by its events.
 use Rattle.std.specs.Prelude.{◌≡◌, List, [], ◌∷◌, map}
-use Rattle.turn_client_proto.specs.Drawing.{sent_of}
+use Rattle.turn_client_proto_api.specs.Sent.{sent_of}
 use Rattle.turn_desk_event.specs.declared.answer.Answer.{Answer}
 use Rattle.turn_desk_event.specs.declared.answer.Answer.TheVariants as answer
 use Rattle.turn_desk_event.specs.declared.event.Event.{Event}

@@ -2,8 +2,8 @@
 use Rattle.std.specs.Coded.{Coded, code_by, coded×, coded_bool, coded_option}
 use Rattle.std.specs.Prelude.{Bool, Option, refl}
 use Rattle.turn_client_proto.specs.Codes.{kept_code}
-use Rattle.turn_client_proto.specs.Kept.{Kept}
-use Rattle.turn_desk_steps.specs.State.{State, state_code}
+use Rattle.turn_client_proto.specs.Recv.Kept.{Kept}
+use Rattle.turn_desk_core.specs.State.{State, state_code}
 
 -- a desk, what the client keeps where there is one, and whether a run was refused memory
 pub record World : Type 0 where

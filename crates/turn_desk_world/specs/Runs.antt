@@ -1,8 +1,8 @@
 -- Runs of a world.
 use Rattle.std.specs.Prelude.{◌≡◌, ℕ, ◌^◌, nat_le, Bool, true, false, not, List, [], ◌∷◌, filter, Option, Some, None}
 use Rattle.std.specs.Bool.{MatchBool}
-use Rattle.stun_proto.specs.Users.{HashesDiffer}
-use Rattle.turn_client_proto.specs.Kept.{Kept, Leaves}
+use Rattle.stun_proto_server.specs.Users.{HashesDiffer}
+use Rattle.turn_client_proto.specs.Recv.Kept.{Kept, Leaves}
 use Rattle.turn_desk_world.specs.Calls.{IsCallTold, IsDrawnAs, IsFed}
 use Rattle.turn_desk_world.specs.Desks.{IsDeskAnswered}
 use Rattle.turn_desk_world.specs.Determined.{AreSame, HaveSameEvents}

@@ -7,11 +7,11 @@ use crate::typed::{are_bytes, numbers_have_four_bytes};
 use rand_chacha::ChaCha20Rng;
 use rand_core::SeedableRng;
 use std::net::SocketAddr;
-use stun_proto::Instant;
-use stun_types::NoMemory;
+use stun_types_base::instant::Instant;
+use stun_types_base::memory::NoMemory;
+use turn_desk_core::decision::Decision;
+use turn_desk_core::desk::Desk;
 use turn_desk_event::answer::Answer;
-use turn_desk_event::decision::Decision;
-use turn_desk_steps::desk::Desk;
 
 /// Bytes reach a desk, which draws its words from the generator of a seed.
 pub(crate) fn ask(

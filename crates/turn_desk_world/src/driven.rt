@@ -2,7 +2,7 @@
 
 ghost use Rattle.std.specs.Prelude.{◌≡◌, IfOk};
 ghost use Rattle.turn_client_proto.specs.Clients.{kept_of};
-ghost use Rattle.turn_client_proto.specs.Kept.{Leaves};
+ghost use Rattle.turn_client_proto.specs.Recv.Kept.{Leaves};
 ghost use Rattle.turn_desk_world.specs.Calls.{AreChannelsTold, ArePermissionsTold, IsBindTold, IsCallTold, IsDeleteTold, IsDrawnAs, IsEventTold, IsFed, IsPermissionTold, IsPolledAs, IsRelayedTold, IsSendTold, IsWaitingTold, IsConnectTold, AreConnectionsTold, IsClosedTold, IsSocketTaken};
 ghost use Rattle.turn_desk_world.specs.Runs.{IsAtClient, IsInRange, is_in_range};
 
@@ -10,15 +10,18 @@ use crate::typed::are_bytes;
 use std::alloc::Global;
 use std::marker::Model;
 use std::net::{IpAddr, SocketAddr};
-use stun_proto::Instant;
-use stun_types::data::{Data, DataOwned};
-use stun_types::{NoMemory, Transmit, TransportType};
-use turn_client_proto::api::{
-    BindChannelError, CLIENT_END, CreatePermissionError, DeleteError, SendError, Socket5Tuple,
-    TcpAllocateError, TcpConnectError, TurnPollRet, TurnRecvRet,
-};
+use stun_types_base::data::{Data, DataOwned};
+use stun_types_base::instant::Instant;
+use stun_types_base::memory::NoMemory;
+use stun_types_base::transmit::Transmit;
+use stun_types_base::transport::TransportType;
+use turn_client_proto::api::{CLIENT_END, TurnClientApi};
 use turn_client_proto::client::TurnClient;
-use turn_client_proto::prelude::TurnClientApi;
+use turn_client_proto_api::answer::{Socket5Tuple, TurnPollRet, TurnRecvRet};
+use turn_client_proto_api::error::{
+    BindChannelError, CreatePermissionError, DeleteError, SendError, TcpAllocateError,
+    TcpConnectError,
+};
 use turn_desk_event::answer::{Answer, Refusal};
 use turn_desk_event::event::ClientCall;
 
@@ -412,7 +415,7 @@ impl Model for Driven {
     ghost use Rattle.std.specs.Option.{option_map};
     ghost use Rattle.std.specs.Prelude.{Option};
     ghost use Rattle.turn_client_proto.specs.Clients.{kept_of};
-    ghost use Rattle.turn_client_proto.specs.Kept.{Kept};
+    ghost use Rattle.turn_client_proto.specs.Recv.Kept.{Kept};
     ghost use Rattle.turn_desk_world.specs.Model.{driven_code};
 
     ghost Value = { Option Kept };

@@ -1,14 +1,13 @@
 //! A world of one client and one desk, and a network that may hand either of them any bytes at any
-//! moment: events in, their answers out. It performs no input or output.
+//! moment: events in, their answers out ([`world`]); and the replay of a trace, which lists such events
+//! ([`trace`]). It performs no input or output but by the reader and the writer that it is given.
 #![tactic(auto)]
 
 mod desk;
 mod driven;
-pub mod laws;
+mod progress;
+pub mod setting;
+pub mod trace;
 mod typed;
+mod wanted;
 pub mod world;
-
-// What stands above this crate has these through it.
-pub use turn_client_proto as client;
-pub use turn_desk_event::{answer, event};
-pub use turn_desk_steps::{decision, desk as core_desk, grant, laws as core_laws, proto};

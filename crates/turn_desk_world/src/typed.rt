@@ -1,10 +1,10 @@
 //! What types say of values. The functions do nothing; each contract is a law.
 
 ghost use Rattle.std.specs.Prelude.{◌<◌, ◌^◌};
-ghost use Rattle.stun_types.specs.Headers.{AreBytes};
+ghost use Rattle.stun_types_wire.specs.Headers.{AreBytes};
 ghost use Rattle.turn_desk_world.specs.Desks.{HasFourBytes};
 
-use turn_desk_event::decision::Decision;
+use turn_desk_core::decision::Decision;
 
 /// Bytes are below 256.
 pub(crate) fn are_bytes(bytes: &[u8])

@@ -6,10 +6,12 @@ use rand_core::SeedableRng;
 use std::alloc::Global;
 use std::net::{IpAddr, Ipv4Addr, SocketAddr};
 use std::{fmt, io};
-use stun_proto::Instant;
-use stun_proto::auth::LongTermServerAuth;
-use stun_types::message::{IntegrityAlgorithm, LongTermCredentials};
-use stun_types::{ListOf, NoMemory};
+use stun_proto_server::long_term::LongTermServerAuth;
+use stun_types_base::instant::Instant;
+use stun_types_base::list::ListOf;
+use stun_types_base::memory::NoMemory;
+use stun_types_integrity::credentials::LongTermCredentials;
+use stun_types_wire::algorithm::IntegrityAlgorithm;
 use turn_desk_core::decision::Decision;
 use turn_desk_core::desk::Desk;
 

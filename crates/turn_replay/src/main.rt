@@ -10,7 +10,7 @@
 use std::io;
 use std::io::{BufRead, Read};
 use std::process::ExitCode;
-use turn_desk_replay::trace::replay;
+use turn_desk_world::trace::replay;
 
 /// What begins each of several traces.
 const MARK: u8 = b'%';

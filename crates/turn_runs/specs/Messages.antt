@@ -1,7 +1,7 @@
 -- What messages show, what a client may hold, and which requests ask for it (RFC 8656; RFC 6062).
 use Rattle.std.specs.Prelude.{◌≡◌, ◌⊎◌, ℕ, List, [], ◌∷◌, Option, Some}
 use Rattle.turn_runs.specs.Members.{IsIn}
-use Rattle.turn_types.specs.TurnRegistry.{allocate_method, channel_bind_method, connect_method, connection_attempt_method, connection_bind_method, create_permission_method, refresh_method}
+use Rattle.turn_types_frame.specs.Attributes.TurnRegistry.{allocate_method, channel_bind_method, connect_method, connection_attempt_method, connection_bind_method, create_permission_method, refresh_method}
 use Rattle.turn_runs.specs.Names.{SocketAddr, IpAddr, socket_ip, IcmpReport, TransportType, MessageClass, Request, Success, Error}
 
 -- ---- what bytes show, as far as allocations, permissions, channels and connections go

@@ -3,7 +3,7 @@ use Rattle.std.specs.Prelude.{◌≡◌, ◌≢◌, ◌⊎◌, ℕ, ◌+◌, ◌
 use Rattle.turn_runs.specs.Members.{IsIn, NoneTwice}
 use Rattle.turn_runs.specs.Messages.{Message, Held, Connection, Gain, Holds, Knows, Asks, IsResponse, Brings, Grant, IsGrantFor, Payload, FromConnection, NamesHeld, Notice, IsOf}
 use Rattle.turn_runs.specs.Names.{SocketAddr, IntegrityAlgorithm, Request, Indication, Success, Error}
-use Rattle.turn_types.specs.TurnRegistry.{connection_attempt_method}
+use Rattle.turn_types_frame.specs.Attributes.TurnRegistry.{connection_attempt_method}
 use Rattle.turn_runs.specs.Words.{Wire, ClientWords, DeskWords}
 
 -- one call of a client

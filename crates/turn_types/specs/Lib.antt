@@ -2,15 +2,20 @@
 pub mod FrontKinds
 pub mod IncomingFrames
 pub mod StoredFrames
-pub use Rattle.turn_types_transmit.specs.FamilyValues
-pub use Rattle.turn_types_transmit.specs.Transports
-pub use Rattle.turn_types_transmit.specs.TurnRegistry
-pub use Rattle.turn_types_transmit.specs.PeerValues
-pub use Rattle.turn_types_transmit.specs.TurnShows
-pub use Rattle.turn_types_transmit.specs.ChannelFrames
-pub use Rattle.turn_types_transmit.specs.Frames
-pub use Rattle.turn_types_transmit.specs.StreamAnswers
-pub use Rattle.turn_types_transmit.specs.StreamFronts
-pub use Rattle.turn_types_transmit.specs.Streams
-pub use Rattle.turn_types_transmit.specs.Channeled
-pub use Rattle.turn_types_transmit.specs.Indications
+pub use Rattle.turn_types_attributes.specs.FamilyValues
+pub use Rattle.turn_types_attributes.specs.Transports
+pub use Rattle.turn_types_attributes.specs.TurnRegistry
+pub use Rattle.turn_types_peer.specs.PeerValues
+pub use Rattle.turn_types_peer.specs.TurnShows
+pub use Rattle.turn_types_frame.specs.ChannelFrames
+pub use Rattle.turn_types_frame.specs.Frames
+pub use Rattle.turn_types_frame.specs.StreamAnswers
+pub use Rattle.turn_types_frame.specs.StreamFronts
+pub use Rattle.turn_types_frame.specs.Streams
+pub use Rattle.turn_types_frame.specs.Channeled
+pub use Rattle.turn_types_frame.specs.Indications
+-- What stands above this crate has these through it.
+pub use Rattle.stun_types_base.specs as StunTypesBase
+pub use Rattle.stun_types_message.specs as StunTypesMessage
+pub use Rattle.turn_types_attributes.specs as Attributes
+pub use Rattle.turn_types_peer.specs as Peer

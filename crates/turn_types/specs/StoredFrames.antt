@@ -1,3 +1,3 @@
 -- A frame that a stream kept, by name.
-pub use Rattle.turn_types_transmit.specs.declared.tcp.StoredTcp.{StoredTcp}
-pub use Rattle.turn_types_transmit.specs.declared.tcp.StoredTcp.TheVariants.{Message, Channel}
+pub use Rattle.turn_types_frame.specs.declared.tcp.StoredTcp.{StoredTcp}
+pub use Rattle.turn_types_frame.specs.declared.tcp.StoredTcp.TheVariants.{Message, Channel}

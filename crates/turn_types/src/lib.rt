@@ -8,13 +8,15 @@
 
 pub mod attribute;
 pub mod channel;
-pub mod credentials;
 pub mod laws;
 pub mod message;
 pub mod prelude;
 pub mod registry;
+pub mod same;
 pub mod tcp;
 pub mod transmit;
 
-pub use crate::credentials::TurnCredentials;
-pub use turn_types_transmit::{AddressFamily, TransportType};
+pub use stun_types_base::family::AddressFamily;
+pub use stun_types_base::transport::TransportType;
+pub use turn_types_attributes::credentials;
+pub use turn_types_attributes::credentials::TurnCredentials;

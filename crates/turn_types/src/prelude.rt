@@ -1,3 +1,3 @@
 //! The trait that a caller wants in scope.
 
-pub use turn_types_transmit::build::DelayedTransmitBuild;
+pub use turn_types_frame::build::DelayedTransmitBuild;

@@ -1,5 +1,5 @@
 //! What is sent, before its bytes are written (RFC 8656, sections 11 and 12).
 
-pub use turn_types_transmit::build::{DelayedTransmitBuild, TransmitBuild};
-pub use turn_types_transmit::channel::DelayedChannel;
-pub use turn_types_transmit::message::DelayedMessage;
+pub use turn_types_frame::build::{DelayedTransmitBuild, TransmitBuild};
+pub use turn_types_frame::delayed_channel::DelayedChannel;
+pub use turn_types_frame::delayed_message::DelayedMessage;

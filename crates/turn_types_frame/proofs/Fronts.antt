@@ -8,7 +8,7 @@ use Rattle.stun_types_wire.specs.declared.error.StunParseError.{StunParseError}
 use Rattle.stun_types_wire.specs.declared.error.StunParseError.TheVariants.{NotStun}
 use Rattle.stun_types_wire.specs.Attributes.{length_at, padded}
 use Rattle.stun_types_wire.specs.Grammar.{may_begin, header_refusal}
-use Rattle.stun_types_grammar_laws.proofs.HeaderLaws.{wrong, short, whole, header_cases, front_begins}
+use Rattle.stun_types_wire.proofs.HeaderLaws.{wrong, short, whole, header_cases, front_begins}
 use Rattle.turn_types_frame.specs.declared.front.Front.TheVariants.{Message, Channel, Partial, Broken}
 use Rattle.turn_types_frame.specs.StreamFronts.{front, is_channel_top, size_of, given_of}
 use Rattle.turn_types_frame.specs.Frames.{IsMessageFrame, IsChannelFrame}

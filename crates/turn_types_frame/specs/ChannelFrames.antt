@@ -2,9 +2,10 @@
 use Rattle.std.specs.Prelude.{◌≤◌, ◌<◌, ◌^◌, ℕ, ◌+◌, Bool, ◌&&◌, not, nat_le, nat_lt, List, ◌++◌, length, take, drop, replicate, Option, Some, None, if◌then◌else◌}
 use Rattle.std.specs.Option.{option_or}
 use Rattle.byteorder.specs.Endian.{big_bytes}
-use Rattle.turn_types_attribute.specs.Attributes.{kind_at, length_at, padding_len}
-use Rattle.turn_types_attribute.specs.ParseErrors.{StunParseError, NotStun, Truncated}
-use Rattle.turn_types_attribute.specs.TurnRegistry.{channel_header_size, greatest_channel, least_channel}
+use Rattle.stun_types_wire.specs.Attributes.{kind_at, length_at, padding_len}
+use Rattle.stun_types_wire.specs.declared.error.StunParseError.{StunParseError}
+use Rattle.stun_types_wire.specs.declared.error.StunParseError.TheVariants.{NotStun, Truncated}
+use Rattle.turn_types_attributes.specs.TurnRegistry.{channel_header_size, greatest_channel, least_channel}
 
 -- the number of a channel and its data
 pub record Frame : Type 0 where

@@ -2,10 +2,10 @@
 -- RFC 8489, section 6.2.2).
 use Rattle.std.specs.Prelude.{◌≡◌, ◌≤◌, ℕ, ◌+◌, ◌⊎◌, true, List, ◌++◌, length, None}
 use Rattle.std.specs.List.{AllByRecursion, concat}
-use Rattle.turn_types_attribute.specs.Attributes.{length_at, padded}
-use Rattle.turn_types_attribute.specs.Grammar.{header_refusal}
-use Rattle.turn_types_attribute.specs.Registry.{header_size}
-use Rattle.turn_types_attribute.specs.TurnRegistry.{channel_header_size}
+use Rattle.stun_types_wire.specs.Attributes.{length_at, padded}
+use Rattle.stun_types_wire.specs.Grammar.{header_refusal}
+use Rattle.stun_types_wire.specs.Registry.{header_size}
+use Rattle.turn_types_attributes.specs.TurnRegistry.{channel_header_size}
 use Rattle.turn_types_frame.specs.StreamFronts.{is_channel_top, front}
 use Rattle.turn_types_frame.specs.Streams.{Fed, left_by}
 

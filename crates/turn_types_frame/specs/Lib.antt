@@ -3,15 +3,11 @@ pub mod Frames
 pub mod StreamAnswers
 pub mod StreamFronts
 pub mod Streams
+pub mod Channeled
+pub mod Indications
 -- What stands above this crate has these through it.
-pub use Rattle.turn_types_attribute.specs.Adding
-pub use Rattle.turn_types_attribute.specs.Addresses
-pub use Rattle.turn_types_attribute.specs.Attributes
-pub use Rattle.turn_types_attribute.specs.Credentials
-pub use Rattle.turn_types_attribute.specs.FamilyValues
-pub use Rattle.turn_types_attribute.specs.MessageClasses
-pub use Rattle.turn_types_attribute.specs.Text
-pub use Rattle.turn_types_attribute.specs.Transports
-pub use Rattle.turn_types_attribute.specs.TurnRegistry
-pub use Rattle.turn_types_attribute.specs.Types
-pub use Rattle.turn_types_attribute.specs.Xor
+pub use Rattle.stun_types_base.specs as StunTypesBase
+pub use Rattle.stun_types_wire.specs as StunTypesWire
+pub use Rattle.stun_types_write.specs as StunTypesWrite
+pub use Rattle.turn_types_attributes.specs as Attributes
+pub use Rattle.turn_types_peer.specs as Peer

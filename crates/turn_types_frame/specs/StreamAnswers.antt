@@ -1,6 +1,6 @@
 -- What a stream buffer answers to a piece of bytes, and when it is asked for a frame.
 use Rattle.std.specs.Prelude.{◌≡◌, ◌≢◌, ⊤, ℕ, List, [], ◌++◌, take, Option, Some, None, if◌then◌else◌}
-use Rattle.turn_types_attribute.specs.declared.transmit.Transmit.{Transmit}
+use Rattle.stun_types_base.specs.declared.transmit.Transmit.{Transmit}
 use Rattle.turn_types_frame.specs.declared.front.Front.{Front}
 use Rattle.turn_types_frame.specs.declared.front.Front.TheVariants.{Message, Channel, Partial, Broken}
 use Rattle.turn_types_frame.specs.declared.tcp.IncomingTcp.{IncomingTcp}

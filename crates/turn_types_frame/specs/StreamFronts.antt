@@ -1,9 +1,9 @@
 -- What stands at the front of a stream, by its first bytes (RFC 8656, section 12.5).
 use Rattle.std.specs.Prelude.{ℕ, ◌+◌, Bool, ◌&&◌, not, nat_le, nat_lt, List, length, take, slice_index, if◌then◌else◌}
-use Rattle.turn_types_attribute.specs.Attributes.{length_at, padded}
-use Rattle.turn_types_attribute.specs.Grammar.{may_begin}
-use Rattle.turn_types_attribute.specs.Registry.{header_size}
-use Rattle.turn_types_attribute.specs.TurnRegistry.{channel_header_size}
+use Rattle.stun_types_wire.specs.Attributes.{length_at, padded}
+use Rattle.stun_types_wire.specs.Grammar.{may_begin}
+use Rattle.stun_types_wire.specs.Registry.{header_size}
+use Rattle.turn_types_attributes.specs.TurnRegistry.{channel_header_size}
 use Rattle.turn_types_frame.specs.declared.front.Front.{Front}
 use Rattle.turn_types_frame.specs.declared.front.Front.TheVariants.{Message, Channel, Partial, Broken}
 

@@ -2,15 +2,15 @@
 
 ghost use Rattle.std.specs.Prelude.{◌≡◌, ◌+◌, ◌<◌, ◌≤◌, ◌++◌, length, drop, None, Some, MatchResult, IfOk, IfErr, OnOk};
 ghost use Rattle.byteorder.specs.Endian.{big_bytes};
-ghost use Rattle.turn_types_attribute.specs.Attributes.{kind_at, length_at};
-ghost use Rattle.turn_types_attribute.specs.WriteErrors.{TooSmall};
-ghost use Rattle.turn_types_attribute.specs.TurnRegistry.{channel_header_size};
+ghost use Rattle.stun_types_wire.specs.Attributes.{kind_at, length_at};
+ghost use Rattle.stun_types_wire.specs.declared.error.StunWriteError.TheVariants.{TooSmall};
+ghost use Rattle.turn_types_attributes.specs.TurnRegistry.{channel_header_size};
 ghost use Rattle.turn_types_frame.specs.ChannelFrames.{IsLawful, channel_header_refusal, channel_refusal, frame_at, frame_text};
 
 use byteorder::{BigEndian, ByteOrder};
 use std::marker::Model;
-use turn_types_attribute::message::{StunParseError, StunWriteError};
-use turn_types_attribute::registry::{CHANNEL_HEADER_LENGTH, GREATEST_CHANNEL, LEAST_CHANNEL};
+use stun_types_wire::error::{StunParseError, StunWriteError};
+use turn_types_attributes::registry::{CHANNEL_HEADER_LENGTH, GREATEST_CHANNEL, LEAST_CHANNEL};
 
 /// The data of a channel, as it stands in a channel frame: a number from 0x4000 to 0x7FFF, and at most
 /// 65,535 bytes, which are borrowed (RFC 8656, section 12.4). Contracts see the record `Frame`.

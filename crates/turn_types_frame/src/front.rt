@@ -4,9 +4,10 @@ ghost use Rattle.std.specs.Prelude.{◌≡◌, ◌<◌, ◌≤◌, true, false, 
 ghost use Rattle.turn_types_frame.specs.StreamFronts.{front, is_channel_top, channel_front, message_front};
 
 use byteorder::{BigEndian, ByteOrder};
-use turn_types_attribute::attribute::pad_attribute_len;
-use turn_types_attribute::message::{MessageHeader, StunParseError};
-use turn_types_attribute::registry::CHANNEL_HEADER_LENGTH;
+use stun_types_wire::attribute::pad_attribute_len;
+use stun_types_wire::error::StunParseError;
+use stun_types_wire::header::MessageHeader;
+use turn_types_attributes::registry::CHANNEL_HEADER_LENGTH;
 
 /// What stands at the front of a stream.
 #[derive(Clone, Copy, Debug, PartialEq, Eq)]

@@ -4,7 +4,7 @@ ghost use Rattle.std.specs.Prelude.{◌≡◌, ◌==◌, ◌≤◌, ◌++◌, []
 
 use std::alloc::Global;
 use std::marker::Model;
-use turn_types_attribute::NoMemory;
+use stun_types_base::memory::NoMemory;
 
 /// Bytes that come at the end and go from the front. What goes is only stepped over: the bytes that
 /// stay are moved when at least as many were stepped over, so that each byte is moved once or so,

@@ -12,9 +12,10 @@ use std::convert::AsSlice;
 use std::fmt::Debug;
 use std::marker::Model;
 use std::ops::Range;
-use turn_types_attribute::attribute::pad_attribute_len;
-use turn_types_attribute::registry::CHANNEL_HEADER_LENGTH;
-use turn_types_attribute::{NoMemory, Transmit};
+use stun_types_base::memory::NoMemory;
+use stun_types_base::transmit::Transmit;
+use stun_types_wire::attribute::pad_attribute_len;
+use turn_types_attributes::registry::CHANNEL_HEADER_LENGTH;
 
 /// What a piece of a stream brought.
 #[derive(Debug, Drop)]

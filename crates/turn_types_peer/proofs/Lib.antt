@@ -1,2 +1,1 @@
 pub mod Peers
-pub mod Told

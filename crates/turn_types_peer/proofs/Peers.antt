@@ -2,8 +2,8 @@
 use Rattle.std.proofs.Common.{◌≡◌, ℕ, ◌^◌, ◌<◌, [], None, refl, sym, ap, ◌∙◌, arith}
 use Rattle.byteorder.specs.Endian.{big_bytes, big_number}
 use Rattle.byteorder.specs.Numbers.{big_number-reads_back}
-use Rattle.turn_types_attribute.specs.Adding.{attr_of}
-use Rattle.turn_types_attribute.specs.ValueReading.{value_refusal}
+use Rattle.stun_types_write.specs.Adding.{attr_of}
+use Rattle.stun_types_write.specs.ValueReading.{value_refusal}
 use Rattle.stun_types_write.proofs.Values.{value_is_accepted}
 use Rattle.turn_types_peer.specs.PeerValues.{channel_value, IcmpReport, icmp_value, icmp_told}
 

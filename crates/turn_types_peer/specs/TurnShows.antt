@@ -4,13 +4,13 @@ use Rattle.std.specs.Prelude.{◌≡◌, ℕ, ◌==◌, List, Option, Some, None
 use Rattle.std.specs.List.{filter, filter_map, find}
 use Rattle.std.specs.declared.net.socket_addr.SocketAddr.{SocketAddr}
 use Rattle.byteorder.specs.Endian.{big_number}
-use Rattle.turn_types_attribute.specs.Addresses.{address_again, address_of, address_read_refusal}
-use Rattle.turn_types_attribute.specs.Attributes.{Attr}
-use Rattle.turn_types_attribute.specs.Grammar.{number_at, shown}
-use Rattle.turn_types_attribute.specs.ParseErrors.{StunParseError}
-use Rattle.turn_types_attribute.specs.ValueReading.{value_refusal}
-use Rattle.turn_types_attribute.specs.Xor.{xored}
-use Rattle.turn_types_attribute.specs.TurnRegistry.{channel_number_kind, connection_id_kind, lifetime_kind, requested_transport_kind, xor_peer_address_kind, xor_relayed_address_kind}
+use Rattle.stun_types_attributes.specs.Addresses.{address_again, address_of, address_read_refusal}
+use Rattle.stun_types_wire.specs.Attributes.{Attr}
+use Rattle.stun_types_wire.specs.Grammar.{number_at, shown}
+use Rattle.stun_types_wire.specs.declared.error.StunParseError.{StunParseError}
+use Rattle.stun_types_write.specs.ValueReading.{value_refusal}
+use Rattle.stun_types_attributes.specs.Xor.{xored}
+use Rattle.turn_types_attributes.specs.TurnRegistry.{channel_number_kind, connection_id_kind, lifetime_kind, requested_transport_kind, xor_peer_address_kind, xor_relayed_address_kind}
 
 -- the attributes of a type, in order
 abbrev pub each_shown : ℕ → List ℕ → List Attr

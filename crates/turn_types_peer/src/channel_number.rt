@@ -2,20 +2,23 @@
 
 ghost use Rattle.std.specs.Prelude.{◌≡◌, ◌≤◌, None, MatchResult, length};
 ghost use Rattle.byteorder.specs.Endian.{big_number};
-ghost use Rattle.turn_types_attribute.specs.ValueReading.{IsNamed, value_refusal};
-ghost use Rattle.turn_types_attribute.specs.TurnRegistry.{channel_number_kind};
+ghost use Rattle.stun_types_write.specs.ValueReading.{IsNamed, value_refusal};
+ghost use Rattle.turn_types_attributes.specs.TurnRegistry.{channel_number_kind};
 ghost use Rattle.turn_types_peer.specs.PeerValues.{channel_value};
 
 use byteorder::{BigEndian, ByteOrder};
 use std::alloc::Global;
 use std::convert::TryFrom;
 use std::marker::Model;
-use turn_types_attribute::attribute::{
-    Attribute, AttributeFromRaw, AttributeStaticType, AttributeType, AttributeWrite, RawAttribute,
-    value_of, write_attribute,
+use stun_types_base::memory::NoMemory;
+use stun_types_wire::attribute::{AttributeType, RawAttribute};
+use stun_types_wire::error::StunParseError;
+use stun_types_write::attribute::{
+    Attribute, AttributeFromRaw, AttributeStaticType, AttributeWrite,
 };
-use turn_types_attribute::message::StunParseError;
-use turn_types_attribute::{NoMemory, registry};
+use stun_types_write::reading::value_of;
+use stun_types_write::text::write_attribute;
+use turn_types_attributes::registry;
 
 /// The number of a channel to a peer (RFC 8656, section 18.1): any number of 16 bits, also one that no
 /// channel frame can carry. Contracts see the number.
@@ -94,7 +97,7 @@ impl AttributeWrite for ChannelNumber {
 /// the value is shorter, `TooLarge` where it is longer.
 impl<'a, 'raw> TryFrom<&'raw RawAttribute<'a>> for ChannelNumber {
     ghost use Rattle.std.specs.Prelude.{◌≡◌, MatchResult, Some, None};
-    ghost use Rattle.turn_types_attribute.specs.ValueReading.{IsNamed, value_refusal};
+    ghost use Rattle.stun_types_write.specs.ValueReading.{IsNamed, value_refusal};
     ghost use Rattle.byteorder.specs.Endian.{big_number};
 
     type Error = StunParseError;
@@ -114,7 +117,7 @@ impl<'a, 'raw> TryFrom<&'raw RawAttribute<'a>> for ChannelNumber {
 impl<'a> AttributeFromRaw<'a> for ChannelNumber {
     ghost use Rattle.std.specs.Prelude.{false};
     ghost use Rattle.byteorder.specs.Endian.{big_number};
-    ghost use Rattle.turn_types_attribute.specs.ValueReading.{value_refusal};
+    ghost use Rattle.stun_types_write.specs.ValueReading.{value_refusal};
     ghost use Rattle.turn_types_peer.specs.PeerValues.{channel_value};
 
     ghost read_refusal = { value_refusal channel_number_kind 4 4 };

@@ -1,18 +1,20 @@
 //! CONNECTION-ID (RFC 6062, section 6.2.1).
 
 ghost use Rattle.std.specs.Prelude.{◌≡◌};
-ghost use Rattle.turn_types_attribute.specs.TurnRegistry.{connection_id_kind};
+ghost use Rattle.turn_types_attributes.specs.TurnRegistry.{connection_id_kind};
 
 use std::alloc::Global;
 use std::convert::TryFrom;
 use std::marker::Model;
-use turn_types_attribute::attribute::{
-    Attribute, AttributeFromRaw, AttributeStaticType, AttributeType, AttributeWrite, RawAttribute,
-    write_attribute,
+use stun_types_base::memory::NoMemory;
+use stun_types_wire::attribute::{AttributeType, RawAttribute};
+use stun_types_wire::error::StunParseError;
+use stun_types_write::attribute::{
+    Attribute, AttributeFromRaw, AttributeStaticType, AttributeWrite,
 };
-use turn_types_attribute::message::StunParseError;
-use turn_types_attribute::number::read_number;
-use turn_types_attribute::{NoMemory, registry};
+use stun_types_write::text::write_attribute;
+use turn_types_attributes::number::read_number;
+use turn_types_attributes::registry;
 
 /// The number by which a server knows a connection to a peer (RFC 6062, section 6.2.1). Any number of
 /// 32 bits is lawful. Contracts see the number.
@@ -82,7 +84,7 @@ impl AttributeWrite for ConnectionId {
 /// where it is another type, `Truncated` where the value is shorter, `TooLarge` where it is longer.
 impl<'a, 'raw> TryFrom<&'raw RawAttribute<'a>> for ConnectionId {
     ghost use Rattle.std.specs.Prelude.{◌≡◌, MatchResult, Some, None};
-    ghost use Rattle.turn_types_attribute.specs.ValueReading.{IsNamed, value_refusal};
+    ghost use Rattle.stun_types_write.specs.ValueReading.{IsNamed, value_refusal};
     ghost use Rattle.byteorder.specs.Endian.{big_number};
 
     type Error = StunParseError;
@@ -101,7 +103,7 @@ impl<'a, 'raw> TryFrom<&'raw RawAttribute<'a>> for ConnectionId {
 /// Refused as `try_from` is; no memory is taken.
 impl<'a> AttributeFromRaw<'a> for ConnectionId {
     ghost use Rattle.std.specs.Prelude.{false};
-    ghost use Rattle.turn_types_attribute.specs.ValueReading.{value_refusal};
+    ghost use Rattle.stun_types_write.specs.ValueReading.{value_refusal};
 
     ghost read_refusal = { value_refusal connection_id_kind 4 4 };
 
@@ -121,7 +123,7 @@ impl<'a> AttributeFromRaw<'a> for ConnectionId {
         ConnectionId::from_raw_ref(alloc, &raw)
     }
 
-    #[tactic(auto, using(turn_types_attribute::proofs::Numbers::numbers))]
+    #[tactic(auto, using(turn_types_attributes::proofs::Numbers::numbers))]
     fn is_read_back(&self, read: &ConnectionId) {
         let _ = (self.id(), read.id());
     }

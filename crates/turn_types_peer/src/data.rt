@@ -1,19 +1,22 @@
 //! DATA (RFC 8656, section 18.4).
 
 ghost use Rattle.std.specs.Prelude.{◌≡◌, ◌<◌, ◌^◌, length, IfOk, MatchResult, None};
-ghost use Rattle.turn_types_attribute.specs.Registry.{longest_value};
-ghost use Rattle.turn_types_attribute.specs.ValueReading.{IsNamed, value_refusal};
-ghost use Rattle.turn_types_attribute.specs.TurnRegistry.{data_kind};
+ghost use Rattle.stun_types_wire.specs.Registry.{longest_value};
+ghost use Rattle.stun_types_write.specs.ValueReading.{IsNamed, value_refusal};
+ghost use Rattle.turn_types_attributes.specs.TurnRegistry.{data_kind};
 
 use std::alloc::Global;
 use std::marker::Model;
-use turn_types_attribute::attribute::{
-    Attribute, AttributeFromRaw, AttributeStaticType, AttributeType, AttributeWrite, RawAttribute,
-    value_of, write_attribute,
+use stun_types_base::memory::NoMemory;
+use stun_types_wire::attribute::{AttributeType, RawAttribute};
+use stun_types_wire::error::StunParseError;
+use stun_types_wire::registry::MAX_VALUE_LENGTH;
+use stun_types_write::attribute::{
+    Attribute, AttributeFromRaw, AttributeStaticType, AttributeWrite,
 };
-use turn_types_attribute::message::StunParseError;
-use turn_types_attribute::stun_registry::MAX_VALUE_LENGTH;
-use turn_types_attribute::{NoMemory, registry};
+use stun_types_write::reading::value_of;
+use stun_types_write::text::write_attribute;
+use turn_types_attributes::registry;
 
 /// What a peer sends, or what is sent to it (RFC 8656, section 18.4): at most 65,535 bytes of its own.
 /// [`Data::bytes_of`] tells them where they stand, without a copy. Contracts see the bytes.
@@ -24,7 +27,7 @@ pub struct Data {
 
 impl Model for Data {
     ghost use Rattle.std.specs.Prelude.{List, ℕ, ◌≡◌};
-    ghost use Rattle.turn_types_attribute.specs.TurnRegistry.{data_kind};
+    ghost use Rattle.turn_types_attributes.specs.TurnRegistry.{data_kind};
 
     ghost Value = { List ℕ };
 
@@ -103,8 +106,8 @@ impl AttributeWrite for Data {
 /// Any bytes. Refused with `WrongAttributeImplementation` where it is another type. Bytes that are owned
 /// already are kept, others are copied.
 impl<'a> AttributeFromRaw<'a> for Data {
-    ghost use Rattle.turn_types_attribute.specs.Registry.{longest_value};
-    ghost use Rattle.turn_types_attribute.specs.ValueReading.{value_refusal};
+    ghost use Rattle.stun_types_wire.specs.Registry.{longest_value};
+    ghost use Rattle.stun_types_write.specs.ValueReading.{value_refusal};
 
     ghost read_refusal = { value_refusal data_kind 0 longest_value };
 

@@ -1,20 +1,23 @@
 //! ICMP (RFC 8656, section 18.13).
 
 ghost use Rattle.std.specs.Prelude.{◌≡◌, None, MatchResult, length};
-ghost use Rattle.turn_types_attribute.specs.ValueReading.{IsNamed, value_refusal};
-ghost use Rattle.turn_types_attribute.specs.TurnRegistry.{icmp_kind};
+ghost use Rattle.stun_types_write.specs.ValueReading.{IsNamed, value_refusal};
+ghost use Rattle.turn_types_attributes.specs.TurnRegistry.{icmp_kind};
 ghost use Rattle.turn_types_peer.specs.PeerValues.{icmp_told, icmp_value};
 
 use byteorder::{BigEndian, ByteOrder};
 use std::alloc::Global;
 use std::convert::TryFrom;
 use std::marker::Model;
-use turn_types_attribute::attribute::{
-    Attribute, AttributeFromRaw, AttributeStaticType, AttributeType, AttributeWrite, RawAttribute,
-    value_of, write_attribute,
+use stun_types_base::memory::NoMemory;
+use stun_types_wire::attribute::{AttributeType, RawAttribute};
+use stun_types_wire::error::StunParseError;
+use stun_types_write::attribute::{
+    Attribute, AttributeFromRaw, AttributeStaticType, AttributeWrite,
 };
-use turn_types_attribute::message::StunParseError;
-use turn_types_attribute::{NoMemory, registry};
+use stun_types_write::reading::value_of;
+use stun_types_write::text::write_attribute;
+use turn_types_attributes::registry;
 
 /// What a host or a router on the way to a peer reported by ICMP (RFC 8656, section 18.13). Contracts
 /// see the record `IcmpReport`.
@@ -113,7 +116,7 @@ impl AttributeWrite for Icmp {
 /// `TooLarge` where it is longer.
 impl<'a, 'raw> TryFrom<&'raw RawAttribute<'a>> for Icmp {
     ghost use Rattle.std.specs.Prelude.{◌≡◌, MatchResult, None};
-    ghost use Rattle.turn_types_attribute.specs.ValueReading.{IsNamed, value_refusal};
+    ghost use Rattle.stun_types_write.specs.ValueReading.{IsNamed, value_refusal};
     ghost use Rattle.turn_types_peer.specs.PeerValues.{icmp_told};
 
     type Error = StunParseError;
@@ -130,7 +133,7 @@ impl<'a, 'raw> TryFrom<&'raw RawAttribute<'a>> for Icmp {
 /// Refused as `try_from` is; no memory is taken.
 impl<'a> AttributeFromRaw<'a> for Icmp {
     ghost use Rattle.std.specs.Prelude.{false};
-    ghost use Rattle.turn_types_attribute.specs.ValueReading.{value_refusal};
+    ghost use Rattle.stun_types_write.specs.ValueReading.{value_refusal};
     ghost use Rattle.turn_types_peer.specs.PeerValues.{icmp_told, icmp_value};
 
     ghost read_refusal = { value_refusal icmp_kind 8 8 };

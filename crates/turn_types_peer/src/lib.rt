@@ -6,5 +6,4 @@ pub mod channel_number;
 pub mod connection_id;
 pub mod data;
 pub mod icmp;
-pub mod laws;
 pub mod xor_peer_address;

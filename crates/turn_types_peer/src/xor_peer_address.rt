@@ -1,21 +1,24 @@
 //! XOR-PEER-ADDRESS (RFC 8656, section 18.3).
 
 ghost use Rattle.std.specs.Prelude.{Some, ◌≡◌};
-ghost use Rattle.turn_types_attribute.specs.ValueReading.{IsNamed};
-ghost use Rattle.turn_types_attribute.specs.Addresses.{address_of, address_value};
-ghost use Rattle.turn_types_attribute.specs.Xor.{xored};
-ghost use Rattle.turn_types_attribute.specs.TurnRegistry.{xor_peer_address_kind};
+ghost use Rattle.stun_types_write.specs.ValueReading.{IsNamed};
+ghost use Rattle.stun_types_attributes.specs.Addresses.{address_of, address_value};
+ghost use Rattle.stun_types_attributes.specs.Xor.{xored};
+ghost use Rattle.turn_types_attributes.specs.TurnRegistry.{xor_peer_address_kind};
 
 use std::alloc::Global;
 use std::convert::TryFrom;
 use std::marker::Model;
 use std::net::SocketAddr;
-use turn_types_attribute::attribute::{
-    Attribute, AttributeFromRaw, AttributeStaticType, AttributeType, AttributeWrite, RawAttribute,
-    XorSocketAddr,
+use stun_types_attributes::socket_addr::XorSocketAddr;
+use stun_types_base::memory::NoMemory;
+use stun_types_wire::attribute::{AttributeType, RawAttribute};
+use stun_types_wire::error::StunParseError;
+use stun_types_wire::transaction::TransactionId;
+use stun_types_write::attribute::{
+    Attribute, AttributeFromRaw, AttributeStaticType, AttributeWrite,
 };
-use turn_types_attribute::message::{StunParseError, TransactionId};
-use turn_types_attribute::{NoMemory, registry};
+use turn_types_attributes::registry;
 
 /// The address of a peer, xored as a XOR-MAPPED-ADDRESS is (RFC 8656, section 18.3). Contracts see the
 /// bytes of the value.
@@ -88,8 +91,8 @@ impl AttributeWrite for XorPeerAddress {
 /// has not the 8 bytes of IPv4 or the 20 of IPv6.
 impl<'a, 'raw> TryFrom<&'raw RawAttribute<'a>> for XorPeerAddress {
     ghost use Rattle.std.specs.Prelude.{◌≡◌, MatchResult, Some, None};
-    ghost use Rattle.turn_types_attribute.specs.ValueReading.{IsNamed};
-    ghost use Rattle.turn_types_attribute.specs.Addresses.{address_again, address_read_refusal};
+    ghost use Rattle.stun_types_write.specs.ValueReading.{IsNamed};
+    ghost use Rattle.stun_types_attributes.specs.Addresses.{address_again, address_read_refusal};
 
     type Error = StunParseError;
 
@@ -107,7 +110,7 @@ impl<'a, 'raw> TryFrom<&'raw RawAttribute<'a>> for XorPeerAddress {
 /// Refused as `try_from` is; no memory is taken.
 impl<'a> AttributeFromRaw<'a> for XorPeerAddress {
     ghost use Rattle.std.specs.Prelude.{false};
-    ghost use Rattle.turn_types_attribute.specs.Addresses.{address_again, address_read_refusal};
+    ghost use Rattle.stun_types_attributes.specs.Addresses.{address_again, address_read_refusal};
 
     ghost read_refusal = { address_read_refusal xor_peer_address_kind };
 

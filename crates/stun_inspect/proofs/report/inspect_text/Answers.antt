@@ -1,4 +1,4 @@
-use Rattle.program_lines.proofs.CutLemmas.{passes_last, passes_more}
+use Rattle.line_io.proofs.CutLemmas.{passes_last, passes_more}
 use Rattle.stun_inspect.specs.InspectLines.{IsReadable}
 use Rattle.stun_inspect.proofs.PrintLemmas.{ok_not_err, prints_on}
 use Rattle.stun_inspect.proofs.report.inspect_text.Goals as goal

@@ -1,6 +1,6 @@
 use Rattle.std.proofs.Common.{length}
 use Rattle.std.specs.List.{AllByRecursion}
-use Rattle.program_lines.specs.Cut.{lines_of}
+use Rattle.line_io.specs.Cut.{lines_of}
 use Rattle.stun_inspect.specs.InspectLines.{IsReadable}
 use Rattle.stun_inspect.specs.Printed.{PrintsText}
 use Rattle.stun_inspect.proofs.report.inspect_text.Given as goal

@@ -4,7 +4,7 @@ use Rattle.std.specs.List.{list_any}
 use Rattle.stun_types_wire.specs.declared.attribute.AttributeType.{AttributeType}
 use Rattle.stun_types_wire.specs.Attributes.{Attr}
 use Rattle.stun_types_wire.specs.Grammar.{shown}
-use Rattle.stun_types_grammar_laws.proofs.Left.{map_numbered}
+use Rattle.stun_types_wire.proofs.Left.{map_numbered}
 use Rattle.stun_types_message.specs.Objections.{is_unknown}
 use Rattle.stun_types_message.proofs.check.shows_unknown.Goals as goal
 

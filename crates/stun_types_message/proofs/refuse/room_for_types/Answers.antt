@@ -1,5 +1,5 @@
 use Rattle.std.proofs.Common.{rules, ◌≡◌, length, None, Some, ap}
-use Rattle.stun_types_info.specs.UnknownTypes.{types_refusal}
+use Rattle.stun_types_attributes.specs.UnknownTypes.{types_refusal}
 use Rattle.stun_types_message.specs.Objections.{unknown_refusal}
 use Rattle.stun_types_message.proofs.Refusing.{no_room_first}
 use Rattle.stun_types_message.proofs.refuse.room_for_types.Goals as goal

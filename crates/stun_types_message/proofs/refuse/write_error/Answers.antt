@@ -1,8 +1,8 @@
 use Rattle.std.proofs.Common.{◌∷◌, [], None, refl, subst}
 use Rattle.stun_types_wire.specs.Attributes.{Attr}
 use Rattle.stun_types_wire.specs.Grammar.{number_at}
-use Rattle.stun_types_build.specs.Calls.{IsComposed}
-use Rattle.stun_types_build.proofs.Taken.{composed_more, composed_none}
+use Rattle.stun_types_add.specs.Calls.{IsComposed}
+use Rattle.stun_types_add.proofs.Taken.{composed_more, composed_none}
 use Rattle.stun_types_message.specs.Objections.{error_attribute, error_type}
 use Rattle.stun_types_message.proofs.Refusing.{default_error, first_answer}
 use Rattle.stun_types_message.proofs.refuse.write_error.Goals as goal

@@ -1,8 +1,8 @@
 use Rattle.std.proofs.Common.{arith, length, ◌++◌, ◌+◌, ◌≡◌}
 use Rattle.std.proofs.lemmas.Grind.{common_steps}
 use Rattle.std.proofs.lemmas.List.{length-append}
-use Rattle.stun_types_grammar_laws.specs.Attributes.{padding_len}
-use Rattle.stun_types_grammar_laws.specs.Text.{attribute_text, padded_text}
+use Rattle.stun_types_wire.specs.Attributes.{padding_len}
+use Rattle.stun_types_wire.specs.Text.{attribute_text, padded_text}
 use Rattle.stun_types_write.proofs.Padding.{padding_is}
 use Rattle.stun_types_write.proofs.text.write_attribute_in_two.Goals as goal
 

@@ -1,7 +1,7 @@
 use Rattle.std.proofs.Common.{◌≡◌, length, map}
 use Rattle.std.specs.Prelude.{find}
-use Rattle.stun_types_grammar_laws.specs.Attributes.{attributes}
-use Rattle.stun_types_grammar_laws.specs.Shape.{kinds_of}
+use Rattle.stun_types_wire.specs.Attributes.{attributes}
+use Rattle.stun_types_wire.specs.Shape.{kinds_of}
 use Rattle.stun_types_write.specs.Adding.{is_among}
 use Rattle.stun_types_write.specs.Drafts.{kinds_written}
 use Rattle.stun_types_write.proofs.walk.first_written.Given as goal

@@ -1,6 +1,6 @@
 use Rattle.std.proofs.Common.{◌≡◌, length}
-use Rattle.stun_types_grammar_laws.specs.Attributes.{attributes}
-use Rattle.stun_types_grammar_laws.specs.Shape.{kinds_of}
+use Rattle.stun_types_wire.specs.Attributes.{attributes}
+use Rattle.stun_types_wire.specs.Shape.{kinds_of}
 use Rattle.stun_types_write.specs.Adding.{has_kind}
 use Rattle.stun_types_write.specs.Drafts.{kinds_written}
 use Rattle.stun_types_write.proofs.walk.is_written.Given as goal

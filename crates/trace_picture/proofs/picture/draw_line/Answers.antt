@@ -1,6 +1,6 @@
 use Rattle.std.proofs.Common.{ℕ, List, Bor, map, string_bytes, rules, subst}
 use Rattle.std.specs.Option.{option_copied}
-use Rattle.program_lines.specs.Cut.{lines_behind}
+use Rattle.line_io.specs.Cut.{lines_behind}
 use Rattle.trace_picture.specs.Lines.{Begins}
 use Rattle.trace_picture.proofs.Rows.{passes_blank, passes_setup, shows}
 use Rattle.trace_picture.proofs.picture.draw_line.Goals as goal

@@ -1,6 +1,6 @@
 use Rattle.std.proofs.Common.{List, ℕ, ◌++◌, length, string_bytes}
 use Rattle.std.specs.Option.{option_copied}
-use Rattle.program_lines.specs.Cut.{lines_behind, lines_of}
+use Rattle.line_io.specs.Cut.{lines_behind, lines_of}
 use Rattle.trace_picture.specs.Pictures.{AreDrawn}
 use Rattle.trace_picture.proofs.picture.draw_rows.Given as goal
 

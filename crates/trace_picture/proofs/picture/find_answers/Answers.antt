@@ -1,5 +1,5 @@
 use Rattle.std.proofs.Common.{List, ℕ, refl}
-use Rattle.program_lines.specs.Cut.{lines_of}
+use Rattle.line_io.specs.Cut.{lines_of}
 use Rattle.trace_picture.proofs.Rows.{lines_cut, parts_here, parts_there}
 use Rattle.trace_picture.proofs.picture.find_answers.Goals as goal
 

@@ -1,5 +1,5 @@
 use Rattle.std.proofs.Common.{List, ℕ, length}
-use Rattle.program_lines.specs.Cut.{lines_of}
+use Rattle.line_io.specs.Cut.{lines_of}
 use Rattle.trace_picture.specs.Pictures.{Parted}
 use Rattle.trace_picture.proofs.picture.find_answers.Given as goal
 

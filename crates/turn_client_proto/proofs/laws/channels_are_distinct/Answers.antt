@@ -1,5 +1,5 @@
 use Rattle.std.proofs.Common.{subst, sym}
-use Rattle.turn_client_proto_receipt.specs.Channel.Numbers.{AreDistinct}
+use Rattle.turn_client_proto_peers.specs.Channel.Numbers.{AreDistinct}
 use Rattle.turn_client_proto.proofs.Distinct.{none_distinct, shown_once}
 use Rattle.turn_client_proto.proofs.laws.channels_are_distinct.Goals as goal
 

@@ -1,9 +1,9 @@
 use Rattle.std.proofs.Common.{◌≡◌, ◌<◌, List, ap, get_or, length, slice_set, subst, ◌∙◌}
 use Rattle.std.proofs.lemmas.List.{get_or-set_same, length-set}
-use Rattle.turn_client_proto_channel.specs.Permission.Allocation.declared.allocation.Allocation.{Allocation}
+use Rattle.turn_client_proto_allocation.specs.declared.allocation.Allocation.{Allocation}
 use Rattle.turn_client_proto_connection.specs.Asking.{connecting}
-use Rattle.turn_client_proto_channel.proofs.Permission.Lent.{lent_back}
-use Rattle.turn_client_proto_channel.proofs.Permission.Undoing.{set_back}
+use Rattle.turn_client_proto_allocation.proofs.Lent.{lent_back}
+use Rattle.turn_client_proto_allocation.proofs.SetAgain.{set_back}
 use Rattle.turn_client_proto_connection.proofs.asking.forget.Goals as goal
 
 pub returns : goal.returns

@@ -1,7 +1,7 @@
 use Rattle.std.proofs.Common.{ap, get_or, sym, ◌∙◌}
 use Rattle.std.specs.Option.{option_and_then}
-use Rattle.turn_client_proto_channel.proofs.Permission.Allocation.Changes.{found_at}
-use Rattle.turn_client_proto_channel.specs.Permission.Allocation.declared.connection.Waiting.{Waiting}
+use Rattle.turn_client_proto_allocation.proofs.Changes.{found_at}
+use Rattle.turn_client_proto_allocation.specs.declared.connection.Waiting.{Waiting}
 use Rattle.turn_client_proto_connection.specs.Sockets.{is_socket_for}
 use Rattle.turn_client_proto_connection.proofs.attempts.attempt_among.Goals as goal
 

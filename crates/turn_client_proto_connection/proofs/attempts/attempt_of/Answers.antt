@@ -1,7 +1,7 @@
 use Rattle.std.proofs.Common.{ap, get_or, sym, ◌∙◌}
 use Rattle.std.specs.Option.{option_and_then}
-use Rattle.turn_client_proto_channel.proofs.Permission.Allocation.Changes.{found_at}
-use Rattle.turn_client_proto_channel.specs.Permission.Allocation.declared.allocation.Allocation.{Allocation}
+use Rattle.turn_client_proto_allocation.proofs.Changes.{found_at}
+use Rattle.turn_client_proto_allocation.specs.declared.allocation.Allocation.{Allocation}
 use Rattle.turn_client_proto_connection.specs.Attempts.{attempt_among, attempt_in}
 use Rattle.turn_client_proto_connection.specs.Sockets.{awaits_socket}
 use Rattle.turn_client_proto_connection.proofs.attempts.attempt_of.Goals as goal

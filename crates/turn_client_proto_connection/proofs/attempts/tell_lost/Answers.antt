@@ -1,9 +1,9 @@
 use Rattle.std.proofs.Common.{◌≡◌, ◌≢◌, ◌++◌, [], Option, OnOk, ap, get_or, map, subst, sym, ◌∙◌}
 use Rattle.std.specs.Prelude.{option_to_list}
-use Rattle.turn_client_proto_channel.proofs.Permission.Allocation.Changes.{at_place, find_is, found_at}
-use Rattle.turn_client_proto_channel.proofs.Permission.Told.{always_told}
-use Rattle.turn_client_proto_channel.specs.Permission.Allocation.declared.connection.Waiting.{Waiting}
-use Rattle.turn_client_proto_channel.specs.Permission.Api.declared.event.TurnEvent.TheVariants.{TcpConnectFailed}
+use Rattle.turn_client_proto_allocation.proofs.Changes.{at_place, find_is, found_at}
+use Rattle.turn_client_proto_allocation.proofs.Told.{always_told}
+use Rattle.turn_client_proto_allocation.specs.declared.connection.Waiting.{Waiting}
+use Rattle.turn_client_proto_api.specs.declared.event.TurnEvent.TheVariants.{TcpConnectFailed}
 use Rattle.turn_client_proto_connection.specs.Attempts.{is_lost}
 use Rattle.turn_client_proto_connection.proofs.Taken.{none_behind}
 use Rattle.turn_client_proto_connection.proofs.attempts.tell_lost.Goals as goal

@@ -1,8 +1,8 @@
 use Rattle.std.proofs.Common.{List, [], arith, subst}
 use Rattle.std.specs.Prelude.{◌≢◌, OnErr}
-use Rattle.turn_client_proto_channel.specs.Permission.Allocation.declared.allocation.Allocation.{Allocation}
-use Rattle.turn_client_proto_channel.specs.Permission.Allocation.declared.connection.Connection.{Connection}
-use Rattle.turn_client_proto_channel.proofs.Permission.Told.{always_told, some_told}
+use Rattle.turn_client_proto_allocation.specs.declared.allocation.Allocation.{Allocation}
+use Rattle.turn_client_proto_allocation.specs.declared.connection.Connection.{Connection}
+use Rattle.turn_client_proto_allocation.proofs.Told.{always_told, some_told}
 use Rattle.turn_client_proto_connection.specs.Lapsing.{sockets_gone}
 use Rattle.turn_client_proto_connection.proofs.lapse.close_all_gone.Goals as goal
 

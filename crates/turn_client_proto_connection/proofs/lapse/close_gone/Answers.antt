@@ -1,6 +1,6 @@
 use Rattle.std.proofs.Common.{◌≡◌, arith, filter, get_or, true}
-use Rattle.turn_client_proto_channel.specs.Permission.Allocation.declared.connection.Connection.{Connection}
-use Rattle.turn_client_proto_channel.proofs.Permission.Told.{always_told, map_some, some_pass}
+use Rattle.turn_client_proto_allocation.specs.declared.connection.Connection.{Connection}
+use Rattle.turn_client_proto_allocation.proofs.Told.{always_told, map_some, some_pass}
 use Rattle.turn_client_proto_connection.specs.Lapsing.{has_gone}
 use Rattle.turn_client_proto_connection.proofs.lapse.close_gone.Goals as goal
 

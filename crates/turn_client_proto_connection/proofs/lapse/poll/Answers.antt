@@ -1,7 +1,7 @@
 use Rattle.std.proofs.Common.{◌≡◌, ap, get_or, rules, slice_set, ◌∙◌}
 use Rattle.std.proofs.lemmas.Fn.{filter_same}
 use Rattle.std.proofs.lemmas.List.Edits.{map_over_more}
-use Rattle.turn_client_proto_channel.specs.Permission.Allocation.declared.allocation.Allocation.{Allocation}
+use Rattle.turn_client_proto_allocation.specs.declared.allocation.Allocation.{Allocation}
 use Rattle.turn_client_proto_connection.specs.Attempts.{not_lost}
 use Rattle.turn_client_proto_connection.specs.Lapsing.{not_gone, polled}
 use Rattle.turn_client_proto_connection.specs.Told.{given_up, not_over}

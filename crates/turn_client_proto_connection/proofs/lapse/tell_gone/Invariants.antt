@@ -1,5 +1,5 @@
 use Rattle.std.proofs.Common.{◌≡◌, ◌++◌, map, take}
-use Rattle.turn_client_proto_channel.specs.Permission.Api.declared.event.TurnEvent.TheVariants.{TcpConnectFailed}
+use Rattle.turn_client_proto_api.specs.declared.event.TurnEvent.TheVariants.{TcpConnectFailed}
 use Rattle.turn_client_proto_connection.specs.Lapsing.{peers_gone}
 use Rattle.turn_client_proto_connection.proofs.lapse.tell_gone.Given as goal
 

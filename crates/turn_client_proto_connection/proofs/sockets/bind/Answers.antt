@@ -1,8 +1,8 @@
 use Rattle.std.proofs.Common.{[], ◌∷◌, ◌++◌, Some, ap, get_or, ◌∙◌}
-use Rattle.turn_client_proto_channel.proofs.Permission.Allocation.Changes.{on_ok}
-use Rattle.turn_client_proto_channel.specs.Permission.Allocation.declared.allocation.Allocation.{Allocation}
+use Rattle.turn_client_proto_allocation.proofs.Changes.{on_ok}
+use Rattle.turn_client_proto_allocation.specs.declared.allocation.Allocation.{Allocation}
 use Rattle.turn_client_proto_connection.specs.Sockets.{binding, to_bind}
-use Rattle.turn_client_proto_channel.proofs.Permission.Lent.{changed_in, kept_in, on_err}
+use Rattle.turn_client_proto_allocation.proofs.Lent.{changed_in, kept_in, on_err}
 use Rattle.turn_client_proto_connection.proofs.sockets.bind.Goals as goal
 
 pub returns-clause-ok : goal.returns-clause-ok

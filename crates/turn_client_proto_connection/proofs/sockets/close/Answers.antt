@@ -2,7 +2,7 @@ use Rattle.std.proofs.Common.{◌≡◌, ap, filter, get_or, rules, slice_set, �
 use Rattle.std.specs.Prelude.{not}
 use Rattle.std.proofs.lemmas.Fn.{filter_same}
 use Rattle.std.proofs.lemmas.List.Edits.{map_over_more}
-use Rattle.turn_client_proto_channel.specs.Permission.Allocation.declared.allocation.Allocation.{Allocation}
+use Rattle.turn_client_proto_allocation.specs.declared.allocation.Allocation.{Allocation}
 use Rattle.turn_client_proto_connection.specs.Sockets.{closed, is_from}
 use Rattle.turn_client_proto_connection.proofs.sockets.close.Goals as goal
 

@@ -1,7 +1,7 @@
 use Rattle.std.proofs.Common.{ap, drop, get_or, length, sym, take, ◌++◌, ◌∙◌}
-use Rattle.turn_client_proto_channel.proofs.Permission.Allocation.Changes.{put_there}
-use Rattle.turn_client_proto_channel.proofs.Permission.Lent.{first_back}
-use Rattle.turn_client_proto_channel.specs.Permission.Allocation.declared.allocation.Allocation.{Allocation}
+use Rattle.turn_client_proto_allocation.proofs.Changes.{put_there}
+use Rattle.turn_client_proto_allocation.proofs.Lent.{first_back}
+use Rattle.turn_client_proto_allocation.specs.declared.allocation.Allocation.{Allocation}
 use Rattle.turn_client_proto_connection.specs.Sockets.{has_from, is_from}
 use Rattle.turn_client_proto_connection.specs.Streams.{awaiting, waits_in}
 use Rattle.turn_client_proto_connection.proofs.streams.await_from.Goals as goal

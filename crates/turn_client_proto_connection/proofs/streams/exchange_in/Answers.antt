@@ -1,6 +1,6 @@
 use Rattle.std.proofs.Common.{ap, get_or, option_map, Some, sym, ◌∙◌}
-use Rattle.turn_client_proto_channel.proofs.Permission.Allocation.Changes.{found_at, put_there}
-use Rattle.turn_client_proto_channel.specs.Permission.Allocation.declared.connection.Connection.{Connection}
+use Rattle.turn_client_proto_allocation.proofs.Changes.{found_at, put_there}
+use Rattle.turn_client_proto_allocation.specs.declared.connection.Connection.{Connection}
 use Rattle.turn_client_proto_connection.specs.Sockets.{is_from}
 use Rattle.turn_client_proto_connection.specs.Streams.{with_stream}
 use Rattle.turn_client_proto_connection.proofs.streams.exchange_in.Goals as goal

@@ -1,6 +1,6 @@
 use Rattle.std.proofs.Common.{ap, sym, ◌∙◌}
 use Rattle.std.specs.Option.{option_and_then}
-use Rattle.turn_client_proto_channel.proofs.Permission.Allocation.Changes.{found_at}
+use Rattle.turn_client_proto_allocation.proofs.Changes.{found_at}
 use Rattle.turn_client_proto_connection.specs.Sockets.{has_from}
 use Rattle.turn_client_proto_connection.specs.Streams.{from_in}
 use Rattle.turn_client_proto_connection.proofs.streams.from.Goals as goal

@@ -1,11 +1,11 @@
 use Rattle.std.proofs.Common.{List, [], Option, ap, drop, get_or, length, option_map, sym, take, ◌++◌, ◌∙◌}
 use Rattle.std.specs.List.{find}
 use Rattle.std.specs.Option.{option_and_then}
-use Rattle.turn_client_proto_channel.proofs.Permission.Allocation.Changes.{found_at, put_there}
-use Rattle.turn_client_proto_channel.proofs.Permission.Lent.{first_back}
-use Rattle.turn_client_proto_channel.specs.Permission.Allocation.Streams.{alive}
-use Rattle.turn_client_proto_channel.specs.Permission.Allocation.declared.allocation.Allocation.{Allocation}
-use Rattle.turn_client_proto_channel.specs.Permission.Allocation.declared.connection.Connection.{Connection}
+use Rattle.turn_client_proto_allocation.proofs.Changes.{found_at, put_there}
+use Rattle.turn_client_proto_allocation.proofs.Lent.{first_back}
+use Rattle.turn_types_frame.specs.Streams.{alive}
+use Rattle.turn_client_proto_allocation.specs.declared.allocation.Allocation.{Allocation}
+use Rattle.turn_client_proto_allocation.specs.declared.connection.Connection.{Connection}
 use Rattle.turn_client_proto_connection.specs.Streams.{emptied_in, has_raw, is_any_raw, raw_in, raw_kept, with_stream}
 use Rattle.turn_client_proto_connection.proofs.streams.take_raw.Goals as goal
 

@@ -1,7 +1,7 @@
 use Rattle.std.proofs.Common.{ap, get_or}
-use Rattle.turn_client_proto_channel.proofs.Permission.Allocation.Changes.{on_ok, put_there}
-use Rattle.turn_client_proto_channel.specs.Permission.Allocation.declared.allocation.Allocation.{Allocation}
-use Rattle.turn_client_proto_channel.specs.Awaited.{awaits_reply}
+use Rattle.turn_client_proto_allocation.proofs.Changes.{on_ok, put_there}
+use Rattle.turn_client_proto_allocation.specs.declared.allocation.Allocation.{Allocation}
+use Rattle.turn_client_proto_allocation.specs.Requested.{awaits_reply}
 use Rattle.turn_client_proto_connection.specs.Told.{connected}
 use Rattle.turn_client_proto_connection.proofs.told.connect.Goals as goal
 

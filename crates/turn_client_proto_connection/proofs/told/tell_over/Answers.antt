@@ -1,7 +1,7 @@
 use Rattle.std.proofs.Common.{◌≡◌, arith, filter, get_or, true}
 use Rattle.turn_client_proto_connection.specs.Told.{is_over}
-use Rattle.turn_client_proto_channel.specs.Permission.Allocation.declared.connection.Connecting.{Connecting}
-use Rattle.turn_client_proto_channel.proofs.Permission.Told.{always_told, map_some, some_pass}
+use Rattle.turn_client_proto_allocation.specs.declared.connection.Connecting.{Connecting}
+use Rattle.turn_client_proto_allocation.proofs.Told.{always_told, map_some, some_pass}
 use Rattle.turn_client_proto_connection.proofs.told.tell_over.Goals as goal
 
 pub returns-in_err-push_back-clause-told : goal.returns-in_err-push_back-clause-told

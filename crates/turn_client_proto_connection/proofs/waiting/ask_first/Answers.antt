@@ -1,8 +1,8 @@
 use Rattle.std.proofs.Common.{ap, find, get_or, sym, ◌∙◌}
 use Rattle.std.specs.Option.{option_and_then}
-use Rattle.turn_client_proto_channel.proofs.Permission.Allocation.Changes.{found_at, put_there}
-use Rattle.turn_client_proto_channel.specs.Permission.Allocation.declared.allocation.Allocation.{Allocation}
-use Rattle.turn_client_proto_channel.proofs.Permission.Lent.{first_back}
+use Rattle.turn_client_proto_allocation.proofs.Changes.{found_at, put_there}
+use Rattle.turn_client_proto_allocation.specs.declared.allocation.Allocation.{Allocation}
+use Rattle.turn_client_proto_allocation.proofs.Lent.{first_back}
 use Rattle.turn_client_proto_connection.specs.Waiting.{asked, asked_in, has_unasked, is_unasked, unasked_of}
 use Rattle.turn_client_proto_connection.proofs.waiting.ask_first.Goals as goal
 

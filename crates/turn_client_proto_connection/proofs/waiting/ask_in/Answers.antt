@@ -1,6 +1,6 @@
 use Rattle.std.proofs.Common.{ap, get_or, refl, sym, ◌∙◌}
-use Rattle.turn_client_proto_channel.proofs.Permission.Allocation.Changes.{found_at, put_there}
-use Rattle.turn_client_proto_channel.specs.Permission.Allocation.declared.connection.Waiting.{Waiting}
+use Rattle.turn_client_proto_allocation.proofs.Changes.{found_at, put_there}
+use Rattle.turn_client_proto_allocation.specs.declared.connection.Waiting.{Waiting}
 use Rattle.turn_client_proto_connection.specs.Waiting.{asked, is_unasked}
 use Rattle.turn_client_proto_connection.proofs.waiting.ask_in.Goals as goal
 

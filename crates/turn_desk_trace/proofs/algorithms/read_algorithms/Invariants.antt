@@ -3,7 +3,7 @@ use Rattle.std.specs.Prelude.{◌==◌}
 use Rattle.std.specs.List.{IsDistinct, slice_split}
 use denote.Shadow.{shadow}
 use denote.Text.{Utf8}
-use Rattle.stun_proto.specs.SupportedAlgorithms.{is_same_algorithm}
+use Rattle.stun_proto_auth.specs.SupportedAlgorithms.{is_same_algorithm}
 use Rattle.turn_desk_trace.specs.Algorithms.{algorithm_word, listed}
 use Rattle.turn_desk_trace.proofs.algorithms.read_algorithms.Given as goal
 

@@ -1,10 +1,10 @@
 use Rattle.std.proofs.Common.{Option, Result, ◌≡◌, ℕ, ap, subst}
 use Rattle.std.specs.declared.net.socket_addr.SocketAddr.{SocketAddr}
-use Rattle.stun_types.specs.declared.transport.TransportType.{TransportType}
-use Rattle.turn_client_proto.specs.Api.declared.answer.Socket5Tuple.{Socket5Tuple}
-use Rattle.turn_client_proto.specs.Api.declared.error.TcpAllocateError.{TcpAllocateError}
+use Rattle.stun_types_base.specs.declared.transport.TransportType.{TransportType}
+use Rattle.turn_client_proto_api.specs.declared.answer.Socket5Tuple.{Socket5Tuple}
+use Rattle.turn_client_proto_api.specs.declared.error.TcpAllocateError.{TcpAllocateError}
 use Rattle.turn_client_proto.specs.Clients.{kept_of}
-use Rattle.turn_client_proto.specs.Kept.{Kept}
+use Rattle.turn_client_proto.specs.Recv.Kept.{Kept}
 use Rattle.turn_client_proto.specs.SocketsTold.{IsSocketTold}
 use Rattle.turn_desk_world.specs.Calls.{own_tuple}
 use Rattle.turn_desk_world.proofs.driven.allocated_tcp_socket.Goals as goal

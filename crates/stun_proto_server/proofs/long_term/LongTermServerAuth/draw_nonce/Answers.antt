@@ -1,8 +1,8 @@
 use Rattle.std.proofs.Common.{◌≡◌, ℕ, List, None, ap, ◌∙◌}
 use Rattle.std.specs.FinMap as map
-use Rattle.stun_proto_sign.specs.GeneratorWords.{words_of}
+use Rattle.stun_types_base.specs.GeneratorWords.{words_of}
 use Rattle.stun_proto_auth.specs.declared.nonce.TheConstants.{NONCE_WORDS}
-use Rattle.stun_proto_judge.specs.Nonce.{nonce_text, features_offered}
+use Rattle.stun_proto_auth.specs.Nonce.{nonce_text, features_offered}
 use Rattle.stun_proto_server.specs.Server.{Server}
 use Rattle.stun_proto_server.proofs.Apart.{drawn_others}
 use Rattle.stun_proto_server.proofs.Maps.{insert-clients}

@@ -1,6 +1,6 @@
 use Rattle.std.proofs.Common.{sym, ap, ◌∙◌, if◌then◌else◌}
 use Rattle.stun_types_base.proofs.WordLemmas.{stream_after-zero}
-use Rattle.stun_proto_sign.specs.GeneratorWords.{stream_after}
+use Rattle.stun_types_base.specs.GeneratorWords.{stream_after}
 use Rattle.stun_proto_auth.specs.declared.nonce.TheConstants.{NONCE_WORDS}
 use Rattle.stun_proto_server.proofs.long_term.LongTermServerAuth.refresh_nonce.Goals as goal
 

@@ -1,6 +1,6 @@
 use Rattle.std.proofs.Common.{◌≡◌, ℕ, List, Some, sym, ap, ◌∙◌, subst}
 use Rattle.std.specs.Option.{option_map}
-use Rattle.stun_proto_sign.specs.Userhashes.{userhash_of}
+use Rattle.stun_types_auth_attributes.specs.Userhashes.{userhash_of}
 use Rattle.stun_proto_server.specs.KeptKeys.{HasKeys}
 use Rattle.stun_proto_server.specs.Server.{Server}
 use Rattle.stun_proto_server.specs.Users.{IsFoundBy}

@@ -1,6 +1,6 @@
 use Rattle.std.proofs.Common.{◌≡◌, ℕ, ◌-◌, ◌<◌, get_or, vec_len}
 use Rattle.std.specs.Prelude.{◌⊎◌}
-use Rattle.stun_proto_schedule.specs.Moments.{greatest_moment}
+use Rattle.stun_types_base.specs.Moments.{greatest_moment}
 use Rattle.stun_proto_transaction.specs.Watched.{IsKept}
 use Rattle.stun_proto_transaction.proofs.moments.Moments.first_until.Given as goal
 

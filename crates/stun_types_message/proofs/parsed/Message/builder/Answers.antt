@@ -1,6 +1,6 @@
 use Rattle.std.proofs.Common.{ℕ, ap, ◌∙◌}
 use Rattle.stun_types_wire.specs.Text.{header_text}
-use Rattle.stun_types_build.proofs.Begun.{begun}
+use Rattle.stun_types_add.proofs.Begun.{begun}
 use Rattle.stun_types_message.proofs.parsed.Message.builder.Goals as goal
 
 pub returns-clause-begun : goal.returns-clause-begun

@@ -2,7 +2,7 @@ use Rattle.std.proofs.Common.{rules, ◌≡◌, true, false, eqb, Some, length, 
 use Rattle.std.proofs.lemmas.List.{length-drop}
 use Rattle.stun_types_message.proofs.Validating.{stands}
 use Rattle.stun_types_wire.specs.Attributes.{Attr, kind_at, size_at}
-use Rattle.stun_types_grammar_laws.proofs.Whole.{whole_long}
+use Rattle.stun_types_wire.proofs.Whole.{whole_long}
 use Rattle.stun_types_message.proofs.Shows.{attribute_is, begins_whole, first_at, first_at_behind, left_sum, none_at}
 use Rattle.stun_types_message.proofs.parsed.Message.first_of_type.Goals as goal
 

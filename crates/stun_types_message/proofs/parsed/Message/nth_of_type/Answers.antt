@@ -3,7 +3,7 @@ use Rattle.std.specs.Prelude.{ℕ, List, map}
 use Rattle.stun_types_wire.specs.Attributes.{Attr}
 use Rattle.stun_types_wire.specs.Grammar.{shown}
 use Rattle.stun_types_message.specs.TypedReading.{nth_of_kind}
-use Rattle.stun_types_grammar_laws.proofs.Left.{map_numbered}
+use Rattle.stun_types_wire.proofs.Left.{map_numbered}
 use Rattle.stun_types_message.proofs.parsed.Message.nth_of_type.Goals as goal
 
 pub loop-attribute-init : goal.loop-attribute-init

@@ -1,5 +1,5 @@
 use Rattle.std.proofs.Common.{◌≡◌, ◌++◌, length}
-use Rattle.turn_client_proto_receipt.specs.Channel.Shown.{channels_shown, pairs_of}
+use Rattle.turn_client_proto_peers.specs.Channel.Shown.{channels_shown, pairs_of}
 use Rattle.turn_client_proto.proofs.getters.ChannelsIterIterator.next.Given as goal
 
 -- what is left to look at has what is left to give

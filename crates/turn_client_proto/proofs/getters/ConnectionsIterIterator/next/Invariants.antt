@@ -1,5 +1,5 @@
 use Rattle.std.proofs.Common.{◌≡◌, ◌++◌, length}
-use Rattle.turn_client_proto_receipt.specs.Connection.Shown.{connections_shown, rows_of}
+use Rattle.turn_client_proto_connection.specs.Shown.{connections_shown, rows_of}
 use Rattle.turn_client_proto.proofs.getters.ConnectionsIterIterator.next.Given as goal
 
 -- what is left to look at has what is left to give

@@ -1,6 +1,6 @@
 use Rattle.std.proofs.Common.{subst, sym, ◌<◌, ◌^◌, ℕ}
 use Rattle.std.proofs.Math.ListN.{length-map}
-use Rattle.turn_client_proto_receipt.specs.Allocation.declared.permission.Permission.{Permission}
+use Rattle.turn_client_proto_allocation.specs.declared.permission.Permission.{Permission}
 use Rattle.turn_client_proto.proofs.getters.PermissionAddressesIter.new.Goals as goal
 
 pub returns-clause-few : goal.returns-clause-few

@@ -2,8 +2,8 @@ use Rattle.std.proofs.Common.{arith, length, subst, sym, ◌<◌, ◌^◌, ◌�
 use Rattle.std.specs.Prelude.{filter}
 use Rattle.std.proofs.lemmas.List.Sums.{count_by-le-length, length-filter}
 use Rattle.std.proofs.Math.ListN.{length-map}
-use Rattle.turn_client_proto_receipt.specs.Allocation.Listed.{is_shown}
-use Rattle.turn_client_proto_receipt.specs.Allocation.declared.allocation.Allocation.{Allocation}
+use Rattle.turn_client_proto_allocation.specs.Listed.{is_shown}
+use Rattle.turn_client_proto_allocation.specs.declared.allocation.Allocation.{Allocation}
 use Rattle.turn_client_proto.proofs.getters.RelayedAddressesIter.new.Goals as goal
 
 pub returns-clause-few : goal.returns-clause-few

@@ -1,5 +1,5 @@
 use Rattle.std.proofs.Common.{◌≡◌, ◌≤◌, length, take}
-use Rattle.turn_client_proto_receipt.specs.Allocation.Listed.{relayed_shown}
+use Rattle.turn_client_proto_allocation.specs.Listed.{relayed_shown}
 use Rattle.turn_client_proto.proofs.getters.RelayedAddressesIterExactSizeIterator.len.Given as goal
 
 -- those so far are counted

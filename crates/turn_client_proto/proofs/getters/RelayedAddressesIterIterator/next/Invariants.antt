@@ -1,5 +1,5 @@
 use Rattle.std.proofs.Common.{◌≡◌, length}
-use Rattle.turn_client_proto_receipt.specs.Allocation.Listed.{relayed_shown}
+use Rattle.turn_client_proto_allocation.specs.Listed.{relayed_shown}
 use Rattle.turn_client_proto.proofs.getters.RelayedAddressesIterIterator.next.Given as goal
 
 -- what is left to look at has what is left to give

@@ -2,7 +2,7 @@ use Rattle.std.proofs.Common.{◌≡◌, ap, arith, drop, length, map, ◌∙◌
 use Rattle.std.proofs.lemmas.List.Edits.{map_over_more}
 use Rattle.std.proofs.lemmas.Fn.{filter_same}
 use Rattle.turn_client_proto_allocation.specs.Polling.{kept, nexts, polled}
-use Rattle.stun_proto_agent.specs.Least.{IsLeastOf}
+use Rattle.stun_proto_transaction.specs.Least.{IsLeastOf}
 use Rattle.turn_client_proto_allocation.specs.declared.allocation.Allocation.{Allocation}
 use Rattle.turn_client_proto_allocation.proofs.Walks.{walked}
 use Rattle.turn_client_proto_allocation.proofs.listed.Allocations.poll.Goals as goal

@@ -1,8 +1,8 @@
 use Rattle.std.proofs.Common.{ap, get_or, length, refl, slice_get, sym, ◌∙◌}
 use Rattle.std.proofs.lemmas.Option.{slice_get_read}
 use Rattle.std.specs.Net.Socket.{socket_ip}
-use Rattle.turn_client_proto_connection.proofs.Allocation.Changes.{on_ok}
-use Rattle.turn_client_proto_connection.specs.Channel.Permission.Asking.{knows}
+use Rattle.turn_client_proto_allocation.proofs.Changes.{on_ok}
+use Rattle.turn_client_proto_peers.specs.Permission.Asking.{knows}
 use Rattle.turn_client_proto_core.proofs.AskedChannels.{beside_asked, beside_known}
 use Rattle.turn_client_proto_core.proofs.protocol.Protocol.ask_beside.Goals as goal
 

@@ -1,5 +1,5 @@
 use Rattle.std.proofs.Common.{slice_get, refl}
-use Rattle.turn_client_proto_connection.specs.Channel.Permission.Asking.{asking}
+use Rattle.turn_client_proto_peers.specs.Permission.Asking.{asking}
 use Rattle.turn_client_proto_core.proofs.Places.{read_there, undone}
 use Rattle.turn_client_proto_core.proofs.protocol.Protocol.ask_by.Goals as goal
 

@@ -1,7 +1,7 @@
 use Rattle.std.proofs.Common.{◌<◌, ap, length, refl, slice_get, subst, sym, ◌∙◌}
-use Rattle.turn_client_proto_connection.specs.Channel.Binding.{asking}
-use Rattle.turn_client_proto_request.specs.ToldRequests.{IsLawfulRequest}
-use Rattle.turn_client_proto_request.specs.declared.request.TurnRequest.TheVariants.{ChannelBind}
+use Rattle.turn_client_proto_peers.specs.Channel.Binding.{asking}
+use Rattle.turn_client_proto_messages.specs.ToldRequests.{IsLawfulRequest}
+use Rattle.turn_client_proto_messages.specs.declared.request.TurnRequest.TheVariants.{ChannelBind}
 use Rattle.turn_client_proto_core.specs.Numbering.{after_number}
 use Rattle.turn_client_proto_core.proofs.AskedChannels.{both_asked}
 use Rattle.turn_client_proto_core.proofs.Places.{read_there, undone}

@@ -1,5 +1,5 @@
 use Rattle.std.proofs.Common.{◌≡◌, ℕ, List, sym, ap, ◌∙◌, rules}
-use Rattle.turn_client_proto_connection.specs.Channel.Permission.Api.Sending.{request_refusal}
+use Rattle.stun_proto_agent.specs.Sending.{request_refusal}
 use Rattle.turn_client_proto_core.proofs.Sendable.{sendable}
 use Rattle.turn_client_proto_core.proofs.protocol.Protocol.ask_from.Goals as goal
 

@@ -1,7 +1,7 @@
 use Rattle.std.proofs.Common.{Some, ap, position, sym, ◌∙◌}
-use Rattle.turn_client_proto_connection.proofs.Channel.Permission.Lent.{each_back, first_back}
-use Rattle.turn_client_proto_connection.specs.Channel.Awaited.{asked_by, awaits_reply}
-use Rattle.turn_client_proto_connection.specs.Channel.Granted.{bound, renewed}
+use Rattle.turn_client_proto_allocation.proofs.Lent.{each_back, first_back}
+use Rattle.turn_client_proto_allocation.specs.Requested.{asked_by, awaits_reply}
+use Rattle.turn_client_proto_peers.specs.Channel.Granted.{bound, renewed}
 use Rattle.turn_client_proto_core.specs.Binding.{permission_with}
 use Rattle.turn_client_proto_core.proofs.Bound.{granted, renews, still_awaits}
 use Rattle.turn_client_proto_core.proofs.protocol.Protocol.grant_channel.Goals as goal

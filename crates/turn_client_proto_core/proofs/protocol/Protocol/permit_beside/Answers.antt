@@ -1,8 +1,8 @@
 use Rattle.std.proofs.Common.{◌∙◌}
-use Rattle.turn_client_proto_connection.proofs.Allocation.Changes.{on_ok}
-use Rattle.turn_client_proto_connection.proofs.Channel.Permission.Lent.{first_back}
-use Rattle.turn_client_proto_connection.specs.Channel.Awaited.{awaits_reply}
-use Rattle.turn_client_proto_connection.specs.Channel.Permission.Granted.{permitted}
+use Rattle.turn_client_proto_allocation.proofs.Changes.{on_ok}
+use Rattle.turn_client_proto_allocation.proofs.Lent.{first_back}
+use Rattle.turn_client_proto_allocation.specs.Requested.{awaits_reply}
+use Rattle.turn_client_proto_peers.specs.Permission.Granted.{permitted}
 use Rattle.turn_client_proto_core.specs.Binding.{permission_with}
 use Rattle.turn_client_proto_core.proofs.Bound.{beside_is, none_permitted, one_permitted}
 use Rattle.turn_client_proto_core.proofs.protocol.Protocol.permit_beside.Goals as goal

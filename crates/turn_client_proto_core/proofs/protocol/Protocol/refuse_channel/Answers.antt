@@ -1,7 +1,7 @@
 use Rattle.std.proofs.Common.{Some, ap, sym, ◌∙◌}
-use Rattle.turn_client_proto_connection.proofs.Channel.Permission.Lent.{each_back}
-use Rattle.turn_client_proto_connection.specs.Channel.Awaited.{asked_by}
-use Rattle.turn_client_proto_connection.specs.Channel.Granted.{let_lapse}
+use Rattle.turn_client_proto_allocation.proofs.Lent.{each_back}
+use Rattle.turn_client_proto_allocation.specs.Requested.{asked_by}
+use Rattle.turn_client_proto_peers.specs.Channel.Granted.{let_lapse}
 use Rattle.turn_client_proto_core.proofs.Bound.{lapses}
 use Rattle.turn_client_proto_core.proofs.protocol.Protocol.refuse_channel.Goals as goal
 

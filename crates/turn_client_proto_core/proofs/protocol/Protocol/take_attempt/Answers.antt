@@ -1,5 +1,5 @@
 use Rattle.std.proofs.Common.{None, Some, ap, get_or, sym, ◌∙◌}
-use Rattle.turn_client_proto_connection.proofs.Allocation.Changes.{on_ok}
+use Rattle.turn_client_proto_allocation.proofs.Changes.{on_ok}
 use Rattle.turn_client_proto_core.proofs.Tried.{barred, begun, nowhere, place_by}
 use Rattle.turn_client_proto_core.proofs.protocol.Protocol.take_attempt.Goals as goal
 

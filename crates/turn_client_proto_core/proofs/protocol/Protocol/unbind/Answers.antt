@@ -1,6 +1,6 @@
-use Rattle.turn_client_proto_connection.proofs.Allocation.Changes.{on_ok}
-use Rattle.turn_client_proto_connection.proofs.Channel.Permission.Lent.{each_back}
-use Rattle.turn_client_proto_connection.specs.Channel.Granted.{turned_down}
+use Rattle.turn_client_proto_allocation.proofs.Changes.{on_ok}
+use Rattle.turn_client_proto_allocation.proofs.Lent.{each_back}
+use Rattle.turn_client_proto_peers.specs.Channel.Granted.{turned_down}
 use Rattle.turn_client_proto_core.specs.Binding.{permission_with}
 use Rattle.turn_client_proto_core.proofs.Bound.{beside_is, unbound_is}
 use Rattle.turn_client_proto_core.proofs.protocol.Protocol.unbind.Goals as goal

@@ -1,4 +1,4 @@
-use Rattle.stun_types.specs.Lent.{own_draft}
+use Rattle.stun_types_write.specs.Lent.{own_draft}
 use Rattle.turn_desk_core.proofs.Responses.{reply_is_response}
 use Rattle.turn_desk_core.proofs.desk.Desk.answer.Goals as goal
 

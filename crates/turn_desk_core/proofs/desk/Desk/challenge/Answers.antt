@@ -1,7 +1,7 @@
 use Rattle.std.proofs.Common.{rules, ◌≡◌, Some, None, List, ℕ, sym, subst}
 use Rattle.std.specs.Prelude.{IsSome}
-use Rattle.stun_types.specs.Lent.{own_draft}
-use Rattle.stun_proto.specs.Server.{nonce_at, outcome_at}
+use Rattle.stun_types_write.specs.Lent.{own_draft}
+use Rattle.stun_proto_server.specs.Server.{nonce_at, outcome_at}
 use Rattle.turn_desk_core.specs.State.{State}
 use Rattle.turn_desk_core.specs.Steps.{FitsChallenge, IsTurnedReply, challenge_attributes, unvalidated_party}
 use Rattle.turn_desk_core.proofs.Challenges.{challenge_accepted, challenge_reply, keeps_nonce}

@@ -2,12 +2,12 @@ use Rattle.std.specs.Prelude.{◌<◌, slice_index, Result, Ok, Err, OnErr}
 use Rattle.std.proofs.Common.{rules, arith, ◌≡◌, ◌≢◌, inl, inr, List, ℕ, subst, sym, refl}
 use Rattle.std.specs.declared.net.socket_addr.SocketAddr.{SocketAddr}
 use Rattle.rand_core.specs.Stream.{Stream}
-use Rattle.stun_proto.specs.ServerAuthErrors.{NoMemory}
-use Rattle.stun_proto.specs.Server.{SameFor}
-use Rattle.turn_desk_grant.specs.Requests.{IsServed}
+use Rattle.stun_proto_verify.specs.declared.error.LongTermServerAuthError.TheVariants.{NoMemory}
+use Rattle.stun_proto_server.specs.Server.{SameFor}
+use Rattle.turn_desk_core.specs.Requests.{IsServed}
 use Rattle.turn_desk_core.specs.State.{State}
 use Rattle.turn_desk_core.specs.Steps.{IsAnswer, IsAuthAfter, IsTurnedAway}
-use Rattle.turn_desk_grant.specs.Verdicts.{verdict_on}
+use Rattle.turn_desk_core.specs.Verdicts.{verdict_on}
 use Rattle.turn_desk_core.proofs.Challenges.{challenged, refused_outcome}
 use Rattle.turn_desk_core.proofs.Grants.{exactly_granted}
 use Rattle.turn_desk_core.proofs.Keys.{answered, refusal_after, refused_nonce, takes, takes_key}

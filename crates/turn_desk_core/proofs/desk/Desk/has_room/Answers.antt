@@ -1,5 +1,5 @@
 use Rattle.std.proofs.Common.{◌≡◌, Some, subst}
-use Rattle.stun_proto.specs.Server.{nonce_at}
+use Rattle.stun_proto_server.specs.Server.{nonce_at}
 use Rattle.turn_desk_core.specs.State.{State}
 use Rattle.turn_desk_core.specs.Steps.{FitsChallenge, unvalidated_party}
 use Rattle.turn_desk_core.proofs.Challenges.{server_fits}

@@ -2,7 +2,7 @@ use Rattle.std.proofs.Common.{rules, subst}
 use Rattle.std.specs.Prelude.{IsSome}
 use Rattle.turn_desk_core.specs.State.{State}
 use Rattle.turn_desk_core.specs.Steps.{IsSignedFor, key_at}
-use Rattle.stun_types.specs.Lent.{own_draft}
+use Rattle.stun_types_write.specs.Lent.{own_draft}
 use Rattle.turn_desk_core.proofs.Keys.{accepted_for, signed_for}
 use Rattle.turn_desk_core.proofs.desk.Desk.sign.Goals as goal
 

@@ -1,12 +1,12 @@
 use Rattle.std.proofs.Common.{rules, ◌≡◌, ℕ, List, Some, sym, subst}
 use Rattle.std.specs.Prelude.{IsSome}
-use Rattle.stun_types.specs.Lent.{own_draft}
-use Rattle.stun_types.specs.Registry.{bad_request_code}
-use Rattle.stun_proto.specs.Server.{nonce_at}
-use Rattle.stun_proto.specs.ServerAuthErrors.{LongTermServerAuthError}
+use Rattle.stun_types_write.specs.Lent.{own_draft}
+use Rattle.stun_types_wire.specs.Registry.{bad_request_code}
+use Rattle.stun_proto_server.specs.Server.{nonce_at}
+use Rattle.stun_proto_verify.specs.declared.error.LongTermServerAuthError.{LongTermServerAuthError}
 use Rattle.turn_desk_core.specs.State.{State}
 use Rattle.turn_desk_core.specs.Steps.{FitsChallenge, IsTurnedReply, refusal_attributes, unvalidated_party}
-use Rattle.turn_desk_grant.specs.Replies.{failure_attributes}
+use Rattle.turn_desk_core.specs.Replies.{failure_attributes}
 use Rattle.turn_desk_core.proofs.Challenges.{keeps_nonce, plain_reply}
 use Rattle.turn_desk_core.proofs.desk.Desk.turn_away.Goals as goal
 

@@ -1,9 +1,0 @@
--- What is printed of a line that can't be read.
-use Rattle.std.specs.Prelude.{ℕ, List, codes}
-use Rattle.program_lines.specs.declared.refusal.LineError.{LineError}
-use Rattle.program_lines.specs.declared.refusal.LineError.TheVariants.{Bad, NoMemory}
-
--- the text of an error
-abbrev pub name_of_line_error : LineError → List ℕ
-name_of_line_error Bad = codes "bad line"
-name_of_line_error NoMemory = codes "no memory"

@@ -1,0 +1,90 @@
+//! The names of what a message shows.
+
+use crate::registry::{ADDRESS_ERROR_CODE, EVEN_PORT, RESERVATION_TOKEN};
+use std::alloc::Global;
+use stun_types_base::memory::NoMemory;
+use stun_types_wire::algorithm::IntegrityAlgorithm;
+use stun_types_wire::class::MessageClass;
+use stun_types_wire::names::Names;
+use stun_types_write::attribute::AttributeStaticType;
+use turn_types::message as method;
+use turn_types_attributes::additional_address_family::AdditionalAddressFamily;
+use turn_types_attributes::dont_fragment::DontFragment;
+use turn_types_attributes::lifetime::Lifetime;
+use turn_types_attributes::requested_address_family::RequestedAddressFamily;
+use turn_types_attributes::requested_transport::RequestedTransport;
+use turn_types_attributes::xor_relayed_address::XorRelayedAddress;
+use turn_types_peer::channel_number::ChannelNumber;
+use turn_types_peer::connection_id::ConnectionId;
+use turn_types_peer::data::Data;
+use turn_types_peer::icmp::Icmp;
+use turn_types_peer::xor_peer_address::XorPeerAddress;
+
+/// The names of RFC 8489, and those of TURN's methods and attributes (RFC 8656, sections 17 and 18;
+/// RFC 6062, section 6).
+pub fn names(alloc: Global) -> Result<Names, NoMemory> {
+    let mut names = Names::new(alloc);
+    add_methods(&mut names)?;
+    add_attributes(&mut names)?;
+    Ok(names)
+}
+
+/// Adds the names of TURN's methods.
+fn add_methods(names: &mut Names) -> Result<(), NoMemory> {
+    for (method, name) in [
+        (method::ALLOCATE, "ALLOCATE"),
+        (method::REFRESH, "REFRESH"),
+        (method::SEND, "SEND"),
+        (method::DATA, "DATA"),
+        (method::CREATE_PERMISSION, "CREATE_PERMISSION"),
+        (method::CHANNEL_BIND, "CHANNEL_BIND"),
+        (method::CONNECT, "CONNECT"),
+        (method::CONNECTION_BIND, "CONNECTION_BIND"),
+        (method::CONNECTION_ATTEMPT, "CONNECTION_ATTEMPT"),
+    ] {
+        names.add_method(method, name)?;
+    }
+    Ok(())
+}
+
+/// Adds the names of TURN's attributes.
+fn add_attributes(names: &mut Names) -> Result<(), NoMemory> {
+    for (atype, name) in [
+        (ChannelNumber::TYPE, "CHANNEL-NUMBER"),
+        (Lifetime::TYPE, "LIFETIME"),
+        (XorPeerAddress::TYPE, "XOR-PEER-ADDRESS"),
+        (Data::TYPE, "DATA"),
+        (XorRelayedAddress::TYPE, "XOR-RELAYED-ADDRESS"),
+        (RequestedAddressFamily::TYPE, "REQUESTED-ADDRESS-FAMILY"),
+        (EVEN_PORT, "EVEN-PORT"),
+        (RequestedTransport::TYPE, "REQUESTED-TRANSPORT"),
+        (DontFragment::TYPE, "DONT-FRAGMENT"),
+        (RESERVATION_TOKEN, "RESERVATION-TOKEN"),
+        (ConnectionId::TYPE, "CONNECTION-ID"),
+        (AdditionalAddressFamily::TYPE, "ADDITIONAL-ADDRESS-FAMILY"),
+        (ADDRESS_ERROR_CODE, "ADDRESS-ERROR-CODE"),
+        (Icmp::TYPE, "ICMP"),
+    ] {
+        names.add_attribute(atype, name)?;
+    }
+    Ok(())
+}
+
+/// The name of a class.
+pub fn class_name(class: MessageClass) -> &'static str {
+    match class {
+        MessageClass::Request => "request",
+        MessageClass::Indication => "indication",
+        MessageClass::Success => "success",
+        MessageClass::Error => "error",
+    }
+}
+
+/// The name of an algorithm of integrity.
+pub fn algorithm_name(algorithm: IntegrityAlgorithm) -> &'static str {
+    match algorithm {
+        IntegrityAlgorithm::Sha1 => "Sha1",
+        IntegrityAlgorithm::Sha256 => "Sha256",
+        IntegrityAlgorithm::Sha512 => "Sha512",
+    }
+}

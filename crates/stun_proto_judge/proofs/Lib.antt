@@ -1,2 +1,0 @@
-pub mod Consistent
-pub mod Judging

@@ -1,3 +1,0 @@
-pub mod Counting
-pub mod Making
-pub mod Reaching

@@ -1,8 +1,0 @@
-use Rattle.std.proofs.Common.{drop}
-use Rattle.stun_proto_sign.specs.Sizes.{size_of_signature}
-use Rattle.stun_proto_sign.proofs.Counting.{IsCounted}
-use Rattle.stun_proto_sign.proofs.size.signature_bytes.Given as goal
-
--- the parts before the index are within their limits, and counted
-abbrev pub invariant-loop-part : goal.invariant-loop-part
-invariant-loop-part l = IsCounted l.fn.parts (drop l.part-index l.fn.parts) (size_of_signature l.fn.algorithm) l.total

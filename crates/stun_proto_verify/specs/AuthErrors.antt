@@ -1,0 +1,28 @@
+-- What is told of an error.
+use Rattle.std.specs.Prelude.{Option, Some, None}
+use Rattle.stun_types_wire.specs.declared.algorithm.IntegrityAlgorithm.{IntegrityAlgorithm}
+use Rattle.stun_types_wire.specs.declared.error.ValidateError.{ValidateError}
+use Rattle.stun_types_wire.specs.declared.error.ValidateError.TheVariants as invalid
+use Rattle.stun_proto_verify.specs.declared.error.LongTermServerAuthError.{LongTermServerAuthError}
+use Rattle.stun_proto_verify.specs.declared.error.LongTermServerAuthError.TheVariants.{Unauthorized, IntegrityFailed, BadRequest, StaleNonce, NoMemory}
+use Rattle.stun_proto_verify.specs.declared.error.LongTermServerAuthErrorReason.{LongTermServerAuthErrorReason}
+use Rattle.stun_proto_verify.specs.declared.error.LongTermServerAuthErrorReason.TheVariants as reason
+
+-- the reason alone
+abbrev pub reason_of : LongTermServerAuthError → LongTermServerAuthErrorReason
+reason_of Unauthorized = reason.Unauthorized
+reason_of (IntegrityFailed algorithm) = reason.IntegrityFailed
+reason_of BadRequest = reason.BadRequest
+reason_of StaleNonce = reason.StaleNonce
+reason_of NoMemory = reason.NoMemory
+
+-- the algorithm of the digest that is wrong
+abbrev pub integrity_of : LongTermServerAuthError → Option IntegrityAlgorithm
+integrity_of (IntegrityFailed algorithm) = Some algorithm
+integrity_of _ = None
+
+-- what a server answers where a message does not validate for an algorithm: an attribute of
+-- unlawful length is wrong too
+abbrev pub digest_error : IntegrityAlgorithm → ValidateError → LongTermServerAuthError
+digest_error algorithm (invalid.Parse cause) = IntegrityFailed algorithm
+digest_error algorithm invalid.IntegrityFailed = IntegrityFailed algorithm

@@ -1,0 +1,11 @@
+-- The keys of a user in a realm, which are kept.
+use Rattle.std.specs.Prelude.{◌≡◌}
+use Rattle.stun_types_wire.specs.declared.algorithm.IntegrityAlgorithm.TheVariants.{Sha1, Sha256, Sha512}
+use Rattle.stun_types_integrity.specs.Credentials.{LongTermSecret, long_term_key}
+use Rattle.stun_proto_verify.specs.declared.keys.UserKeys.{UserKeys}
+
+-- keys are those that a user's name and password make in a realm, for each algorithm
+pub record AreKeysOf (secret : LongTermSecret) (keys : UserKeys) : Type 0 where
+  pub sha1 : keys.sha1 ≡ long_term_key secret Sha1
+  pub sha256 : keys.sha256 ≡ long_term_key secret Sha256
+  pub sha512 : keys.sha512 ≡ long_term_key secret Sha512

@@ -1,0 +1,172 @@
+//! The judgement of a message.
+
+ghost use Rattle.std.specs.Prelude.{◌≡◌, ◌≢◌, ℕ, List, Some, None, Err, IfOk, IfErr, IfSome, OnOk, MatchResult, false};
+ghost use Rattle.stun_types_wire.specs.Grammar.{shown};
+ghost use Rattle.stun_types_message.specs.MessageValidation.{last_algorithm};
+ghost use Rattle.stun_types_wire.specs.declared.algorithm.IntegrityAlgorithm.{IntegrityAlgorithm as Algorithm};
+ghost use Rattle.stun_types_integrity.specs.Integrity.{Validates};
+ghost use Rattle.stun_proto_auth.specs.Claims.{claimed};
+ghost use Rattle.stun_proto_verify.specs.Judgement.{IsAccepted, IsRefused, ServerAccepts, claim_refusal, is_response, full_key, user_key};
+
+use crate::check::{check_algorithms, check_integrity, check_nonce, check_parts};
+use crate::error::LongTermServerAuthError;
+use crate::known::Known;
+use crate::user::ValidatedUser;
+use std::alloc::Global;
+use stun_proto_auth::claim::Claim;
+use stun_types_integrity::key::IntegrityKey;
+use stun_types_message::parsed::Message;
+use stun_types_wire::algorithm::IntegrityAlgorithm;
+
+/// Whether a server takes a message that is no response for one of its user's, by what the message
+/// claims and what the server knows; the answer is the user, and the algorithm of the last
+/// integrity attribute. Refused, in this order: `Unauthorized` where the message shows no integrity
+/// attribute; `BadRequest` where it shows neither the name of a user nor a hash of it, no realm or
+/// no nonce; `StaleNonce` where the nonce is not the one that stands; `BadRequest` where password
+/// algorithms are inconsistent; `Unauthorized` where the user that it names isn't known;
+/// `IntegrityFailed` where the digest is wrong. Where nothing refuses the message and memory is refused
+/// for the name, `NoMemory`.
+pub fn judge_message(
+    alloc: Global,
+    message: &Message<'_>,
+    claim: &Claim<'_>,
+    known: &Known<'_>,
+) -> Result<ValidatedUser, LongTermServerAuthError>
+    requires claim { claim.now ≡ claimed message.now }
+    requires no_response { is_response message.now ≡ false }
+    ensures valid { IfOk result (λ user.
+        ServerAccepts known.now message.now user.algorithm user.name) }
+    ensures accepted { (algorithm : Algorithm) (name : List ℕ)
+        → ServerAccepts known.now message.now algorithm name → MatchResult result
+        (λ user. user ≡ record { name = name; algorithm = algorithm })
+        (λ error. error ≡ LongTermServerAuthError.NoMemory) }
+    ensures refused { IfErr result (λ error. error ≢ LongTermServerAuthError.NoMemory
+        → IsRefused known.now message.now error) }
+    // Memory is asked for only where the message is accepted.
+    ensures memory { result ≡ Err LongTermServerAuthError.NoMemory
+        → IsAccepted known.now message.now }
+{
+    // The paths are taken below. That a message which the server accepts is answered with its user is
+    // proved here, once for all of them.
+    decide(alloc, message, claim, known)
+}
+
+/// The judgement, path by path: it answers as `judge_message` does.
+#[tactic(auto, using(crate::proofs::Judging::judgements))]
+fn decide(
+    alloc: Global,
+    message: &Message<'_>,
+    claim: &Claim<'_>,
+    known: &Known<'_>,
+) -> Result<ValidatedUser, LongTermServerAuthError>
+    requires claim { claim.now ≡ claimed message.now }
+    requires no_response { is_response message.now ≡ false }
+    ensures valid { IfOk result (λ user.
+        ServerAccepts known.now message.now user.algorithm user.name) }
+    ensures refused { IfErr result (λ error. error ≢ LongTermServerAuthError.NoMemory
+        → IsRefused known.now message.now error) }
+    ensures memory { result ≡ Err LongTermServerAuthError.NoMemory
+        → IsAccepted known.now message.now }
+{
+    let pending = check(claim, known)?;
+    validate_user(message, &pending, known.realm())?;
+    let name = String::from_str(alloc, pending.name)?;
+    Ok(ValidatedUser::new(name, pending.algorithm))
+}
+
+/// A claim of which only the digest is left to be looked at.
+#[derive(Drop)]
+struct Pending<'a> {
+    algorithm: IntegrityAlgorithm,
+    name: &'a str,
+    password: &'a str,
+    kept: Option<&'a IntegrityKey<'static>>,
+}
+
+/// Holds a claim against what is known. Refused as `judge_message` is, but for the digest.
+#[tactic(auto, unfolding(crate::specs::Judgement::claim_refusal))]
+fn check<'a>(claim: &Claim<'_>, known: &Known<'a>) -> Result<Pending<'a>, LongTermServerAuthError>
+    ensures passed { IfOk result (λ pending. (claim_refusal known.now claim.now ≡ None)
+        × (claim.now.integrity ≡ Some pending.algorithm)
+        × (known.now.user ≡ Some (record {
+          name = pending.name.now;
+          password = pending.password.now;
+        }))) }
+    ensures refused { IfErr result (λ error. (claim_refusal known.now claim.now ≡ Some error)
+        × (error ≢ LongTermServerAuthError.NoMemory)) }
+    ensures kept { IfOk result (λ pending. IfSome pending.kept (λ key. key.now
+        ≡ full_key known.now.realm pending.name.now pending.password.now pending.algorithm)) }
+{
+    let algorithm = check_integrity(claim)?;
+    check_parts(claim)?;
+    check_nonce(claim, known)?;
+    check_algorithms(claim, known)?;
+    match known.user() {
+        Some(user) => Ok(Pending {
+            algorithm,
+            name: user.name(),
+            password: user.password(),
+            kept: user.kept_key(known.realm(), algorithm),
+        }),
+        None => Err(LongTermServerAuthError::Unauthorized),
+    }
+}
+
+/// Whether a message validates under the key of a user in a realm. Refused with `IntegrityFailed`.
+fn validate_user(
+    message: &Message<'_>,
+    pending: &Pending<'_>,
+    realm: &str,
+) -> Result<(), LongTermServerAuthError>
+    requires last { last_algorithm (shown message.now) ≡ Some pending.now.algorithm }
+    requires kept { IfSome pending.now.kept (λ key. key.now ≡ full_key realm.now
+        pending.now.name.now pending.now.password.now pending.now.algorithm) }
+    ensures valid { OnOk result ((text : List ℕ)
+        × Validates message.now
+        (user_key realm.now pending.now.name.now pending.now.password.now pending.now.algorithm)
+        pending.now.algorithm text) }
+    ensures refused { IfErr result (λ error.
+        (error ≡ LongTermServerAuthError.IntegrityFailed pending.now.algorithm)
+        × ((text : List ℕ) → ¬ Validates message.now
+        (user_key realm.now pending.now.name.now pending.now.password.now pending.now.algorithm)
+        pending.now.algorithm text)) }
+{
+    match pending.kept {
+        Some(key) => validate_under(message, pending, realm, key),
+        None => validate_under(message, pending, realm, &key_in(pending, realm)),
+    }
+}
+
+/// The same under the user's key, whether it was kept or made.
+fn validate_under(
+    message: &Message<'_>,
+    pending: &Pending<'_>,
+    realm: &str,
+    key: &IntegrityKey<'_>,
+) -> Result<(), LongTermServerAuthError>
+    requires last { last_algorithm (shown message.now) ≡ Some pending.now.algorithm }
+    requires key { key.now ≡ full_key realm.now pending.now.name.now
+        pending.now.password.now pending.now.algorithm }
+    ensures valid { OnOk result ((text : List ℕ)
+        × Validates message.now
+        (user_key realm.now pending.now.name.now pending.now.password.now pending.now.algorithm)
+        pending.now.algorithm text) }
+    ensures refused { IfErr result (λ error.
+        (error ≡ LongTermServerAuthError.IntegrityFailed pending.now.algorithm)
+        × ((text : List ℕ) → ¬ Validates message.now
+        (user_key realm.now pending.now.name.now pending.now.password.now pending.now.algorithm)
+        pending.now.algorithm text)) }
+{
+    match message.validate_integrity_with_key(key) {
+        Ok(_) => Ok(()),
+        Err(error) => Err(LongTermServerAuthError::of_digest(pending.algorithm, error)),
+    }
+}
+
+/// The key of the user in a realm.
+fn key_in<'a>(pending: &Pending<'_>, realm: &str) -> IntegrityKey<'a>
+    ensures { result ≡ full_key realm.now pending.now.name.now pending.now.password.now
+        pending.now.algorithm }
+{
+    IntegrityKey::long_term(pending.name, realm, pending.password, pending.algorithm)
+}

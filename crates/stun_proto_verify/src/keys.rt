@@ -1,0 +1,45 @@
+//! The keys of a user in a realm.
+
+ghost use Rattle.std.specs.Prelude.{◌≡◌};
+ghost use Rattle.stun_types_integrity.specs.Credentials.{LongTermSecret, long_term_key};
+ghost use Rattle.stun_proto_verify.specs.UserKeys.{AreKeysOf};
+
+use stun_types_integrity::key::IntegrityKey;
+use stun_types_wire::algorithm::IntegrityAlgorithm;
+
+/// The keys of a user in a realm, one for each algorithm: they are kept as long as the user is there.
+#[derive(Debug, Drop)]
+pub struct UserKeys {
+    sha1: IntegrityKey<'static>,
+    sha256: IntegrityKey<'static>,
+    sha512: IntegrityKey<'static>,
+}
+
+impl UserKeys {
+    /// The keys of the user of this name and password in a realm. To make them takes no memory.
+    pub fn new(name: &str, realm: &str, password: &str) -> UserKeys
+        ensures { AreKeysOf (record {
+          username = name.now;
+          password = password.now;
+          realm = realm.now;
+        }) result }
+    {
+        UserKeys {
+            sha1: IntegrityKey::long_term(name, realm, password, IntegrityAlgorithm::Sha1),
+            sha256: IntegrityKey::long_term(name, realm, password, IntegrityAlgorithm::Sha256),
+            sha512: IntegrityKey::long_term(name, realm, password, IntegrityAlgorithm::Sha512),
+        }
+    }
+
+    /// The key for an algorithm.
+    pub fn key(&self, algorithm: IntegrityAlgorithm) -> &IntegrityKey<'static>
+        ensures { (secret : LongTermSecret) → AreKeysOf secret self.now
+            → result.now ≡ long_term_key secret algorithm }
+    {
+        match algorithm {
+            IntegrityAlgorithm::Sha1 => &self.sha1,
+            IntegrityAlgorithm::Sha256 => &self.sha256,
+            IntegrityAlgorithm::Sha512 => &self.sha512,
+        }
+    }
+}

@@ -1,0 +1,107 @@
+-- Calls that a writer took, one after another.
+use Rattle.std.proofs.Common.{◌≡◌, ℕ, ◌+◌, eqb, false, List, [], ◌∷◌, ◌++◌, drop, length, map, None, refl, sym, ap, subst, ◌∙◌, inl, inr}
+use Rattle.std.proofs.lemmas.Bool.{cases_Bool}
+use Rattle.std.proofs.lemmas.List.{drop-drop}
+use Rattle.stun_types_wire.specs.Attributes.{Attr, attr_size}
+use Rattle.stun_types_wire.specs.Shape.{rank}
+use Rattle.stun_types_wire.specs.Registry.{fingerprint_kind, integrity_kind, sha256_kind, sha512_kind}
+use Rattle.stun_types_wire.specs.Text.{message_text}
+use Rattle.stun_types_write.specs.declared.ended.Ended.{Ended}
+use Rattle.stun_types_write.specs.Adding.{add_refusal}
+use Rattle.stun_types_write.specs.Drafts.{Draft, ended_by, none_ended}
+use Rattle.stun_types_write.specs.Outcomes.{IsAdded, IsBegunAs, added}
+use Rattle.stun_types_add.specs.Calls.{Add, AreAccepted, IsComposed, IsWritten, Ordinary, after_call, after_calls, attribute_of, attributes_after, refusal_of}
+use Rattle.stun_types_add.proofs.Adds.{length-after_add, one_more}
+
+pub after_both : (calls more : List Add) (draft : Draft) → after_calls (calls ++ more) draft ≡ after_calls more (after_calls calls draft)
+unfolding after_calls
+after_both [] more draft = refl
+after_both (call ∷ calls) more draft = after_both calls more (after_call call draft)
+
+pub both_accepted : (calls more : List Add) (draft : Draft) → AreAccepted calls draft → AreAccepted more (after_calls calls draft) → AreAccepted (calls ++ more) draft
+unfolding AreAccepted after_calls
+both_accepted [] more draft h k = k
+both_accepted (call ∷ calls) more draft h k = (h.0, both_accepted calls more (after_call call draft) h.1 k)
+
+-- what was written, and took more calls
+pub written_more : (mtype number : ℕ) (calls more : List Add) (old new : Draft) → IsWritten mtype number calls old → AreAccepted more old → new ≡ after_calls more old → IsWritten mtype number (calls ++ more) new
+written_more mtype number calls more old new w accepted is = record {
+  empty = w.empty;
+  header = w.header;
+  begun = w.begun;
+  accepted = both_accepted calls more w.header w.accepted (subst (λ (d : Draft). AreAccepted more d) w.is accepted);
+  is = is ∙ ap (λ (d : Draft). after_calls more d) w.is ∙ sym (after_both calls more w.header);
+}
+
+-- one call more
+pub written_one : (mtype number : ℕ) (calls : List Add) (call : Add) (old new : Draft) → IsWritten mtype number calls old → refusal_of call old ≡ None → new ≡ added (attribute_of call old.bytes) old → IsWritten mtype number (calls ++ call ∷ []) new
+unfolding AreAccepted after_calls
+written_one mtype number calls call old new w accepted is = written_more mtype number calls (call ∷ []) old new w (accepted, tt) is
+
+-- calls keep to message texts
+pub text_after : (mtype number : ℕ) (calls : List Add) (before : List Attr) (draft : Draft) → draft.bytes ≡ message_text mtype number before
+    → (after_calls calls draft).bytes ≡ message_text mtype number (attributes_after mtype number calls before)
+unfolding after_calls attributes_after
+text_after mtype number [] before draft text = text
+text_after mtype number (call ∷ rest) before draft text =
+    let a = attribute_of call (message_text mtype number before) in
+    text_after mtype number rest (before ++ a ∷ []) (after_call call draft)
+    (rw text (one_more mtype number before a))
+
+-- ---- ordinary attributes
+
+-- an ordinary type is none of the four that end a message
+pub record IsNone (kind : ℕ) : Type 0 where
+  pub integrity : eqb kind integrity_kind ≡ false
+  pub sha256 : eqb kind sha256_kind ≡ false
+  pub sha512 : eqb kind sha512_kind ≡ false
+  pub fingerprint : eqb kind fingerprint_kind ≡ false
+
+pub none_of : (kind : ℕ) → rank kind ≡ 0 → IsNone kind
+none_of kind h =
+    elim (cases_Bool (eqb kind integrity_kind)) [
+      | inl i ↦ absurd (let p = rw i at h in cc)
+      | inr i ↦ elim (cases_Bool (eqb kind sha256_kind)) [
+        | inl s ↦ absurd (let p = rw (i, s) at h in cc)
+        | inr s ↦ elim (cases_Bool (eqb kind sha512_kind)) [
+          | inl l ↦ absurd (let p = rw (i, s, l) at h in cc)
+          | inr l ↦ elim (cases_Bool (eqb kind fingerprint_kind)) [
+            | inl f ↦ absurd (let p = rw (i, s, l, f) at h in cc)
+            | inr f ↦ record { integrity = i; sha256 = s; sha512 = l; fingerprint = f }
+          ]
+        ]
+      ]
+    ]
+
+none_still : (kind : ℕ) → IsNone kind → ended_by none_ended kind ≡ none_ended
+none_still kind h = rw (h.integrity, h.sha256, h.sha512, h.fingerprint) refl
+
+map-more : (all : List Attr) (a : Attr) → map Ordinary (all ++ a ∷ []) ≡ map Ordinary all ++ Ordinary a ∷ []
+map-more [] a = refl
+map-more (b ∷ all) a = ap (λ (l : List Add). Ordinary b ∷ l) (map-more all a)
+
+-- a message that was begun
+pub composed_none : (mtype number : ℕ) (old new : Draft) → IsBegunAs mtype number old new → IsComposed mtype number [] old new
+unfolding AreAccepted after_calls
+composed_none mtype number old new begun = record {
+  written = record { empty = old; header = new; begun = begun; accepted = tt; is = refl };
+  text = begun.text;
+  ended = begun.ended;
+  behind = begun.behind ∙ ap (λ (n : ℕ). drop n old.behind) (sym begun.size);
+  limit = begun.limit;
+  begun = begun.begun;
+}
+
+-- and one attribute more
+pub composed_more : (mtype number : ℕ) (all : List Attr) (a : Attr) (old middle new : Draft) → IsComposed mtype number all old middle → IsAdded a middle new → rank a.kind ≡ 0 → add_refusal middle (attr_size a) ≡ None
+    → IsComposed mtype number (all ++ a ∷ []) old new
+composed_more mtype number all a old middle new c more ordinary accepted =
+    let grown : length new.bytes ≡ length middle.bytes + attr_size a = ap (λ (d : Draft). length d.bytes) more.is ∙ length-after_add middle.bytes a c.begun in
+    record {
+      written = subst (λ (l : List Add). IsWritten mtype number l new) (sym (map-more all a)) (written_one mtype number (map Ordinary all) (Ordinary a) middle new c.written accepted more.is);
+      text = more.text mtype number all c.text;
+      ended = ap (λ (d : Draft). d.ended) more.is ∙ ap (λ (e : Ended). ended_by e a.kind) c.ended ∙ none_still a.kind (none_of a.kind ordinary);
+      behind = ap (λ (d : Draft). d.behind) more.is ∙ ap (λ (l : List ℕ). drop (attr_size a) l) c.behind ∙ drop-drop (attr_size a) (length middle.bytes) old.behind ∙ ap (λ (n : ℕ). drop n old.behind) (sym grown);
+      limit = ap (λ (d : Draft). d.limit) more.is ∙ c.limit;
+      begun = more.begun;
+    }

@@ -1,0 +1,218 @@
+//! FINGERPRINT (RFC 8489, section 14.7).
+
+ghost use Rattle.std.specs.Prelude.{◌≡◌, ◌≤◌, None, length, bit_xor, bytes_eq, MatchResult};
+ghost use Rattle.stun_types_write.specs.ValueReading.{IsNamed};
+ghost use Rattle.byteorder.specs.Endian.{big_bytes, big_number};
+ghost use Rattle.stun_types_wire.specs.Covered.{with_length};
+ghost use Rattle.stun_types_wire.specs.Fingerprints.{fingerprint_value};
+ghost use Rattle.stun_types_wire.specs.Registry.{fingerprint_mask, fingerprint_kind, header_size};
+ghost use Rattle.stun_types_add.specs.FingerprintValues.{crc_bytes, turned_bytes};
+ghost use Rattle.stun_types_write.specs.ValueReading.{value_refusal};
+
+use byteorder::{BigEndian, ByteOrder};
+use std::alloc::Global;
+use std::convert::TryFrom;
+use std::marker::Model;
+use stun_types_base::memory::NoMemory;
+use stun_types_digest::crc::Crc32;
+use stun_types_wire::attribute::{AttributeType, RawAttribute};
+use stun_types_wire::error::StunParseError;
+use stun_types_wire::registry;
+use stun_types_write::attribute::{
+    Attribute, AttributeFromRaw, AttributeStaticType, AttributeWrite,
+};
+use stun_types_write::reading::value_of;
+use stun_types_write::text::{front_told, write_attribute};
+
+/// The CRC-32 of a message as it stands before the attribute, its length counted through the
+/// attribute (RFC 8489, section 14.7). Contracts see the CRC-32 as a number of 32 bits.
+#[derive(Debug, Drop)]
+pub struct Fingerprint {
+    crc: u32,
+}
+
+impl Model for Fingerprint {
+    ghost use Rattle.std.specs.Prelude.{ℕ};
+
+    ghost Value = { ℕ };
+
+    ghost view = { λ a. a.crc };
+}
+
+impl Fingerprint {
+    /// The FINGERPRINT of a CRC-32 as `compute` answers it, the highest byte first.
+    pub fn new(fingerprint: [u8; 4]) -> Fingerprint
+        ensures { result ≡ big_number 4 fingerprint }
+    {
+        Fingerprint {
+            crc: BigEndian::read_u32(&fingerprint),
+        }
+    }
+
+    /// The CRC-32 as `compute` answers it, the highest byte first.
+    #[tactic(auto, using(crate::proofs::Turned::number_again))]
+    pub fn fingerprint(&self) -> [u8; 4]
+        ensures bytes { result ≡ big_bytes 4 self.now }
+        ensures number { big_number 4 result ≡ self.now }
+    {
+        self.crc().to_be_bytes()
+    }
+
+    /// The value in a message: the CRC-32 xor 0x5354554E, the highest byte first.
+    pub fn value(&self) -> [u8; 4]
+        ensures { result ≡ turned_bytes self.now }
+    {
+        (self.crc() ^ registry::FINGERPRINT_MASK).to_be_bytes()
+    }
+
+    /// Whether a value of four bytes is the value of this FINGERPRINT.
+    #[tactic(auto, using(crate::proofs::Turned::same_by_number))]
+    pub fn has_value(&self, value: &[u8]) -> bool
+        requires { length value.now ≡ 4 }
+        ensures { result ≡ bytes_eq value.now (turned_bytes self.now) }
+    {
+        turned_number(value) == self.crc()
+    }
+
+    /// The CRC-32 as a number.
+    fn crc(&self) -> u32
+        ensures { result ≡ self.now }
+    {
+        self.crc
+    }
+
+    /// The CRC-32 of a text, the highest byte first. The attribute that `new` makes of it has the
+    /// value of the text's FINGERPRINT.
+    #[tactic(auto, unfolding(crate::proofs::Turned::value_bytes))]
+    pub fn compute(text: &[u8]) -> [u8; 4]
+        ensures bytes { result ≡ crc_bytes text.now }
+        ensures value { turned_bytes (big_number 4 result) ≡ fingerprint_value text.now }
+    {
+        bytes_of_crc(Crc32::checksum(text))
+    }
+
+    /// The FINGERPRINT of a message, as if its header told this length (RFC 8489, section 14.7).
+    pub fn of_message(bytes: &[u8], len: u16) -> Fingerprint
+        requires { header_size ≤ length bytes.now }
+        ensures { turned_bytes result ≡ fingerprint_value (with_length bytes.now len) }
+    {
+        let (_, tail) = bytes.split_at(4);
+        Fingerprint {
+            crc: Crc32::of_pieces(front_told(bytes, len), tail),
+        }
+    }
+}
+
+impl AttributeStaticType for Fingerprint {
+    ghost TYPE = { record { 0 = fingerprint_kind } };
+
+    const TYPE: AttributeType = registry::FINGERPRINT;
+}
+
+impl Attribute for Fingerprint {
+    ghost use Rattle.stun_types_add.specs.FingerprintValues.{turned_bytes};
+
+    ghost kind = { λ _. fingerprint_kind };
+
+    ghost value = { turned_bytes };
+
+    fn get_type(&self) -> AttributeType {
+        Fingerprint::TYPE
+    }
+
+    fn length(&self) -> u16 {
+        4
+    }
+}
+
+impl AttributeWrite for Fingerprint {
+    fn write_into_unchecked(&self, dest: &mut [u8]) {
+        write_attribute(Fingerprint::TYPE, &self.value(), dest);
+    }
+
+    fn to_raw(&self, alloc: Global) -> Result<RawAttribute<'_>, NoMemory> {
+        let value = Vec::from_slice(alloc, &self.value())?;
+        Ok(RawAttribute::new_owned(Fingerprint::TYPE, value.into_boxed_slice()))
+    }
+}
+
+/// The number in four bytes, the highest first, xor 0x5354554E. Refused, in this order:
+/// `WrongAttributeImplementation` where it is another type, `Truncated` where the value is shorter,
+/// `TooLarge` where it is longer.
+impl<'a, 'raw> TryFrom<&'raw RawAttribute<'a>> for Fingerprint {
+    ghost use Rattle.std.specs.Prelude.{◌≡◌, MatchResult, Some, None, bit_xor};
+    ghost use Rattle.stun_types_write.specs.ValueReading.{IsNamed};
+    ghost use Rattle.byteorder.specs.Endian.{big_number};
+    ghost use Rattle.stun_types_write.specs.ValueReading.{value_refusal};
+    ghost use Rattle.stun_types_add.specs.FingerprintValues.{turned_bytes};
+
+    type Error = StunParseError;
+
+    ghost try_from_gives = { λ raw result. MatchResult result
+        (λ read. (value_refusal fingerprint_kind 4 4 raw.now ≡ None)
+        × (read ≡ bit_xor (big_number 4 raw.now.value) fingerprint_mask)
+        × (turned_bytes read ≡ raw.now.value)) (IsNamed
+        (value_refusal fingerprint_kind 4 4 raw.now)) };
+
+    fn try_from(raw: &'raw RawAttribute<'a>) -> Result<Fingerprint, StunParseError> {
+        let crc = crc_of(raw)?;
+        Ok(Fingerprint { crc })
+    }
+}
+
+/// Refused as `try_from` is; no memory is taken.
+impl<'a> AttributeFromRaw<'a> for Fingerprint {
+    ghost use Rattle.std.specs.Prelude.{false};
+    ghost use Rattle.stun_types_write.specs.ValueReading.{value_refusal};
+
+    ghost read_refusal = { value_refusal fingerprint_kind 4 4 };
+
+    ghost read_value = { λ value. value };
+
+    ghost reading_takes_memory = { false };
+
+    fn from_raw_ref(_alloc: Global, raw: &RawAttribute<'_>) -> Result<Fingerprint, StunParseError> {
+        let crc = crc_of(raw)?;
+        Ok(Fingerprint { crc })
+    }
+
+    fn from_raw(alloc: Global, raw: RawAttribute<'a>) -> Result<Fingerprint, StunParseError> {
+        Fingerprint::from_raw_ref(alloc, &raw)
+    }
+
+    #[tactic(auto, using(crate::proofs::Turned::numbers))]
+    fn is_read_back(&self, read: &Fingerprint) {
+        let _ = (self.crc(), read.crc());
+    }
+}
+
+/// A CRC-32 in four bytes, the highest first.
+#[tactic(auto, using(crate::proofs::Turned::number_again))]
+fn bytes_of_crc(crc: u32) -> [u8; 4]
+    ensures bytes { result ≡ big_bytes 4 crc }
+    ensures turned { turned_bytes (big_number 4 result) ≡ turned_bytes crc }
+{
+    crc.to_be_bytes()
+}
+
+/// The CRC-32 in the value of a FINGERPRINT. Refused as `try_from` is.
+fn crc_of(raw: &RawAttribute<'_>) -> Result<u32, StunParseError>
+    ensures { MatchResult result (λ crc. (value_refusal fingerprint_kind 4 4 raw.now ≡ None)
+        × (raw.now.kind ≡ fingerprint_kind) × (crc
+        ≡ bit_xor (big_number 4 raw.now.value) fingerprint_mask)
+        × (turned_bytes crc ≡ raw.now.value)) (IsNamed
+        (value_refusal fingerprint_kind 4 4 raw.now)) }
+{
+    let value = value_of(raw, Fingerprint::TYPE, 4, 4)?;
+    Ok(turned_number(value))
+}
+
+/// The number in four bytes, the highest first, turned.
+#[tactic(auto, using(crate::proofs::Turned::bytes_again, crate::proofs::Turned::turned_again))]
+fn turned_number(value: &[u8]) -> u32
+    requires { length value.now ≡ 4 }
+    ensures told { result ≡ bit_xor (big_number 4 value.now) fingerprint_mask }
+    ensures again { turned_bytes result ≡ value.now }
+{
+    BigEndian::read_u32(value) ^ registry::FINGERPRINT_MASK
+}

@@ -1,0 +1,228 @@
+//! The header and the adds of a message that is written, over any writer.
+
+ghost use Rattle.std.specs.Prelude.{◌≡◌, ◌↔◌, IsTrue, OnErr, OnOk, None};
+ghost use Rattle.stun_types_base.specs.Refusals.{RefusesFor};
+ghost use Rattle.stun_types_wire.specs.Attributes.{attr_size, kind_at};
+ghost use Rattle.stun_types_wire.specs.Shape.{rank};
+ghost use Rattle.stun_types_wire.specs.Fingerprints.{fingerprint_of};
+ghost use Rattle.stun_types_wire.specs.Types.{class_of, method_of, is_response_class};
+ghost use Rattle.stun_types_wire.specs.Grammar.{header_at, header_refusal, number_at};
+ghost use Rattle.stun_types_write.specs.Adding.{attr_of, add_refusal, fingerprint_add_refusal, IsBegun};
+ghost use Rattle.stun_types_write.specs.Outcomes.{TakesNoMemory, IsAdded};
+ghost use Rattle.stun_types_integrity.specs.Keys.{key_of};
+ghost use Rattle.stun_types_integrity.specs.Signing.{signature, signing_refusal};
+
+use crate::fingerprint::mark;
+use crate::room::end_of_add;
+use crate::signing::sign;
+use stun_types_integrity::credentials::MessageIntegrityCredentials;
+use stun_types_integrity::key::IntegrityKey;
+use stun_types_wire::algorithm::IntegrityAlgorithm;
+use stun_types_wire::class::{MessageClass, MessageType, Method};
+use stun_types_wire::error::StunWriteError;
+use stun_types_wire::header::MessageHeader;
+use stun_types_wire::transaction::TransactionId;
+use stun_types_write::attribute::{Attribute, AttributeWrite};
+use stun_types_write::writer::MessageWrite;
+
+/// The header and the adds of a message that was begun. Every writer has them.
+pub trait MessageWriteExt: MessageWrite {
+    /// The type of the message.
+    fn get_type(&self) -> MessageType
+        requires { IsBegun (Self.draft self.now).bytes }
+        ensures { result ≡ kind_at (Self.draft self.now).bytes };
+
+    /// The class of the message.
+    fn class(&self) -> MessageClass
+        requires { IsBegun (Self.draft self.now).bytes }
+        ensures { result ≡ class_of (kind_at (Self.draft self.now).bytes) };
+
+    /// Whether this is the class of the message.
+    fn has_class(&self, class: MessageClass) -> bool
+        requires { IsBegun (Self.draft self.now).bytes }
+        ensures { IsTrue result ↔ (class_of (kind_at (Self.draft self.now).bytes) ≡ class) };
+
+    /// Whether the message answers a request.
+    fn is_response(&self) -> bool
+        requires { IsBegun (Self.draft self.now).bytes }
+        ensures { result ≡ is_response_class (class_of (kind_at (Self.draft self.now).bytes)) };
+
+    /// The method of the message.
+    fn method(&self) -> Method
+        requires { IsBegun (Self.draft self.now).bytes }
+        ensures { result.0 ≡ method_of (kind_at (Self.draft self.now).bytes) };
+
+    /// Whether this is the method of the message.
+    fn has_method(&self, method: Method) -> bool
+        requires { IsBegun (Self.draft self.now).bytes }
+        ensures { IsTrue result ↔ (method_of (kind_at (Self.draft self.now).bytes) ≡ method.0) };
+
+    /// The number of the transaction.
+    fn transaction_id(&self) -> TransactionId
+        requires { IsBegun (Self.draft self.now).bytes }
+        ensures { result ≡ number_at (Self.draft self.now).bytes };
+
+    /// Adds an attribute that isn't one of the four which end a message. A type may be added several
+    /// times. Refused, in this order: `FingerprintExists`, `MessageIntegrityExists` where one of these
+    /// was added, `TooLarge` where the length field would pass 65,535, `TooSmall` where the writer has
+    /// not the room; where memory is refused, `NoMemory`, which a writer with a greatest size never
+    /// answers. A refused add changes nothing.
+    fn add_attribute(&mut self, attribute: &dyn AttributeWrite) -> Result<(), StunWriteError>
+        requires begun { IsBegun (Self.draft self.old).bytes }
+        requires ordinary { rank (kind attribute.now) ≡ 0 }
+        ensures ok { OnOk result (IsAdded (attr_of (kind attribute.now) (value attribute.now))
+            (Self.draft self.old) (Self.draft self.new)) }
+        ensures err { OnErr result (Self.draft self.new ≡ Self.draft self.old) }
+        ensures cause { RefusesFor StunWriteError.NoMemory (add_refusal (Self.draft self.old)
+            (attr_size (attr_of (kind attribute.now) (value attribute.now)))) result }
+        ensures lent { TakesNoMemory (Self.draft self.old) result };
+
+    /// Adds the integrity attribute of an algorithm: the HMAC of all that is written under a key
+    /// (RFC 8489, sections 14.5 and 14.6). Refused, in this order: `FingerprintExists`;
+    /// `AttributeExists` where that attribute was added; `MessageIntegrityExists` where that of a
+    /// stronger algorithm was; `IntegrityFailed` where the key was made for another algorithm; `TooLarge`, `TooSmall` and `NoMemory` as for `add_attribute`. A refused
+    /// add changes nothing.
+    fn add_message_integrity_with_key(
+        &mut self,
+        key: &IntegrityKey<'_>,
+        algorithm: IntegrityAlgorithm,
+    ) -> Result<(), StunWriteError>
+        requires begun { IsBegun (Self.draft self.old).bytes }
+        ensures ok { OnOk result (IsAdded
+            (signature algorithm key.now.bytes (Self.draft self.old).bytes)
+            (Self.draft self.old) (Self.draft self.new)) }
+        ensures err { OnErr result (Self.draft self.new ≡ Self.draft self.old) }
+        ensures cause { RefusesFor StunWriteError.NoMemory
+            (signing_refusal (Self.draft self.old) key.now.algorithm algorithm) result }
+        ensures lent { TakesNoMemory (Self.draft self.old) result };
+
+    /// The same, under the key that credentials make for the algorithm. It is never refused with
+    /// `IntegrityFailed`.
+    fn add_message_integrity(
+        &mut self,
+        credentials: &MessageIntegrityCredentials,
+        algorithm: IntegrityAlgorithm,
+    ) -> Result<(), StunWriteError>
+        requires begun { IsBegun (Self.draft self.old).bytes }
+        ensures ok { OnOk result (IsAdded
+            (signature algorithm (key_of credentials.now algorithm).bytes
+            (Self.draft self.old).bytes)
+            (Self.draft self.old) (Self.draft self.new)) }
+        ensures err { OnErr result (Self.draft self.new ≡ Self.draft self.old) }
+        ensures cause { RefusesFor StunWriteError.NoMemory
+            (signing_refusal (Self.draft self.old) algorithm algorithm) result }
+        ensures lent { TakesNoMemory (Self.draft self.old) result };
+
+    /// Adds the FINGERPRINT of all that is written: its CRC-32, combined with `STUN` (RFC 8489, section
+    /// 14.7). Nothing can be added behind it. Refused, in this order: `FingerprintExists`; `TooLarge`,
+    /// `TooSmall` and `NoMemory` as for `add_attribute`. A refused add changes nothing.
+    fn add_fingerprint(&mut self) -> Result<(), StunWriteError>
+        requires begun { IsBegun (Self.draft self.old).bytes }
+        ensures ok { OnOk result (IsAdded (fingerprint_of (Self.draft self.old).bytes)
+            (Self.draft self.old) (Self.draft self.new)) }
+        ensures err { OnErr result (Self.draft self.new ≡ Self.draft self.old) }
+        ensures cause { RefusesFor StunWriteError.NoMemory
+            (fingerprint_add_refusal (Self.draft self.old)) result }
+        ensures lent { TakesNoMemory (Self.draft self.old) result };
+}
+
+impl<W: MessageWrite> MessageWriteExt for W {
+    fn get_type(&self) -> MessageType {
+        header_of(self.data()).get_type()
+    }
+
+    fn class(&self) -> MessageClass {
+        self.get_type().class()
+    }
+
+    fn has_class(&self, class: MessageClass) -> bool {
+        self.class() == class
+    }
+
+    fn is_response(&self) -> bool {
+        self.class().is_response()
+    }
+
+    fn method(&self) -> Method {
+        self.get_type().method()
+    }
+
+    fn has_method(&self, method: Method) -> bool {
+        self.method() == method
+    }
+
+    fn transaction_id(&self) -> TransactionId {
+        header_of(self.data()).transaction_id()
+    }
+
+    // Part of each caller, which knows the attribute's type: through the table of the `dyn` it is asked
+    // three times.
+    #[inline(always)]
+    #[tactic(auto, using(crate::proofs::Adds::long), unfolding(crate::proofs::Adds::refusals))]
+    fn add_attribute(&mut self, attribute: &dyn AttributeWrite) -> Result<(), StunWriteError> {
+        let ended = self.ended();
+        if ended.fingerprint {
+            return Err(StunWriteError::FingerprintExists);
+        }
+        if ended.integrity || ended.sha256 || ended.sha512 {
+            return Err(StunWriteError::MessageIntegrityExists);
+        }
+        let end = end_of_add(&*self, attribute.padded_len())?;
+        self.push_attribute_unchecked(attribute)?;
+        self.set_length((end - MessageHeader::LENGTH) as u16);
+        Ok(())
+    }
+
+    fn add_message_integrity_with_key(
+        &mut self,
+        key: &IntegrityKey<'_>,
+        algorithm: IntegrityAlgorithm,
+    ) -> Result<(), StunWriteError> {
+        sign(self, key, algorithm)
+    }
+
+    #[tactic(auto, using(stun_types_integrity::proofs::Keys::key_for))]
+    fn add_message_integrity(
+        &mut self,
+        credentials: &MessageIntegrityCredentials,
+        algorithm: IntegrityAlgorithm,
+    ) -> Result<(), StunWriteError> {
+        let key = credentials.make_key(algorithm);
+        sign(self, &key, algorithm)
+    }
+
+    fn add_fingerprint(&mut self) -> Result<(), StunWriteError> {
+        mark(self)
+    }
+}
+
+/// `add_attribute` of an attribute whose type is known. The two are one value, as a `dyn` and as
+/// itself: contracts then know what is added by its own type.
+pub fn add_as<W: MessageWrite, A: AttributeWrite>(
+    writer: &mut W,
+    attribute: &dyn AttributeWrite,
+    same: &A,
+) -> Result<(), StunWriteError>
+    requires begun { IsBegun (W.draft writer.old).bytes }
+    requires ordinary { rank (A.kind same.now) ≡ 0 }
+    requires kind { (⟦<dyn AttributeWrite as Attribute>⟧ attribute.now.0).kind attribute.now.1
+        ≡ A.kind same.now }
+    requires value { (⟦<dyn AttributeWrite as Attribute>⟧ attribute.now.0).value attribute.now.1
+        ≡ A.value same.now }
+    ensures ok { OnOk result (IsAdded (attr_of (A.kind same.now) (A.value same.now))
+        (W.draft writer.old) (W.draft writer.new)) }
+    ensures err { OnErr result (W.draft writer.new ≡ W.draft writer.old) }
+    ensures cause { RefusesFor StunWriteError.NoMemory (add_refusal (W.draft writer.old)
+        (attr_size (attr_of (A.kind same.now) (A.value same.now)))) result }
+    ensures lent { TakesNoMemory (W.draft writer.old) result }
+{
+    writer.add_attribute(attribute)
+}
+
+/// The header of a message that was begun.
+fn header_of(bytes: &[u8]) -> MessageHeader
+    requires { header_refusal bytes.now ≡ None }
+    ensures { result ≡ header_at bytes.now }
+{
+    MessageHeader::from_bytes(bytes).unwrap()
+}

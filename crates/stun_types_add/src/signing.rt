@@ -1,0 +1,86 @@
+//! The integrity attribute, added at the end of a message (RFC 8489, sections 14.5 and 14.6).
+
+ghost use Rattle.std.specs.Prelude.{◌≡◌, ◌≤◌, ℕ, length, OnOk, OnErr, IsOk, IsSome};
+ghost use Rattle.stun_types_wire.specs.Attributes.{attr_size};
+ghost use Rattle.stun_types_wire.specs.Covered.{with_length};
+ghost use Rattle.stun_types_write.specs.Adding.{attr_of, IsBegun};
+ghost use Rattle.stun_types_wire.specs.Registry.{greatest_size, header_size};
+ghost use Rattle.stun_types_integrity.specs.Signing.{signature, signing_refusal};
+ghost use Rattle.stun_types_write.specs.Drafts.{HasRoom, pushed_attribute};
+ghost use Rattle.stun_types_write.specs.Outcomes.{TakesNoMemory, IsAdded};
+ghost use Rattle.stun_types_base.specs.Refusals.{RefusesFor};
+
+use crate::room::{end_of_add, may_sign};
+use stun_types_base::memory::NoMemory;
+use stun_types_integrity::algorithm::{attribute_type, hmac_length};
+use stun_types_integrity::key::IntegrityKey;
+use stun_types_wire::algorithm::IntegrityAlgorithm;
+use stun_types_wire::attribute::RawAttribute;
+use stun_types_wire::error::StunWriteError;
+use stun_types_wire::header::MessageHeader;
+use stun_types_write::attribute::{Attribute, AttributeWrite};
+use stun_types_write::writer::MessageWrite;
+
+/// Adds the integrity attribute of an algorithm under a key. What it refuses stands at
+/// `MessageWriteExt::add_message_integrity_with_key`.
+#[tactic(auto, using(crate::proofs::Adds::long), unfolding(crate::proofs::Adds::refusals))]
+pub(crate) fn sign<W: MessageWrite>(
+    writer: &mut W,
+    key: &IntegrityKey<'_>,
+    algorithm: IntegrityAlgorithm,
+) -> Result<(), StunWriteError>
+    requires begun { IsBegun (W.draft writer.old).bytes }
+    ensures ok { OnOk result (IsAdded (signature algorithm key.now.bytes (W.draft writer.old).bytes)
+        (W.draft writer.old) (W.draft writer.new)) }
+    ensures err { OnErr result (W.draft writer.new ≡ W.draft writer.old) }
+    ensures cause { RefusesFor StunWriteError.NoMemory
+        (signing_refusal (W.draft writer.old) key.now.algorithm algorithm) result }
+    ensures lent { TakesNoMemory (W.draft writer.old) result }
+{
+    may_sign(writer.ended(), algorithm)?;
+    if key.algorithm() != algorithm {
+        return Err(StunWriteError::IntegrityFailed);
+    }
+    let end = end_of_add(&*writer, 4 + hmac_length(algorithm))?;
+    let told = length_told(writer.data());
+    writer.set_length((end - MessageHeader::LENGTH) as u16);
+    let hmac = key.hmac(writer.data(), &[], &[]);
+    let attribute = RawAttribute::new(attribute_type(algorithm), hmac.as_slice());
+    match push_as(writer, &attribute, &attribute) {
+        Ok(()) => Ok(()),
+        Err(_) => {
+            writer.set_length(told);
+            Err(StunWriteError::NoMemory)
+        }
+    }
+}
+
+/// The length that the header of a message tells: to write it again undoes that another was written.
+fn length_told(bytes: &[u8]) -> u16
+    requires { header_size ≤ length bytes.now }
+    ensures { (n : ℕ) → with_length (with_length bytes.now n) result ≡ bytes.now }
+{
+    u16::from_be_bytes([bytes[2], bytes[3]])
+}
+
+/// `push_attribute_unchecked` of an attribute whose type is known. The two are one value, as a `dyn`
+/// and as itself.
+pub(crate) fn push_as<W: MessageWrite, A: AttributeWrite>(
+    writer: &mut W,
+    attribute: &dyn AttributeWrite,
+    same: &A,
+) -> Result<(), NoMemory>
+    requires size { length (W.draft writer.old).bytes ≤ greatest_size }
+    requires room { HasRoom (W.draft writer.old)
+        (attr_size (attr_of (A.kind same.now) (A.value same.now))) }
+    requires kind { (⟦<dyn AttributeWrite as Attribute>⟧ attribute.now.0).kind attribute.now.1
+        ≡ A.kind same.now }
+    requires value { (⟦<dyn AttributeWrite as Attribute>⟧ attribute.now.0).value attribute.now.1
+        ≡ A.value same.now }
+    ensures lent { IsSome (W.draft writer.old).limit → IsOk result }
+    ensures ok { OnOk result (W.draft writer.new
+        ≡ pushed_attribute (attr_of (A.kind same.now) (A.value same.now)) (W.draft writer.old)) }
+    ensures err { OnErr result (W.draft writer.new ≡ W.draft writer.old) }
+{
+    writer.push_attribute_unchecked(attribute)
+}

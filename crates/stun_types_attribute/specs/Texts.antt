@@ -1,8 +1,0 @@
--- Attributes that hold a text.
-use Rattle.std.specs.Prelude.{ℕ, nat_lt, List, length, Option, Some, None, if◌then◌else◌}
-use Rattle.stun_types_address.specs.declared.error.StunWriteError.{StunWriteError}
-use Rattle.stun_types_address.specs.declared.error.StunWriteError.TheVariants.{TooLarge}
-
--- why a text of at most so many bytes is not made
-abbrev pub text_refusal : ℕ → List ℕ → Option StunWriteError
-text_refusal most text = if nat_lt most (length text) then Some (TooLarge most (length text)) else None

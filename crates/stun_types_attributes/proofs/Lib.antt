@@ -1,0 +1,5 @@
+pub mod Bytes
+pub mod Masks
+pub mod Codes
+pub mod TypeLists
+pub mod TypeMarks

@@ -1,0 +1,10 @@
+use Rattle.std.proofs.Common.{◌≡◌, ◌/◌, ◌<◌, ℕ, List, length, ap, ◌∙◌, arith}
+use Rattle.stun_types_attributes.specs.TypeMarks.{is_marked}
+use Rattle.stun_types_attributes.proofs.TypeMarks.{mark_test}
+use Rattle.stun_types_attributes.proofs.type_index.TypeIndex.has.Goals as goal
+
+pub returns : goal.returns
+returns c =
+    let place : c.from-place.result ≡ c.args.atype.0 = c.from-place.ensures ∙ c.value.ensures in
+    let within : c.from-place.result / 64 < length c.self.inside.words.items = omega (arith, c.self.invariant) in
+    mark_test c.self.inside.words.items c.from-place.result c.index.result.now within c.index.ensures ∙ ap (λ (k : ℕ). is_marked c.self.inside.words.items k) place ∙ ap (λ (l : List ℕ). is_marked l c.args.atype.0) c.self.view_is

@@ -1,0 +1,11 @@
+//! Attributes of STUN (RFC 8489, section 14; RFC 5780): those that hold an address, plain or
+//! xored, ERROR-CODE and UNKNOWN-ATTRIBUTES.
+#![tactic(auto)]
+
+pub mod alternate_server;
+pub mod error_code;
+mod octets;
+pub mod socket_addr;
+mod type_index;
+pub mod unknown_attributes;
+pub mod xor_mapped_address;

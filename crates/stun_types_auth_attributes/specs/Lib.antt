@@ -1,0 +1,4 @@
+pub mod Texts
+pub mod PasswordAlgorithmNumbers
+pub mod Entries
+pub mod Userhashes

@@ -1,0 +1,98 @@
+//! Password algorithms (RFC 8489, section 18.5).
+
+ghost use Rattle.std.specs.Prelude.{◌≡◌, ◌≤◌, length, MatchResult, None, Some};
+ghost use Rattle.stun_types_write.specs.ValueReading.{IsNamed};
+ghost use Rattle.stun_types_auth_attributes.specs.PasswordAlgorithmNumbers.{integrity_of, number_of, number_refusal};
+ghost use Rattle.stun_types_auth_attributes.specs.Entries.{algorithm_value, number_told};
+
+use byteorder::{BigEndian, ByteOrder};
+use std::fmt;
+use stun_types_wire::algorithm::IntegrityAlgorithm;
+use stun_types_wire::error::StunParseError;
+use stun_types_wire::registry::{MD5_NUMBER, SHA256_NUMBER, SHA512_NUMBER};
+
+/// An algorithm by which a key is made of a name, a realm and a password (RFC 8489, section 18.5).
+#[derive(Clone, Copy, Debug, PartialEq, Eq)]
+pub enum PasswordAlgorithmValue {
+    /// MD5, which has the number 1.
+    MD5,
+    /// SHA-256, which has the number 2.
+    SHA256,
+    /// SHA-512, which has the number 0xFF12. It is this project's: no RFC has it.
+    SHA512,
+}
+
+impl PasswordAlgorithmValue {
+    /// The algorithm of message integrity for which a key is made by this one: `Sha1` for `MD5`,
+    /// `Sha256` for `SHA256` and `Sha512` for `SHA512`.
+    pub fn as_integrity(self) -> IntegrityAlgorithm
+        ensures { result ≡ integrity_of self }
+    {
+        match self {
+            PasswordAlgorithmValue::MD5 => IntegrityAlgorithm::Sha1,
+            PasswordAlgorithmValue::SHA256 => IntegrityAlgorithm::Sha256,
+            PasswordAlgorithmValue::SHA512 => IntegrityAlgorithm::Sha512,
+        }
+    }
+
+    /// The number of the algorithm.
+    fn number(self) -> u16
+        ensures { result ≡ number_of self }
+    {
+        match self {
+            PasswordAlgorithmValue::MD5 => MD5_NUMBER,
+            PasswordAlgorithmValue::SHA256 => SHA256_NUMBER,
+            PasswordAlgorithmValue::SHA512 => SHA512_NUMBER,
+        }
+    }
+
+    /// The algorithm of a number. Refused with `InvalidAttributeData` where it is that of none.
+    #[tactic(auto, unfolding(crate::proofs::Algorithms::known))]
+    fn of_number(number: u16) -> Result<PasswordAlgorithmValue, StunParseError>
+        ensures { MatchResult result (λ algorithm. (number_of algorithm ≡ number)
+            × (number_refusal number ≡ None)) (IsNamed (number_refusal number)) }
+    {
+        match number {
+            MD5_NUMBER => Ok(PasswordAlgorithmValue::MD5),
+            SHA256_NUMBER => Ok(PasswordAlgorithmValue::SHA256),
+            SHA512_NUMBER => Ok(PasswordAlgorithmValue::SHA512),
+            _ => Err(StunParseError::InvalidAttributeData),
+        }
+    }
+
+    /// The four bytes that tell the algorithm: its number, and a length of its parameters of 0.
+    pub(crate) fn to_bytes(self) -> [u8; 4]
+        ensures { result ≡ algorithm_value self }
+    {
+        let [high, low] = self.number().to_be_bytes();
+        [high, low, 0, 0]
+    }
+
+    /// The algorithm that four bytes tell. The last two are not looked at. Refused with
+    /// `InvalidAttributeData` where its number is that of none.
+    #[tactic(auto, unfolding(crate::specs::Entries::number_told))]
+    pub(crate) fn from_bytes(bytes: &[u8]) -> Result<PasswordAlgorithmValue, StunParseError>
+        requires { 4 ≤ length bytes.now }
+        ensures { MatchResult result (λ algorithm. (number_of algorithm ≡ number_told bytes.now)
+            × (number_refusal (number_told bytes.now) ≡ None))
+            (IsNamed (number_refusal (number_told bytes.now))) }
+    {
+        PasswordAlgorithmValue::of_number(BigEndian::read_u16(bytes))
+    }
+}
+
+/// Prints `MD5`, `SHA256` or `SHA512`.
+impl fmt::Display for PasswordAlgorithmValue {
+    ghost use Rattle.std.specs.Prelude.{Some};
+    ghost use Rattle.stun_types_auth_attributes.specs.PasswordAlgorithmNumbers.{name_of_algorithm};
+
+    ghost output = { λ algorithm. Some (name_of_algorithm algorithm) };
+
+    fn fmt<W: fmt::Write>(&self, f: &mut fmt::Formatter<W>) -> fmt::Result {
+        match self {
+            PasswordAlgorithmValue::MD5 => write!(f, "MD5"),
+            PasswordAlgorithmValue::SHA256 => write!(f, "SHA256"),
+            PasswordAlgorithmValue::SHA512 => write!(f, "SHA512"),
+        }
+    }
+}

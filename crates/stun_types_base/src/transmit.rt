@@ -1,0 +1,77 @@
+//! Bytes that are to be sent, or were received.
+
+ghost use Rattle.std.specs.Prelude.{◌≡◌, IfOk, Ok, true};
+ghost use Rattle.stun_types_base.specs.Data.{data_bytes, is_owned};
+
+use crate::data::Data;
+use crate::memory::NoMemory;
+use crate::transport::TransportType;
+use std::alloc::Global;
+use std::net::SocketAddr;
+
+/// Bytes that are to be sent, or were received, in an owner of their own choice: a slice, a vector, a
+/// `Data`.
+#[derive(Debug, Drop)]
+pub struct Transmit<T> {
+    /// The bytes.
+    pub bytes: T,
+    /// The transport by which they go.
+    pub transport: TransportType,
+    /// The address that sends them.
+    pub from: SocketAddr,
+    /// The address that receives them.
+    pub to: SocketAddr,
+}
+
+impl<T> Transmit<T> {
+    /// These bytes, by this transport, from one address to another.
+    pub fn new(bytes: T, transport: TransportType, from: SocketAddr, to: SocketAddr) -> Transmit<T>
+        ensures { result ≡ record { bytes = bytes; transport = transport; from = from; to = to } }
+    {
+        Transmit {
+            bytes,
+            transport,
+            from,
+            to,
+        }
+    }
+
+    /// What the function answers at the bytes, in their place; transport and addresses stay.
+    pub fn reinterpret_data<O, F: FnOnce(T) -> O>(self, f: F) -> Transmit<O>
+        requires { F.pre f self.bytes }
+        ensures bytes { F.post f self.bytes result.bytes }
+        ensures transport { result.transport ≡ self.transport }
+        ensures from { result.from ≡ self.from }
+        ensures to { result.to ≡ self.to }
+    {
+        let Transmit {
+            bytes,
+            transport,
+            from,
+            to,
+        } = self;
+        Transmit::new(f(bytes), transport, from, to)
+    }
+}
+
+impl<'a> Transmit<Data<'a>> {
+    /// The same with owned bytes: those that are borrowed are copied, and those that are owned stay
+    /// in their box, which asks for no memory. Where memory is refused, `NoMemory`.
+    pub fn into_owned<'b>(self, alloc: Global) -> Result<Transmit<Data<'b>>, NoMemory>
+        ensures bytes { IfOk result (λ owned. data_bytes owned.bytes
+            ≡ data_bytes self.entry.bytes) }
+        ensures owned { IfOk result (λ owned. is_owned owned.bytes ≡ true) }
+        ensures stays { is_owned self.entry.bytes ≡ true → result ≡ Ok self.entry }
+        ensures transport { IfOk result (λ owned. owned.transport ≡ self.entry.transport) }
+        ensures from { IfOk result (λ owned. owned.from ≡ self.entry.from) }
+        ensures to { IfOk result (λ owned. owned.to ≡ self.entry.to) }
+    {
+        let Transmit {
+            bytes,
+            transport,
+            from,
+            to,
+        } = self;
+        Ok(Transmit::new(bytes.into_owned(alloc)?, transport, from, to))
+    }
+}

@@ -1,2 +1,0 @@
-pub mod TypeMarks
-pub mod UnknownTypes

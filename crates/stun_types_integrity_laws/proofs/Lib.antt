@@ -1,4 +1,0 @@
-pub mod Composed
-pub mod Splits
-pub mod Covered
-pub mod Signed

@@ -1,6 +1,0 @@
-use Rattle.std.proofs.Common.{sym, ◌∙◌}
-use Rattle.stun_types_integrity_laws.proofs.Composed.{written_text}
-use Rattle.stun_types_integrity_laws.proofs.same_adds_same_bytes.Goals as goal
-
-pub returns : goal.returns
-returns c mtype number calls one other v w = written_text mtype number calls one v ∙ sym (written_text mtype number calls other w)

@@ -1,2 +1,0 @@
-pub mod UnsignedCalls
-pub mod Same

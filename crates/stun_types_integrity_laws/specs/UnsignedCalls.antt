@@ -1,9 +1,0 @@
--- Calls that add no integrity attribute.
-use Rattle.std.specs.Prelude.{⊤}
-use Rattle.stun_types_build.specs.Calls.{Add, Ordinary, Integrity, Fingerprint}
-
--- a call that adds no integrity attribute
-abbrev pub IsNoIntegrity : Add → Type 0
-IsNoIntegrity (Ordinary a) = ⊤
-IsNoIntegrity (Integrity algorithm key) = ⊥
-IsNoIntegrity Fingerprint = ⊤

@@ -1,3 +1,0 @@
-pub mod PasswordAlgorithmNumbers
-pub mod Entries
-pub mod Userhashes

@@ -1,0 +1,73 @@
+-- One exchange over an honest network: a client is drawn, what it sends reaches the desk, and what that replies reaches
+-- the client, all at one moment.
+use Rattle.std.specs.Prelude.{◌≡◌, ℕ, List, [], ◌∷◌, Vec}
+use Rattle.std.specs.declared.alloc.Global.{Global}
+use Rattle.stun_types_base.specs.Data.{data_bytes}
+use Rattle.stun_types_base.specs.declared.data.Data.{Data}
+use Rattle.stun_types_base.specs.declared.transmit.Transmit.{Transmit}
+use Rattle.turn_desk_event.specs.declared.answer.Answer.{Answer}
+use Rattle.turn_desk_event.specs.declared.answer.Answer.TheVariants as answer
+use Rattle.turn_desk_core.specs.declared.decision.Decision.{Decision}
+use Rattle.turn_desk_event.specs.declared.event.Event.{Event}
+use Rattle.turn_desk_event.specs.declared.event.Event.TheVariants.{Draw, ToClient, ToDesk}
+use Rattle.turn_desk_world.specs.Model.{World}
+use Rattle.turn_desk_world.specs.Runs.{IsRun}
+use Rattle.test_honest_network.specs.declared.exchange.Carried.{Carried}
+use Rattle.test_honest_network.specs.declared.exchange.Carried.TheVariants.{Unsent, Unanswered, Replied}
+
+-- an event happened, and was answered
+abbrev pub Happened : Event → World → Answer → World → Type 0
+Happened event old ret new = IsRun old ((event, ret) ∷ []) new
+
+-- an answer that sends nothing, and one that is no reply
+abbrev pub SendsNothing : Answer → Type 0
+SendsNothing (answer.Transmit sent) = ⊥
+SendsNothing _ = Unit {0}
+
+abbrev pub IsNoReply : Answer → Type 0
+IsNoReply (answer.Reply bytes) = ⊥
+IsNoReply _ = Unit {0}
+
+-- what was sent reached the desk, and was answered
+pub record IsAsked (sent : Transmit Data) (now : ℕ) (decision : Decision) (old : World) (ret : Answer) (new : World)
+    : Type 0 where
+  pub bytes : Vec ℕ Global
+  pub same : bytes.items ≡ data_bytes sent.bytes
+  pub seed : List ℕ
+  pub step : Happened (ToDesk bytes sent.from now decision seed) old ret new
+
+-- the desk replied, and the reply reached the client
+pub record IsAnswered (sent : Transmit Data) (now : ℕ) (decision : Decision) (old new : World) : Type 0 where
+  pub replied : World
+  pub reply : Vec ℕ Global
+  pub asked : IsAsked sent now decision old (answer.Reply reply) replied
+  pub ret : Answer
+  pub given : Happened (ToClient reply sent.to sent.from now) replied ret new
+
+pub record IsUnanswered (sent : Transmit Data) (now : ℕ) (decision : Decision) (old new : World) : Type 0 where
+  pub ret : Answer
+  pub asked : IsAsked sent now decision old ret new
+  pub none : IsNoReply ret
+
+abbrev pub IsDelivered : Transmit Data → ℕ → Decision → World → Carried → World → Type 0
+IsDelivered sent now decision old Unsent new = ⊥
+IsDelivered sent now decision old Unanswered new = IsUnanswered sent now decision old new
+IsDelivered sent now decision old Replied new = IsAnswered sent now decision old new
+
+-- the client was drawn, and sent something, which was delivered
+pub record IsSent (now : ℕ) (decision : Decision) (old : World) (carried : Carried) (new : World) : Type 0 where
+  pub sent : Transmit Data
+  pub drawn : World
+  pub step : Happened (Draw now) old (answer.Transmit sent) drawn
+  pub delivered : IsDelivered sent now decision drawn carried new
+
+-- it sent nothing
+pub record IsUnsent (now : ℕ) (old new : World) : Type 0 where
+  pub ret : Answer
+  pub step : Happened (Draw now) old ret new
+  pub none : SendsNothing ret
+
+abbrev pub IsCarried : ℕ → Decision → World → Carried → World → Type 0
+IsCarried now decision old Unsent new = IsUnsent now old new
+IsCarried now decision old Unanswered new = IsSent now decision old Unanswered new
+IsCarried now decision old Replied new = IsSent now decision old Replied new

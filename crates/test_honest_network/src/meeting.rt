@@ -1,0 +1,169 @@
+//! A client meets a desk over an honest network.
+
+ghost use Rattle.std.specs.Prelude.{◌≡◌, ◌≤◌, length, [], ◌∷◌, IfOk};
+ghost use Rattle.stun_types_base.specs.Family.{family_of_socket};
+ghost use Rattle.stun_types_wire.specs.Registry.{longest_text, longest_username};
+ghost use Rattle.stun_types_base.specs.declared.transport.TransportType.TheVariants.{Udp};
+ghost use Rattle.turn_desk_world_laws.specs.TurnClientProtoStepLaws.Sound.{IsWhole};
+ghost use Rattle.turn_desk_progress_laws.specs.TurnClientProtoHandshakeLaws.Stages.{AsksForOne};
+ghost use Rattle.turn_desk_progress_laws.specs.Promises.{IsFresh};
+ghost use Rattle.turn_desk_progress_laws.specs.Scripts.{Plan};
+ghost use Rattle.turn_client_proto.specs.Clients.{kept_of};
+ghost use Rattle.turn_desk_core.specs.declared.decision.Decision.TheVariants.{Allocate};
+ghost use Rattle.turn_desk_world.specs.Model.{World as WorldModel};
+ghost use Rattle.test_honest_network.specs.Meetings.{HasGoneOn, HasMet, IsBegun, plan_of};
+
+use crate::exchange::{Carried, carry};
+use crate::setting::{Setting, config_of, server_of};
+use std::alloc::Global;
+use std::net::SocketAddr;
+use std::time::Duration;
+use stun_types_base::instant::Instant;
+use stun_types_base::list::ListOf;
+use stun_types_base::memory::NoMemory;
+use stun_types_base::transport::TransportType;
+use turn_client_proto::client::TurnClient;
+use turn_client_proto::tcp::TurnClientTcp;
+use turn_client_proto::udp::TurnClientUdp;
+use turn_client_proto_api::config::TurnConfig;
+use turn_desk_core::decision::Decision;
+use turn_desk_core::desk::Desk;
+use turn_desk_progress_laws::fresh::worlds_begin_fresh;
+use turn_desk_progress_laws::honest::honest_runs_allocate;
+use turn_desk_progress_laws::unforged::honest_runs_are_unforged;
+use turn_desk_world::world::World;
+
+/// What a meeting came to.
+#[derive(Clone, Copy, Debug)]
+pub(crate) enum Outcome {
+    /// The client drew no first request, or the desk didn't reply to one. It never comes to that.
+    Silent,
+    /// They can't come together: the client drew no second request.
+    TurnedAway,
+    /// The client holds the address that was decided: the reply to its second request reached it.
+    Allocated,
+}
+
+/// When the client is drawn again: 50 ms after the start (RFC 8489, section 6.2.1).
+pub(crate) const SECOND: u64 = 50_000_000;
+
+/// For how long an address is allocated, in seconds.
+pub(crate) const LIFETIME: u32 = 600;
+
+/// Lets a client and a desk of these settings meet: what they are made of meets what the law on an honest network
+/// takes for granted (`IsFresh`), and what happens is a script of it (`HasMet`). So the premise of `World::run` that
+/// nothing was forged holds of it, too (`unforged`).
+pub(crate) fn meet(
+    alloc: Global,
+    setting: &Setting<'_>,
+    address: SocketAddr,
+) -> Result<Outcome, NoMemory>
+    requires name { length setting.now.name.now ≤ longest_username }
+    requires realm { length setting.now.realm.now ≤ longest_text }
+    requires family { family_of_socket address ≡ setting.now.family }
+    requires whole { IsWhole address }
+    ensures { IfOk result (λ outcome. (old : WorldModel) × (new : WorldModel)
+        × IsFresh (plan_of setting.now) old
+        × HasMet (plan_of setting.now) address old outcome new) }
+{
+    let mut world = world_of(alloc, setting)?;
+    let second = Instant::from_nanos(SECOND);
+    let outcome = shake(alloc, &mut world, Instant::ZERO, second, address);
+    drop(world);
+    outcome
+}
+
+/// Carries messages between the client and the desk of a world over an honest network: the client is drawn twice.
+pub(crate) fn shake(
+    alloc: Global,
+    world: &mut World,
+    made: Instant,
+    second: Instant,
+    address: SocketAddr,
+) -> Result<Outcome, NoMemory>
+    ensures { (plan : Plan)
+        → IsFresh plan world.old
+        → plan.client.made ≡ made
+        → plan.second ≡ second
+        → AsksForOne plan.client address
+        → IsWhole address
+        → IfOk result (λ outcome. HasMet plan address world.old outcome world.new) }
+{
+    honest_runs_allocate();
+    honest_runs_are_unforged();
+    match carry(alloc, world, made, Decision::Refuse(400))? {
+        Carried::Replied => go_on(alloc, world, second, address),
+        Carried::Unsent => Ok(Outcome::Silent),
+        Carried::Unanswered => Ok(Outcome::Silent),
+    }
+}
+
+/// The second exchange, for which an address is decided.
+fn go_on(
+    alloc: Global,
+    world: &mut World,
+    now: Instant,
+    address: SocketAddr,
+) -> Result<Outcome, NoMemory>
+    ensures { IfOk result (λ outcome. HasGoneOn now address world.old outcome world.new) }
+{
+    let decision = decision_for(alloc, address)?;
+    match carry(alloc, world, now, decision)? {
+        Carried::Unsent => Ok(Outcome::TurnedAway),
+        Carried::Unanswered => Ok(Outcome::Silent),
+        Carried::Replied => Ok(Outcome::Allocated),
+    }
+}
+
+/// That an address is allocated.
+fn decision_for(alloc: Global, address: SocketAddr) -> Result<Decision, NoMemory>
+    ensures { IfOk result (λ decision. decision ≡ Allocate (address ∷ []) LIFETIME) }
+{
+    let mut addresses = ListOf::new(alloc);
+    addresses.push(address)?;
+    Ok(Decision::Allocate {
+        addresses,
+        lifetime: LIFETIME,
+    })
+}
+
+/// A new client and a new desk of these settings.
+pub(crate) fn world_of(alloc: Global, setting: &Setting<'_>) -> Result<World, NoMemory>
+    requires name { length setting.now.name.now ≤ longest_username }
+    requires realm { length setting.now.realm.now ≤ longest_text }
+    ensures { IfOk result (λ world. IsFresh (plan_of setting.now) world) }
+{
+    let config = config_of(alloc, setting)?;
+    worlds_begin_fresh(&config);
+    let client = client_of(alloc, setting, config)?;
+    match server_of(alloc, setting) {
+        Ok(server) => Ok(World::new(alloc, Desk::new(alloc, server), Some(client))),
+        Err(error) => {
+            drop(client);
+            Err(error)
+        }
+    }
+}
+
+/// A new client of these settings.
+fn client_of(
+    alloc: Global,
+    setting: &Setting<'_>,
+    config: TurnConfig,
+) -> Result<TurnClient, NoMemory>
+    requires transport { config.transport ≡ Udp }
+    requires name { length config.credentials.username ≤ longest_username }
+    ensures { IfOk result (λ client. IsBegun setting.now config (kept_of client)) }
+{
+    let (here, server) = (setting.here, setting.server);
+    match setting.transport {
+        TransportType::Udp => match TurnClientUdp::allocate(alloc, here, server, config, [0; 32]) {
+            Ok(client) => Ok(TurnClient::Udp(client)),
+            Err(error) => Err(error),
+        },
+        TransportType::Tcp => match TurnClientTcp::allocate(alloc, here, server, config, [0; 32]) {
+            Ok(client) => Ok(TurnClient::Tcp(client)),
+            Err(error) => Err(error),
+        },
+    }
+}

@@ -1,0 +1,190 @@
+//! What a client is asked, and how a desk replies to what it sends.
+
+ghost use Rattle.std.specs.Prelude.{◌≡◌, IfOk, IsSome, IsTrue};
+ghost use Rattle.stun_types_wire.specs.Attributes.{kind_at};
+ghost use Rattle.stun_types_wire.specs.declared.class.MessageClass.TheVariants.{Success};
+ghost use Rattle.stun_types_wire.specs.Types.{class_of};
+ghost use Rattle.turn_client_proto.specs.StunProtoClient.Challenges.{asks_again, challenge_shown};
+ghost use Rattle.turn_desk_event.specs.declared.answer.Answer.TheVariants.{Nothing};
+ghost use Rattle.turn_desk_event.specs.declared.event.Event.TheVariants.{Draw};
+ghost use Rattle.test_honest_network.specs.Exchanges.{Happened};
+ghost use Rattle.test_honest_network.specs.Replies.{IsBrought, IsCall, IsGiven, IsKind, IsPoll, IsReplied, IsTaken};
+
+use crate::exchange::happen;
+use std::alloc::Global;
+use stun_proto_auth::claim::{Claim, error_code_of};
+use stun_types_base::data::Data;
+use stun_types_base::instant::Instant;
+use stun_types_base::memory::NoMemory;
+use stun_types_base::transmit::Transmit;
+use stun_types_message::parsed::Message;
+use stun_types_wire::class::MessageClass;
+use stun_types_wire::registry::{STALE_NONCE, UNAUTHORIZED};
+use turn_desk_core::decision::Decision;
+use turn_desk_event::answer::Answer;
+use turn_desk_event::event::{ClientCall, Event};
+use turn_desk_world::world::World;
+
+/// What a desk replied.
+#[derive(Clone, Copy)]
+pub(crate) enum Reply {
+    /// Nothing, or something else.
+    Neither,
+    /// A success.
+    Success,
+    /// A challenge.
+    Challenge,
+}
+
+/// Whether a call of a client is done.
+pub(crate) fn calls(world: &mut World, what: ClientCall, now: Instant) -> Result<bool, NoMemory>
+    ensures { IfOk result (λ calls. IsTrue calls → IsCall what now world.old world.new) }
+{
+    match happen(world, Event::Call(what, now))? {
+        Answer::Done => Ok(true),
+        _ => Ok(false),
+    }
+}
+
+/// Takes an event, where one waits.
+pub(crate) fn takes(world: &mut World, now: Instant) -> Result<(), NoMemory>
+    ensures { IfOk result (λ taken. IsTaken now world.old world.new) }
+{
+    happen(world, Event::Call(ClientCall::PollEvent, now))?;
+    Ok(())
+}
+
+/// Draws a client: whether it has nothing to send.
+pub(crate) fn draws_nothing(world: &mut World, now: Instant) -> Result<bool, NoMemory>
+    ensures { IfOk result (λ none.
+        IsTrue none → Happened (Draw now) world.old Nothing world.new) }
+{
+    match happen(world, Event::Draw(now))? {
+        Answer::Nothing => Ok(true),
+        _ => Ok(false),
+    }
+}
+
+/// Polls a client: whether it asks for a socket.
+pub(crate) fn polls(world: &mut World, now: Instant) -> Result<bool, NoMemory>
+    ensures { IfOk result (λ polls. IsTrue polls → IsPoll now world.old world.new) }
+{
+    match happen(world, Event::Call(ClientCall::Poll, now))? {
+        Answer::Socket { .. } => Ok(true),
+        _ => Ok(false),
+    }
+}
+
+/// Draws a client, delivers to the desk what it sends, and to the client what the desk replies, all at one moment. The
+/// desk is told what to decide; its words come of another seed than those of the meeting, and so does a new nonce.
+pub(crate) fn replies(
+    alloc: Global,
+    world: &mut World,
+    now: Instant,
+    decision: Decision,
+) -> Result<Reply, NoMemory>
+    ensures { IfOk result (λ reply. IsReplied now decision world.old reply world.new) }
+{
+    match happen(world, Event::Draw(now))? {
+        Answer::Transmit(sent) => bring(alloc, world, &sent, now, decision),
+        _ => Ok(Reply::Neither),
+    }
+}
+
+/// Delivers to the desk what a client sent, and to the client what the desk replies.
+fn bring(
+    alloc: Global,
+    world: &mut World,
+    sent: &Transmit<Data<'_>>,
+    now: Instant,
+    decision: Decision,
+) -> Result<Reply, NoMemory>
+    ensures { IfOk result (λ reply. IsBrought sent.now now decision world.old reply world.new) }
+{
+    let asked = Event::ToDesk {
+        bytes: Vec::from_slice(alloc, sent.bytes.as_slice())?,
+        from: sent.from,
+        now,
+        decision,
+        seed: [1; 32],
+    };
+    match happen(world, asked)? {
+        Answer::Reply(bytes) => give(world, bytes, sent, now),
+        _ => Ok(Reply::Neither),
+    }
+}
+
+/// Delivers to a client what the desk replied.
+fn give(
+    world: &mut World,
+    bytes: Vec<u8>,
+    sent: &Transmit<Data<'_>>,
+    now: Instant,
+) -> Result<Reply, NoMemory>
+    ensures { IfOk result (λ reply. IsGiven sent.now now bytes world.old reply world.new) }
+{
+    let kind = kind_of(bytes.as_slice());
+    let given = Event::ToClient {
+        bytes,
+        from: sent.to,
+        to: sent.from,
+        now,
+    };
+    happen(world, given)?;
+    Ok(kind)
+}
+
+/// Whether bytes are a message that is a success.
+pub(crate) fn is_success(bytes: &[u8]) -> bool
+    ensures { IsTrue result → class_of (kind_at bytes.now) ≡ Success }
+{
+    match Message::from_bytes(bytes) {
+        Ok(message) => message.has_class(MessageClass::Success),
+        Err(_) => false,
+    }
+}
+
+/// What bytes of a desk are.
+fn kind_of(bytes: &[u8]) -> Reply
+    ensures { IsKind bytes.now result }
+{
+    match Message::from_bytes(bytes) {
+        Ok(message) => {
+            if message.has_class(MessageClass::Success) {
+                Reply::Success
+            } else if is_challenge(&message) {
+                Reply::Challenge
+            } else {
+                Reply::Neither
+            }
+        }
+        Err(_) => Reply::Neither,
+    }
+}
+
+/// Whether a message is a challenge (RFC 8489, section 9.2.5).
+fn is_challenge(message: &Message<'_>) -> bool
+    ensures { IsTrue result → IsSome (challenge_shown message.now) }
+{
+    if !asks_again(message) {
+        return false;
+    }
+    let claim = Claim::of(message);
+    if claim.realm().is_none() {
+        return false;
+    }
+    claim.nonce().is_some()
+}
+
+/// Whether a message is an error response with 401 or 438.
+fn asks_again(message: &Message<'_>) -> bool
+    ensures { result ≡ asks_again message.now }
+{
+    if message.class() != MessageClass::Error {
+        return false;
+    }
+    match error_code_of(message) {
+        Some(code) => code == UNAUTHORIZED || code == STALE_NONCE,
+        None => false,
+    }
+}

@@ -1,0 +1,74 @@
+//! Does what the lines of its input say with an agent of STUN requests, with the authenticators, and with
+//! the digests, keys and nonces below them, and prints what each line is answered.
+//!
+//! A byte `%` ends each section of the input but the last. The first line of a section says what its other
+//! lines are about: `agent`, `client`, `short`, `server` or `values`. A line is words parted by single
+//! spaces: the first says what is done, and each other one is a name, `=` and what it stands for. Empty lines
+//! and remarks behind `#` are passed over. A line that can't be read is answered `bad line`.
+#![tactic(auto)]
+
+mod agent;
+mod client;
+mod digests;
+mod keys;
+mod line;
+mod party;
+mod server;
+mod signing;
+mod text;
+mod values;
+mod waits;
+
+use crate::agent::new_agent;
+use crate::line::Line;
+use crate::party::{Party, take_lines};
+use crate::server::new_server;
+use crate::values::Values;
+use line_io::cut::cut_line;
+use line_io::refusal::LineError;
+use line_io::word::read_words;
+use std::io;
+use std::io::Read;
+use stun_proto_client::long_term::LongTermClientAuth;
+use stun_proto_client::short_term::ShortTermAuth;
+
+fn main(rt: HostRuntime) -> io::Result<()> {
+    let mut input = Vec::new(rt.alloc());
+    let done = match rt.reader().read_to_end(&mut input) {
+        Ok(_) => take_sections(&rt, input.as_slice()),
+        Err(error) => Err(error),
+    };
+    drop(input);
+    done
+}
+
+/// Does what each section says.
+fn take_sections(rt: &HostRuntime, input: &[u8]) -> io::Result<()> {
+    for section in input.split(|byte| *byte == b'%') {
+        let (head, lines) = cut_line(section);
+        let taken = match read_words(rt.alloc(), head) {
+            Ok(words) => take_section(rt, words.as_slice(), lines.unwrap_or_default()),
+            Err(error) => println!(rt; "{error}"),
+        };
+        taken?;
+    }
+    Ok(())
+}
+
+/// Does what the lines of a section say, by the words of its head.
+fn take_section(rt: &HostRuntime, words: &[&str], lines: &[u8]) -> io::Result<()> {
+    match Line::read(words) {
+        Ok(head) => match head.what {
+            "agent" => take_lines(rt, new_agent(rt.alloc(), &head), lines),
+            "client" => take_lines(rt, LongTermClientAuth::new(rt.alloc()), lines),
+            "short" => take_lines(rt, ShortTermAuth::new(), lines),
+            "server" => match new_server(rt.alloc(), head.realm) {
+                Ok(server) => take_lines(rt, server, lines),
+                Err(error) => println!(rt; "{error}"),
+            },
+            "values" => take_lines(rt, Values, lines),
+            _ => println!(rt; "{}", LineError::Bad),
+        },
+        Err(error) => println!(rt; "{error}"),
+    }
+}

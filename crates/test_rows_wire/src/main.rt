@@ -1,0 +1,69 @@
+//! Asks the libraries of the wire what each line of its standard input hands in, and prints what they
+//! answer. A line is words parted by single spaces, of which the first names the call; an empty line and
+//! one that begins with `#` say nothing. Bytes are in lower case hex, or `-` for none; in bytes and in
+//! texts `NN*3` stands for `NN` three times. `tests/oracle/rows_wire.py` makes the lines and
+//! what is to be answered.
+#![tactic(auto)]
+
+mod frames;
+mod line;
+mod made;
+mod messages;
+mod objected;
+mod read;
+mod small;
+mod streams;
+mod written;
+
+use crate::line::Line;
+use line_io::cut::is_skipped;
+use line_io::word::read_words;
+use std::io;
+use std::io::Read;
+
+fn main(rt: HostRuntime) -> io::Result<()> {
+    let mut input = Vec::new(rt.alloc());
+    rt.reader().read_to_end(&mut input)?;
+    for line in input.as_slice().split(|byte| *byte == b'\n') {
+        if !is_skipped(line) {
+            take(&rt, line)?;
+        }
+    }
+    Ok(())
+}
+
+/// Prints the first word of a line, and what the line is answered.
+fn take(rt: &HostRuntime, line: &[u8]) -> io::Result<()> {
+    match read_words(rt.alloc(), line) {
+        Ok(words) => {
+            let mut line = Line::new(rt.alloc(), words.as_slice());
+            let kind = line.word();
+            ask(&mut line, kind);
+            if line.is_bad {
+                println!(rt; "{kind} bad line")
+            } else {
+                println!(rt; "{kind}{}", line.answer)
+            }
+        }
+        Err(_) => println!(rt; "bad line"),
+    }
+}
+
+/// Makes the call of a line.
+fn ask(line: &mut Line<'_>, kind: &str) {
+    match kind {
+        "stream" => streams::stream(line),
+        "channel" => frames::channel(line),
+        "frame" => frames::frame(line),
+        "send" | "told" => frames::indication(line, kind == "send"),
+        "raw" => read::raw(line),
+        "check" => read::check(line),
+        "plain" => read::plain(line),
+        "look" => read::look(line),
+        "message" => messages::message(line),
+        "lent" => messages::lent(line),
+        "judge" => messages::judge(line),
+        "object" => objected::object(line),
+        _ => small::ask(line, kind),
+    }
+}

@@ -1,0 +1,93 @@
+//! Messages that are written and judged.
+
+use crate::line::Line;
+use crate::written::{add_all, begin};
+use std::alloc::Global;
+use stun_types_integrity::credentials::{
+    LongTermKeyCredentials, MessageIntegrityCredentials, ShortTermCredentials,
+};
+use stun_types_message::parsed::Message;
+use stun_types_wire::algorithm::IntegrityAlgorithm;
+use stun_types_wire::error::ValidateError;
+use stun_types_wire::header::MessageHeader;
+use stun_types_write::slice::MessageWriteMutSlice;
+use stun_types_write::vec::MessageWriteVec;
+use stun_types_write::writer::MessageWrite;
+
+/// `message HOW BYTES ADD..`: a message in memory of its own. Behind what it tells come its bytes.
+pub(crate) fn message(line: &mut Line<'_>) {
+    let (how, bytes) = (line.word(), line.bytes());
+    let begun = begin(how, bytes.as_slice(), MessageWriteVec::new(line.alloc));
+    if let Some(mut writer) = begun {
+        add_all(line, &mut writer);
+        line.say(&(writer.as_slice() == writer.data()));
+        line.hex(writer.finish().as_slice());
+    }
+}
+
+/// `lent ROOM HOW BYTES ADD..`: a message in so many lent bytes of EE, of which those that are not written come
+/// last.
+pub(crate) fn lent(line: &mut Line<'_>) {
+    let (room, how, bytes) = (line.value(0usize), line.word(), line.bytes());
+    let room = Vec::from_elem(line.alloc, 0xEEu8, room.max(MessageHeader::LENGTH));
+    if let Ok(mut room) = room {
+        let writer = MessageWriteMutSlice::new(room.as_mut_slice());
+        let begun = begin(how, bytes.as_slice(), writer);
+        if let Some(mut writer) = begun {
+            add_all(line, &mut writer);
+            line.say(&(writer.as_slice() == writer.data()));
+            line.say(&writer.lent().len());
+            let (front, behind) = writer.finish();
+            line.hex(front);
+            line.hex(behind);
+        }
+    }
+}
+
+/// The credentials of a user in a realm, or those of a password alone where the user is `-`.
+pub(crate) fn credentials(
+    alloc: Global,
+    user: &str,
+    realm: &str,
+    password: &str,
+) -> MessageIntegrityCredentials {
+    let password = String::from_str(alloc, password).unwrap_or(String::new(alloc));
+    if user == "-" {
+        return MessageIntegrityCredentials::from(ShortTermCredentials::new(password));
+    }
+    let user = String::from_str(alloc, user).unwrap_or(String::new(alloc));
+    let realm = String::from_str(alloc, realm).unwrap_or(String::new(alloc));
+    MessageIntegrityCredentials::from(LongTermKeyCredentials::new(user, password, realm))
+}
+
+/// `judge USER REALM PASSWORD BYTES`: a message is judged by its last integrity attribute, and by the key of
+/// each algorithm.
+pub(crate) fn judge(line: &mut Line<'_>) {
+    let (user, realm, password) = (line.word(), line.word(), line.word());
+    let bytes = line.bytes();
+    match Message::from_bytes(bytes.as_slice()) {
+        Ok(message) => {
+            let credentials = credentials(line.alloc, user, realm, password);
+            verdict(line, message.validate_integrity(&credentials));
+            for algorithm in [
+                IntegrityAlgorithm::Sha1,
+                IntegrityAlgorithm::Sha256,
+                IntegrityAlgorithm::Sha512,
+            ] {
+                let key = credentials.make_key(algorithm);
+                verdict(line, message.validate_integrity_with_key(&key));
+            }
+        }
+        Err(error) => line.say(&error),
+    }
+}
+
+/// A verdict: the algorithm, or why it is refused.
+fn verdict(line: &mut Line<'_>, verdict: Result<IntegrityAlgorithm, ValidateError>) {
+    match verdict {
+        Ok(algorithm) => {
+            let _ = write!(line.answer, " {algorithm:?}");
+        }
+        Err(error) => line.say(&error),
+    }
+}

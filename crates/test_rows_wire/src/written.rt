@@ -1,0 +1,158 @@
+//! Adds to a message, in any writer.
+
+ghost use Rattle.std.specs.Prelude.{◌<◌, ◌^◌, IfSome, length};
+ghost use Rattle.stun_types_write.specs.Adding.{IsBegun};
+ghost use Rattle.stun_types_write.specs.Outcomes.{CanBegin};
+
+use crate::line::Line;
+use crate::messages::credentials;
+use stun_types_add::ext::{MessageWriteExt, add_as};
+use stun_types_attributes::error_code::ErrorCode;
+use stun_types_attributes::xor_mapped_address::XorMappedAddress;
+use stun_types_auth_attributes::algorithm::PasswordAlgorithmValue;
+use stun_types_auth_attributes::nonce::Nonce;
+use stun_types_auth_attributes::password_algorithm::PasswordAlgorithm;
+use stun_types_auth_attributes::realm::Realm;
+use stun_types_auth_attributes::software::Software;
+use stun_types_auth_attributes::username::Username;
+use stun_types_message::parsed::Message;
+use stun_types_wire::algorithm::IntegrityAlgorithm;
+use stun_types_wire::attribute::{AttributeType, RawAttribute};
+use stun_types_wire::class::MessageClass;
+use stun_types_wire::error::StunWriteError;
+use stun_types_wire::header::MessageHeader;
+use stun_types_wire::registry::BINDING;
+use stun_types_write::writer::MessageWrite;
+use turn_types_attributes::lifetime::Lifetime;
+use turn_types_attributes::requested_transport::RequestedTransport;
+
+/// Begins a message in an empty writer: as the header in some bytes tells (`begin`), or as the success or the
+/// error response to the request that they are (`success`, `error`).
+pub(crate) fn begin<W: MessageWrite + Drop>(how: &str, bytes: &[u8], writer: W) -> Option<W>
+    requires empty { CanBegin (W.draft writer) }
+    ensures { IfSome result (λ begun. IsBegun (W.draft begun).bytes) }
+{
+    if how == "begin" {
+        return match MessageHeader::from_bytes(bytes) {
+            Ok(header) => Message::builder(header.get_type(), header.transaction_id(), writer).ok(),
+            Err(_) => None,
+        };
+    }
+    match Message::from_bytes(bytes) {
+        Ok(request) if request.class() == MessageClass::Request => {
+            if how == "success" {
+                Message::builder_success(&request, writer).ok()
+            } else {
+                Message::builder_error(&request, writer).ok()
+            }
+        }
+        _ => None,
+    }
+}
+
+/// Adds what the words say: the size of the message then, and why the add is refused. Then comes what the
+/// writer tells: whether the message is a request, of BINDING, a response; its number, the greatest size,
+/// whether it shows USERNAME, and which it shows first of USERNAME, REALM and LIFETIME.
+pub(crate) fn add_all<W: MessageWrite>(line: &mut Line<'_>, writer: &mut W)
+    requires { IsBegun (W.draft writer.old).bytes }
+{
+    for _ in 0..line.left() {
+        if line.left() > 0 {
+            let added = add(line, writer);
+            line.say(&writer.len());
+            match added {
+                Ok(()) => line.say(&"fine"),
+                Err(error) => line.say(&error),
+            }
+        }
+    }
+    line.say(&writer.has_class(MessageClass::Request));
+    line.say(&writer.has_method(BINDING));
+    line.say(&writer.is_response());
+    line.say(&writer.transaction_id());
+    if let Some(most) = writer.max_size() {
+        line.say(&most);
+    }
+    let (user, realm) = (AttributeType(0x0006), AttributeType(0x0014));
+    line.say(&writer.has_attribute(user));
+    if let Some(first) = writer.has_any_attribute(&[user, realm, AttributeType(0x000D)]) {
+        line.hex(&first.value().to_be_bytes());
+    }
+}
+
+/// Makes an add, and answers as it does.
+fn add<W: MessageWrite>(line: &mut Line<'_>, writer: &mut W) -> Result<(), StunWriteError>
+    requires { IsBegun (W.draft writer.old).bytes }
+    ensures { IsBegun (W.draft writer.new).bytes }
+{
+    let kind = line.word();
+    match kind {
+        "fingerprint" => writer.add_fingerprint(),
+        "sign" => {
+            let credentials = credentials(line.alloc, "user", "realm", "pass");
+            writer.add_message_integrity(&credentials, algorithm(line))
+        }
+        "sign-short" => {
+            let credentials = credentials(line.alloc, "-", "-", line.word());
+            writer.add_message_integrity(&credentials, IntegrityAlgorithm::Sha1)
+        }
+        "key" => {
+            let credentials = credentials(line.alloc, "user", "realm", "pass");
+            let key = credentials.make_key(algorithm(line));
+            writer.add_message_integrity_with_key(&key, algorithm(line))
+        }
+        "zeros" => {
+            let zeros = line.bytes();
+            let (front, _) = zeros.as_slice().split_at(zeros.len().min(65_535));
+            add_raw(writer, front)
+        }
+        _ => add_attribute(line, writer, kind),
+    }
+}
+
+/// The algorithm of integrity of the next word.
+fn algorithm(line: &mut Line<'_>) -> IntegrityAlgorithm {
+    match line.word() {
+        "sha1" => IntegrityAlgorithm::Sha1,
+        "sha512" => IntegrityAlgorithm::Sha512,
+        _ => IntegrityAlgorithm::Sha256,
+    }
+}
+
+/// Adds an attribute of a type that nothing names.
+fn add_raw<W: MessageWrite>(writer: &mut W, value: &[u8]) -> Result<(), StunWriteError>
+    requires begun { IsBegun (W.draft writer.old).bytes }
+    requires short { length value.now < 2 ^ 16 }
+    ensures { IsBegun (W.draft writer.new).bytes }
+{
+    let raw = RawAttribute::new(AttributeType(0x0022), value);
+    add_as(writer, &raw, &raw)
+}
+
+/// Adds an attribute that does not end a message.
+fn add_attribute<W: MessageWrite>(
+    line: &mut Line<'_>,
+    writer: &mut W,
+    kind: &str,
+) -> Result<(), StunWriteError>
+    requires { IsBegun (W.draft writer.old).bytes }
+    ensures { IsBegun (W.draft writer.new).bytes }
+{
+    let alloc = line.alloc;
+    match kind {
+        "lifetime" => writer.add_attribute(&Lifetime::new(600)),
+        "transport" => writer.add_attribute(&RequestedTransport::new(RequestedTransport::UDP)),
+        "algorithm" => writer.add_attribute(&PasswordAlgorithm::new(
+            PasswordAlgorithmValue::SHA256,
+        )),
+        "software" => writer.add_attribute(&Software::new(alloc, "test vector")?),
+        "user" => writer.add_attribute(&Username::new(alloc, line.word())?),
+        "realm" => writer.add_attribute(&Realm::new(alloc, line.word())?),
+        "nonce" => writer.add_attribute(&Nonce::new(alloc, line.word())?),
+        "code" => writer.add_attribute(&ErrorCode::builder(line.value(0)).build(alloc)?),
+        _ => {
+            let (addr, number) = (line.address(), writer.transaction_id());
+            writer.add_attribute(&XorMappedAddress::new(addr, number))
+        }
+    }
+}

@@ -1,0 +1,31 @@
+//! Names that a program adds to those of RFC 8489, which `stun_inspect` prints.
+
+use std::test::Fail;
+use stun_types_wire::attribute::AttributeType;
+use stun_types_wire::class::Method;
+use stun_types_wire::names::Names;
+use stun_types_wire::registry::BINDING;
+
+#[test]
+fn the_last_name_counts(rt: HostRuntime) -> Result<(), Fail> {
+    let mut names = Names::new(rt.alloc());
+    let (allocate, priority) = (Method::new(0x003), AttributeType::new(0x0024));
+    // the name of a type is none of a method of that number
+    names.add_attribute(AttributeType::new(0x003), "OTHER")?;
+    let before = [
+        BINDING.name(&names),
+        allocate.name(&names),
+        priority.name(&names),
+    ];
+    names.add_method(allocate, "ALLOC")?;
+    names.add_method(allocate, "ALLOCATE")?;
+    names.add_attribute(priority, "PRIORITY")?;
+    let behind = [
+        BINDING.name(&names),
+        allocate.name(&names),
+        priority.name(&names),
+    ];
+    assert_eq!(rt; before, ["BINDING", "unknown", "unknown"]);
+    assert_eq!(rt; behind, ["BINDING", "ALLOCATE", "PRIORITY"]);
+    Ok(())
+}

@@ -1,0 +1,123 @@
+//! The calls that open and close a client.
+
+ghost use Rattle.std.specs.Prelude.{◌≡◌, ◌≢◌, ◌≤◌, [], IfOk, IfSome, None, length};
+ghost use Rattle.stun_types_wire.specs.Registry.{longest_username};
+ghost use Rattle.stun_types_base.specs.declared.transport.TransportType.TheVariants.{Udp};
+ghost use Rattle.turn_client_c_calls.specs.Codes.{ok};
+ghost use Rattle.turn_client_c_calls.specs.Opened.{HoldsOpened, IsBegun, WhyNot};
+ghost use Rattle.turn_client_c_types.specs.Settings.{config_of};
+
+use crate::handle::{TurnHandle, may_go_to_another_thread};
+use crate::status;
+use crate::whole::Whole;
+use std::alloc::Global;
+use std::net::SocketAddr;
+use stun_types_base::memory::NoMemory;
+use stun_types_base::transport::TransportType;
+use stun_types_wire::registry::MAX_USERNAME_LENGTH;
+use turn_client_c_types::address::TurnAddress;
+use turn_client_c_types::settings::{TurnSeed, TurnSettings};
+use turn_client_proto::client::TurnClient;
+use turn_client_proto::tcp::TurnClientTcp;
+use turn_client_proto::udp::TurnClientUdp;
+use turn_client_proto_api::config::TurnConfig;
+
+/// A new client over a transport, between two addresses; over UDP its allocation is over UDP.
+fn make(
+    alloc: Global,
+    transport: TransportType,
+    local: SocketAddr,
+    server: SocketAddr,
+    config: TurnConfig,
+    seed: [u8; 32],
+) -> Result<TurnClient, NoMemory>
+    requires name { length config.credentials.username ≤ longest_username }
+    requires transport { transport ≡ Udp → config.transport ≡ Udp }
+    ensures { IfOk result (IsBegun transport local server config seed) }
+{
+    match transport {
+        TransportType::Udp => {
+            let client = TurnClientUdp::allocate(alloc, local, server, config, seed)?;
+            Ok(TurnClient::Udp(client))
+        }
+        TransportType::Tcp => {
+            let client = TurnClientTcp::allocate(alloc, local, server, config, seed)?;
+            Ok(TurnClient::Tcp(client))
+        }
+    }
+}
+
+/// A new client of a user in a box. None where memory is refused.
+fn begin(
+    alloc: Global,
+    settings: &TurnSettings,
+    transport: TransportType,
+    peers: TransportType,
+    local: SocketAddr,
+    server: SocketAddr,
+    username: &str,
+    password: &str,
+    seed: [u8; 32],
+) -> Option<Box<Whole>>
+    requires name { length username.now ≤ longest_username }
+    requires over_udp { transport ≡ Udp → peers ≡ Udp }
+    ensures { IfSome result (λ whole. whole.value.joined.items ≡ []
+        × IsBegun transport local server (config_of settings.now peers (record {
+          username = username.now;
+          password = password.now;
+        })) seed whole.value.client) }
+{
+    let config = settings.config(alloc, username, password, peers).ok()?;
+    let client = make(alloc, transport, local, server, config, seed).ok()?;
+    let joined = Vec::new(alloc);
+    Box::new(alloc, Whole { client, joined }).ok()
+}
+
+/// Opens a client of a user. Nothing is sent yet.
+pub fn turn_client_open(
+    alloc: Global,
+    client: &mut TurnHandle,
+    settings: &TurnSettings,
+    username: &[u8],
+    password: &[u8],
+    seed: &TurnSeed,
+) -> i32
+    ensures opened { result ≡ ok → HoldsOpened settings.now username.now password.now
+        seed.now.bytes client.new.hold.value }
+    ensures stays { result ≢ ok → client.new.hold.value ≡ client.old.hold.value }
+    ensures why { WhyNot client.old.hold.value settings.now username.now password.now result }
+{
+    if client.is_open {
+        return status::ALREADY_OPEN;
+    }
+    let (Some(local), Some(server)) = (settings.local.to_socket(), settings.server.to_socket())
+    else {
+        return status::BAD_FAMILY;
+    };
+    let Some((transport, peers)) = settings.transports() else {
+        return status::BAD_SETTING;
+    };
+    let (Ok(username), Ok(password)) = (str::from_utf8(username), str::from_utf8(password)) else {
+        return status::BAD_TEXT;
+    };
+    if username.len() > MAX_USERNAME_LENGTH {
+        return status::LONG_NAME;
+    }
+    match begin(
+        alloc, settings, transport, peers, local, server, username, password, seed.bytes,
+    ) {
+        Some(whole) => {
+            client.put(whole);
+            status::OK
+        }
+        None => status::NO_MEMORY,
+    }
+}
+
+/// Closes a client: frees it, and tells the server nothing.
+pub fn turn_client_close(alloc: Global, client: &mut TurnHandle)
+    ensures { client.new.hold.value ≡ None }
+{
+    may_go_to_another_thread(client);
+    let _whole = client.take(alloc);
+}

@@ -1,0 +1,81 @@
+-- The settings of a client, as C tells them.
+use Rattle.std.specs.Prelude.{ℕ, ◌*◌, ◌/◌, ◌%◌, ◌==◌, nat_lt, Bool, ◌||◌, List, [], ◌∷◌, filter, Option, Some, None, if◌then◌else◌}
+use Rattle.turn_types_attributes.specs.StunTypesIntegrity.Credentials.{NameAndPassword}
+use Rattle.stun_types_wire.specs.declared.algorithm.IntegrityAlgorithm.{IntegrityAlgorithm}
+use Rattle.stun_types_wire.specs.declared.algorithm.IntegrityAlgorithm.TheVariants.{Sha1, Sha256, Sha512}
+use Rattle.stun_types_wire.specs.Strength.{all_algorithms}
+use Rattle.stun_types_base.specs.declared.family.AddressFamily.{AddressFamily}
+use Rattle.stun_types_base.specs.declared.family.AddressFamily.TheVariants.{IPV6}
+use Rattle.stun_types_base.specs.declared.transport.TransportType.{TransportType}
+use Rattle.stun_types_base.specs.declared.transport.TransportType.TheVariants.{Udp, Tcp}
+use Rattle.stun_proto_auth.specs.declared.feature.Feature.{Feature}
+use Rattle.stun_proto_auth.specs.declared.feature.Feature.TheVariants.{Required, Disabled}
+use Rattle.turn_client_proto_api.specs.StunProtoTransaction.Schedule.{Waits}
+use Rattle.turn_client_proto_api.specs.Config.{Config, default_config}
+use Rattle.turn_client_proto_api.specs.Families.{with_family}
+use Rattle.turn_client_c_types.specs.Addresses.{transport_of}
+use Rattle.turn_client_c_types.specs.declared.settings.TurnSettings.{TurnSettings}
+
+-- the transport of a number in IP; 0 is UDP
+abbrev pub transport_set : ℕ → Option TransportType
+transport_set number = if number == 0 then Some Udp else transport_of number
+
+-- over UDP to the server none to the peers but UDP
+abbrev pub both_of : Option TransportType → Option TransportType → Option (TransportType × TransportType)
+both_of (Some Udp) (Some Udp) = Some (Udp, Udp)
+both_of (Some Tcp) (Some peers) = Some (Tcp, peers)
+both_of _ _ = None
+
+-- the transports, where each number of the settings names something
+unfoldable pub transports_of : TurnSettings → Option (TransportType × TransportType)
+transports_of s = if nat_lt 3 s.families || (nat_lt 7 s.integrity || nat_lt 2 s.anonymous) then None
+    else both_of (transport_set s.transport) (transport_set s.peers)
+
+-- what is asked for by the bits of families: at first IPv4
+abbrev pub families_of : ℕ → List AddressFamily → List AddressFamily
+families_of bits first = if bits == 2 then IPV6 ∷ [] else if bits == 3 then with_family first IPV6 else first
+
+-- whether a number has a bit
+abbrev pub has_bit : ℕ → ℕ → Bool
+has_bit number bit = number / bit % 2 == 1
+
+-- the bit of an algorithm among algorithms
+abbrev pub bit_of : IntegrityAlgorithm → ℕ
+bit_of Sha1 = 1
+bit_of Sha256 = 2
+bit_of Sha512 = 4
+
+-- some algorithms, or others where there are none
+abbrev pub or_others : List IntegrityAlgorithm → List IntegrityAlgorithm → List IntegrityAlgorithm
+or_others [] others = others
+or_others (some ∷ rest) _ = some ∷ rest
+
+-- what is supported by the bits of algorithms, the weaker first: at first HMAC-SHA1
+unfoldable pub algorithms_of : ℕ → List IntegrityAlgorithm → List IntegrityAlgorithm
+algorithms_of bits first = or_others (filter (λ algorithm. has_bit bits (bit_of algorithm)) all_algorithms) first
+
+-- whether the name is hidden: at first where the server can
+abbrev pub anonymous_of : ℕ → Feature → Feature
+anonymous_of number first = if number == 1 then Required else if number == 2 then Disabled else first
+
+abbrev pub millisecond : ℕ
+millisecond = 1_000_000
+
+-- how long requests wait: as at first, where nothing is told
+abbrev pub waits_of : TurnSettings → Waits → Waits
+waits_of s first = if s.sends == 0 then first else record {
+  initial = s.first_wait * millisecond;
+  most = Some (s.most_wait * millisecond);
+  retransmits = s.sends;
+  final = s.last_wait * millisecond;
+}
+
+-- the settings of a client of a user, whose allocation is over a transport
+abbrev pub config_of : TurnSettings → TransportType → NameAndPassword → Config
+config_of s peers user = record (default_config user) {
+  transport = peers;
+  families = families_of s.families (default_config user).families;
+  algorithms = algorithms_of s.integrity (default_config user).algorithms;
+  anonymous_username = anonymous_of s.anonymous (default_config user).anonymous_username;
+  waits = waits_of s (default_config user).waits;
+}

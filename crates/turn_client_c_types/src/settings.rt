@@ -1,0 +1,206 @@
+//! The settings of a client, as C tells them.
+
+ghost use Rattle.std.specs.Prelude.{◌≡◌, ◌<◌, IfOk, IfSome};
+ghost use Rattle.stun_types_base.specs.declared.transport.TransportType.TheVariants.{Udp};
+ghost use Rattle.turn_client_c_types.specs.Settings.{algorithms_of, anonymous_of, config_of, families_of, has_bit, transport_set, transports_of, waits_of};
+
+use crate::address::{TurnAddress, transport_of};
+use std::alloc::Global;
+use std::time::Duration;
+use stun_proto_auth::feature::Feature;
+use stun_types_base::family::AddressFamily;
+use stun_types_base::memory::NoMemory;
+use stun_types_base::transport::TransportType;
+use stun_types_wire::algorithm::IntegrityAlgorithm;
+use turn_client_proto_api::config::TurnConfig;
+use turn_types_attributes::credentials::TurnCredentials;
+
+/// The bit of IPv6 among families.
+const FAMILY_IPV6: u32 = 2;
+
+/// The bits of both families.
+const BOTH_FAMILIES: u32 = 3;
+
+/// The bit of HMAC-SHA1 among algorithms.
+const INTEGRITY_SHA1: u32 = 1;
+
+/// The bit of HMAC-SHA256 among algorithms.
+const INTEGRITY_SHA256: u32 = 2;
+
+/// The bit of HMAC-SHA512 among algorithms.
+const INTEGRITY_SHA512: u32 = 4;
+
+/// The bits of all algorithms.
+const ALL_INTEGRITY: u32 = 7;
+
+/// The name is always hidden.
+const ANONYMOUS_REQUIRED: u32 = 1;
+
+/// The name is never hidden.
+const ANONYMOUS_DISABLED: u32 = 2;
+
+/// The settings of a client. A number that is zero leaves what a new client has.
+#[repr(C)]
+#[derive(Clone, Copy)]
+pub struct TurnSettings {
+    /// The client's own address.
+    pub local: TurnAddress,
+    /// The server's address.
+    pub server: TurnAddress,
+    /// The transport to the server, by its number in IP; 0 is UDP.
+    pub transport: u32,
+    /// The transport between the server and the peers; 0 is UDP. TCP only over TCP.
+    pub peers: u32,
+    /// The families of the relayed addresses that are asked for, as bits: 1 is IPv4, 2 is IPv6.
+    pub families: u32,
+    /// The integrity algorithms that are supported, as bits: 1 is HMAC-SHA1, 2 is HMAC-SHA256, 4 is
+    /// HMAC-SHA512.
+    pub integrity: u32,
+    /// Whether the name is hidden: 0 where the server can, 1 always, 2 never.
+    pub anonymous: u32,
+    /// How often a request is sent in all.
+    pub sends: u32,
+    /// The wait behind the first, in milliseconds; each next one is twice as long.
+    pub first_wait: u32,
+    /// The longest wait between two, in milliseconds.
+    pub most_wait: u32,
+    /// The wait behind the last, in milliseconds.
+    pub last_wait: u32,
+}
+
+/// The seed of a client's numbers.
+#[repr(C)]
+#[derive(Clone, Copy)]
+pub struct TurnSeed {
+    /// Its bytes.
+    pub bytes: [u8; 32],
+}
+
+/// The transport of a number in IP, where it is UDP's or TCP's; 0 is UDP.
+fn transport_set(number: u32) -> Option<TransportType>
+    ensures { result ≡ transport_set number }
+{
+    if number == 0 {
+        Some(TransportType::Udp)
+    } else {
+        transport_of(number)
+    }
+}
+
+/// Whether a number has a bit: that is a power of two.
+fn has_bit(number: u32, bit: u32) -> bool
+    requires { 0 < bit }
+    ensures { result ≡ has_bit number bit }
+{
+    number / bit % 2 == 1
+}
+
+impl TurnSettings {
+    /// The transports to the server and between that and the peers, where each number of the settings names
+    /// something, and over UDP the peers' is UDP.
+    #[tactic(auto, unfolding(crate::specs::Settings::transports_of))]
+    pub fn transports(&self) -> Option<(TransportType, TransportType)>
+        ensures value { result ≡ transports_of self.now }
+        ensures over_udp { IfSome result (λ both. both.0 ≡ Udp → both.1 ≡ Udp) }
+    {
+        if self.families > BOTH_FAMILIES
+            || self.integrity > ALL_INTEGRITY
+            || self.anonymous > ANONYMOUS_DISABLED
+        {
+            return None;
+        }
+        match (transport_set(self.transport)?, transport_set(self.peers)?) {
+            (TransportType::Udp, TransportType::Udp) => Some((
+                TransportType::Udp,
+                TransportType::Udp,
+            )),
+            (TransportType::Udp, TransportType::Tcp) => None,
+            (TransportType::Tcp, peers) => Some((TransportType::Tcp, peers)),
+        }
+    }
+
+    /// The settings of a client of this user, whose allocation is over a transport.
+    pub fn config(
+        &self,
+        alloc: Global,
+        username: &str,
+        password: &str,
+        peers: TransportType,
+    ) -> Result<TurnConfig, NoMemory>
+        ensures { IfOk result (λ config. config
+            ≡ config_of self.now peers
+            (record { username = username.now; password = password.now })) }
+    {
+        let mut config = TurnConfig::new(TurnCredentials::new(alloc, username, password)?);
+        config.set_allocation_transport(peers);
+        self.set_families(&mut config);
+        self.set_integrity(&mut config);
+        self.set_anonymous(&mut config);
+        self.set_waits(&mut config);
+        Ok(config)
+    }
+
+    /// Sets the families.
+    fn set_families(&self, config: &mut TurnConfig)
+        ensures { config.new ≡ record config.old {
+          families = families_of self.now.families config.old.families;
+        } }
+    {
+        if self.families == FAMILY_IPV6 {
+            config.set_address_family(AddressFamily::IPV6);
+        } else if self.families == BOTH_FAMILIES {
+            config.add_address_family(AddressFamily::IPV6);
+        }
+    }
+
+    /// Sets the algorithms: the weakest whose bit is set, and those behind it.
+    #[tactic(auto, unfolding(crate::specs::Settings::algorithms_of))]
+    fn set_integrity(&self, config: &mut TurnConfig)
+        ensures { config.new ≡ record config.old {
+          algorithms = algorithms_of self.now.integrity config.old.algorithms;
+        } }
+    {
+        let by_sha256 = has_bit(self.integrity, INTEGRITY_SHA256);
+        let by_sha512 = has_bit(self.integrity, INTEGRITY_SHA512);
+        if has_bit(self.integrity, INTEGRITY_SHA1) {
+            config.set_supported_integrity(IntegrityAlgorithm::Sha1);
+        } else if by_sha256 {
+            config.set_supported_integrity(IntegrityAlgorithm::Sha256);
+        } else if by_sha512 {
+            config.set_supported_integrity(IntegrityAlgorithm::Sha512);
+        }
+        if by_sha256 {
+            config.add_supported_integrity(IntegrityAlgorithm::Sha256);
+        }
+        if by_sha512 {
+            config.add_supported_integrity(IntegrityAlgorithm::Sha512);
+        }
+    }
+
+    /// Sets whether the name is hidden.
+    fn set_anonymous(&self, config: &mut TurnConfig)
+        ensures { config.new ≡ record config.old {
+          anonymous_username = anonymous_of self.now.anonymous config.old.anonymous_username;
+        } }
+    {
+        if self.anonymous == ANONYMOUS_REQUIRED {
+            config.set_anonymous_username(Feature::Required);
+        } else if self.anonymous == ANONYMOUS_DISABLED {
+            config.set_anonymous_username(Feature::Disabled);
+        }
+    }
+
+    /// Sets the waits, where one is told.
+    fn set_waits(&self, config: &mut TurnConfig)
+        ensures { config.new ≡ record config.old { waits = waits_of self.now config.old.waits } }
+    {
+        if self.sends != 0 {
+            config.set_request_retransmits(
+                Duration::from_millis(u64::from(self.first_wait)),
+                Duration::from_millis(u64::from(self.most_wait)),
+                self.sends,
+                Duration::from_millis(u64::from(self.last_wait)),
+            );
+        }
+    }
+}

@@ -1,9 +1,0 @@
-use Rattle.std.proofs.Common.{take}
-use Rattle.std.specs.List.{list_any}
-use Rattle.turn_client_proto_channel.specs.Numbers.{AreMarked, protects}
-use Rattle.turn_client_proto_channel.proofs.free.mark_protected.Given as goal
-
--- the numbers of those so far are marked
-abbrev pub invariant-loop-channel : goal.invariant-loop-channel
-invariant-loop-channel l =
-    AreMarked (λ n. list_any (protects n l.now) (take l.channel-index l.lapsed)) l.fn.marks l.marks

@@ -1,8 +1,0 @@
-use Rattle.std.proofs.Common.{take}
-use Rattle.std.specs.List.{list_any}
-use Rattle.turn_client_proto_channel.specs.Numbers.{AreMarked, is_numbered}
-use Rattle.turn_client_proto_channel.proofs.free.mark_standing.Given as goal
-
--- the numbers of those so far are marked
-abbrev pub invariant-loop-channel : goal.invariant-loop-channel
-invariant-loop-channel l = AreMarked (λ n. list_any (is_numbered n) (take l.channel-index l.channels)) l.fn.marks l.marks

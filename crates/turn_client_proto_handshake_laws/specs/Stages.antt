@@ -1,0 +1,144 @@
+-- The stages of a client in a handshake, each by what the client keeps there (RFC 8489, sections 9.2.3 and 9.2.5; RFC
+-- 8656, sections 7.1, 7.3 and 7.4).
+use Rattle.std.specs.Prelude.{◌≡◌, ℕ, List, [], ◌∷◌, map, Some, None}
+use Rattle.std.specs.FinMap as finite
+use Rattle.std.specs.declared.net.socket_addr.SocketAddr.{SocketAddr}
+use Rattle.turn_client_proto_api.specs.StunTypesWire.Attributes.{kind_at}
+use Rattle.stun_types_base.specs.Family.{family_of_socket}
+use Rattle.turn_client_proto_api.specs.StunTypesWire.Grammar.{number_at}
+use Rattle.turn_client_proto_api.specs.StunTypesWire.declared.class.MessageClass.TheVariants.{Success}
+use Rattle.turn_client_proto_api.specs.StunTypesWire.Types.{class_of}
+use Rattle.turn_client_proto_messages.specs.StunProtoClient.Client.{standing_key}
+use Rattle.turn_client_proto_messages.specs.StunProtoClient.ClientValidation.{going_by}
+use Rattle.turn_client_proto_messages.specs.StunProtoClient.Digests.{IsRight}
+use Rattle.turn_client_proto_messages.specs.Allocation.Listed.{relayed_shown}
+use Rattle.turn_client_proto_messages.specs.Allocation.Refreshing.{granted}
+use Rattle.turn_client_proto_api.specs.declared.answer.TurnPollRet.{TurnPollRet}
+use Rattle.turn_client_proto_api.specs.declared.answer.TurnPollRet.TheVariants as answer
+use Rattle.turn_client_proto_api.specs.declared.event.TurnEvent.{TurnEvent}
+use Rattle.turn_client_proto_api.specs.declared.event.TurnEvent.TheVariants.{AllocationCreated}
+use Rattle.turn_client_proto_api.specs.declared.event.TurnEvent.TheVariants.{AllocationCreateFailed}
+use Rattle.turn_client_proto_core.specs.Asking.{queued_request}
+use Rattle.turn_client_proto_messages.specs.Waiting.{Queued}
+use Rattle.turn_client_proto_core.specs.declared.protocol.Phase.TheVariants.{InitialSent, Authenticating}
+use Rattle.turn_client_proto_core.specs.declared.protocol.Phase.TheVariants.{Authenticated, Ended}
+use Rattle.turn_client_proto_core.specs.declared.protocol.Protocol.{Protocol}
+use Rattle.turn_client_proto_messages.specs.Judging.{signer_of}
+use Rattle.turn_client_proto_messages.specs.Told.{lifetime_told, relayed_told}
+use Rattle.turn_client_proto_handshake_laws.specs.Asked.{Asked, IsOnlyAsked}
+use Rattle.turn_client_proto_handshake_laws.specs.Choosing.{Choice, IsChoice, signed_asked, signed_request}
+use Rattle.turn_client_proto_handshake_laws.specs.Choosing.{signer_by, standing_by}
+use Rattle.turn_client_proto_handshake_laws.specs.Sent.{Beginning, first_number, first_request}
+
+-- ---- what no stage changes
+
+-- the server, the client's own address and transport, its waits, and what it asks for; it has not failed
+pub record IsOf (b : Beginning) (p : Protocol) : Type 0 where
+  pub server : p.server ≡ b.server
+  pub remote : p.agent.remote ≡ Some b.server
+  pub transport : p.agent.transport ≡ b.transport
+  pub here : p.agent.here ≡ b.here
+  pub waits : p.agent.waits ≡ b.config.waits
+  pub allocates : p.allocates ≡ b.config.transport
+  pub families : p.families ≡ b.config.families
+
+-- ---- the first ALLOCATE is sent
+
+abbrev pub first_asked : Beginning → Asked
+first_asked b = record { number = first_number b; bytes = first_request b; made = b.made }
+
+-- it is outstanding, and was sent so often, the last time at this moment; nothing waits to be sent or told
+pub record IsAsking (b : Beginning) (many last : ℕ) (p : Protocol) : Type 0 where
+  pub settings : IsOf b p
+  pub asked : IsOnlyAsked b (first_asked b) many p.agent
+  pub phase : p.phase ≡ InitialSent (first_number b ∷ [])
+  pub auth : p.auth ≡ signer_of b.config
+  pub allocations : p.allocations ≡ []
+  pub queue : p.queue ≡ []
+  pub last_send : p.last_send ≡ Some last
+  pub events : p.events ≡ []
+  pub closing : p.closing ≡ []
+  pub resends : p.resends ≡ 0
+
+-- ---- a challenge was answered
+
+-- the signed ALLOCATE is outstanding, and no other request; this waits to be sent, and nothing to be told
+pub record IsSigning (b : Beginning) (c : Choice) (many last : ℕ) (queue : List Queued) (p : Protocol) : Type 0 where
+  pub settings : IsOf b p
+  pub choice : IsChoice b c
+  pub asked : IsOnlyAsked b (signed_asked b c) many p.agent
+  pub phase : p.phase ≡ Authenticating (first_number b ∷ c.number ∷ [])
+  pub auth : p.auth ≡ signer_by b c
+  pub allocations : p.allocations ≡ []
+  pub queue_is : p.queue ≡ queue
+  pub last_send : p.last_send ≡ Some last
+  pub events : p.events ≡ []
+  pub closing : p.closing ≡ []
+  pub resends : p.resends ≡ 1
+
+-- the signed ALLOCATE, as it waits
+abbrev pub signed_queued : Beginning → Choice → Queued
+signed_queued b c = queued_request b.here (signed_request b c)
+
+-- it waits to be sent. It counts as sent once from the start, and with short waits may be sent again before that
+abbrev pub HasChosen : Beginning → Choice → (many last : ℕ) → Protocol → Type 0
+HasChosen b c many last p = IsSigning b c many last (signed_queued b c ∷ []) p
+
+-- it was sent, and nothing waits
+abbrev pub HasSigned : Beginning → Choice → (many last : ℕ) → Protocol → Type 0
+HasSigned b c many last p = IsSigning b c many last [] p
+
+-- ---- the server has allocated
+
+-- a message is the success of the signed ALLOCATE, right under the key of the credentials, with this relayed address
+-- alone, and this lifetime in seconds
+pub record IsGrant (b : Beginning) (c : Choice) (address : SocketAddr) (lifetime : ℕ) (bytes : List ℕ) : Type 0 where
+  pub number : number_at bytes ≡ c.number
+  pub success : class_of (kind_at bytes) ≡ Success
+  pub right : IsRight bytes (standing_key (standing_by b c))
+  pub relayed : relayed_told bytes ≡ address ∷ []
+  pub lifetime_is : lifetime_told bytes ≡ Some lifetime
+
+-- an address of the family of this one is asked for, and of no other
+abbrev pub AsksForOne : Beginning → SocketAddr → Type 0
+AsksForOne b address = b.config.families ≡ family_of_socket address ∷ []
+
+-- the client holds that allocation alone, for that lifetime from a moment on; no request is outstanding, this waits to
+-- be sent, and these events to be told
+pub record Holds (b : Beginning) (c : Choice) (address : SocketAddr) (lifetime now last : ℕ) (queue : List Queued)
+    (events : List TurnEvent) (p : Protocol) : Type 0 where
+  pub settings : IsOf b p
+  pub none_asked : (number : ℕ) → finite.get p.agent.outstanding number ≡ None
+  pub phase : p.phase ≡ Authenticated
+  pub auth : p.auth ≡ going_by (signer_by b c) (Some c.algorithm)
+  pub allocations : p.allocations ≡ granted b.config.transport address lifetime now ∷ []
+  pub shown : relayed_shown p.allocations ≡ (b.config.transport, address) ∷ []
+  pub queue_is : p.queue ≡ queue
+  pub last_send : p.last_send ≡ Some last
+  pub events_are : p.events ≡ events
+  pub closing : p.closing ≡ []
+  pub resends : p.resends ≡ 0
+
+-- what is told of it
+abbrev pub created : Beginning → SocketAddr → List TurnEvent
+created b address = AllocationCreated b.config.transport address ∷ []
+
+-- ---- the end
+
+-- of each family in order that no address was allocated
+abbrev pub failures : Beginning → List TurnEvent
+failures b = map AllocationCreateFailed b.config.families
+
+-- the client has ended: it holds nothing, awaits nothing, sends nothing more, and these events wait to be told
+pub record HasEnded (b : Beginning) (events : List TurnEvent) (p : Protocol) : Type 0 where
+  pub settings : IsOf b p
+  pub none_asked : (number : ℕ) → finite.get p.agent.outstanding number ≡ None
+  pub phase : p.phase ≡ Ended
+  pub allocations : p.allocations ≡ []
+  pub queue : p.queue ≡ []
+  pub events_are : p.events ≡ events
+
+-- the answer to a poll then: at once to be polled again while an event waits, and closed once none does
+abbrev pub answer_at_end : List TurnEvent → (now : ℕ) → TurnPollRet
+answer_at_end [] now = answer.Closed
+answer_at_end (e ∷ events) now = answer.WaitUntil now

@@ -1,0 +1,122 @@
+//! A driver of a client to which nothing comes.
+
+ghost use Rattle.std.specs.Prelude.{◌≡◌, ◌≢◌, ◌⊎◌, ◌≤◌, ◌^◌, ℕ, length, IfNone, IfSome};
+ghost use Rattle.turn_client_proto_api.specs.StunProtoTransaction.Schedule.{end_at};
+ghost use Rattle.turn_client_proto_api.specs.StunTypesWire.Registry.{longest_username};
+ghost use Rattle.turn_client_proto_core.specs.Beginning.{IsNew};
+ghost use Rattle.turn_client_proto_core.specs.declared.protocol.Protocol.{Protocol};
+ghost use Rattle.turn_client_proto_handshake_laws.specs.Driving.{HasStopped, IsDrivenBy, IsStep};
+ghost use Rattle.turn_client_proto_handshake_laws.specs.declared.driving.Stage.TheVariants.{Astray, Drawing, Over, Polling};
+
+use crate::unanswered::unanswered_clients_end;
+use std::alloc::Global;
+use std::net::SocketAddr;
+use stun_types_base::instant::Instant;
+use stun_types_base::memory::NoMemory;
+use stun_types_base::transport::TransportType;
+use turn_client_proto_api::answer::TurnPollRet;
+use turn_client_proto_api::config::TurnConfig;
+use turn_client_proto_core::protocol::Protocol;
+use turn_client_proto_messages::laws::requests_are_lawful;
+use turn_client_proto_messages::request::TurnRequest;
+use turn_client_proto_timers::drawing::poll_transmit;
+use turn_client_proto_timers::polling::poll;
+
+/// The greatest moment of a call of a client, in nanoseconds.
+const CLIENT_END: u64 = 1 << 62;
+
+/// What the driver of a client does next.
+#[derive(Debug, Drop, PartialEq, Eq)]
+pub enum Stage {
+    /// It asks for what is to be sent at this moment.
+    Drawing(Instant),
+    /// There was nothing more: it polls.
+    Polling(Instant),
+    /// The client was closed at this moment: it takes the events, and nothing more.
+    Over(Instant),
+    /// Memory was refused at this moment: the same.
+    Failed(Instant),
+    /// It is asked to open a socket or to close one, and has none.
+    Astray,
+}
+
+/// Makes a client, and drives it from a moment on. Where it is closed, it is so at the end of the schedule of its
+/// settings, by [`unanswered_clients_end`], and it never asks for a socket.
+pub fn drive_new(
+    alloc: Global,
+    transport: TransportType,
+    local: SocketAddr,
+    remote: SocketAddr,
+    config: TurnConfig,
+    seed: [u8; 32],
+    made: Instant,
+    calls: u32,
+) -> (Protocol, Stage)
+    requires { length config.credentials.username ≤ longest_username }
+    ensures driven { (old : Protocol) × (many : ℕ)
+        × IsNew transport local remote config seed old
+        × IsDrivenBy many (Drawing made) old result.1 result.0
+        × ((many ≡ calls) ⊎ HasStopped result.1) }
+    ensures closed { (now : ℕ) → result.1 ≡ Over now → now ≡ end_at made config.waits }
+    ensures found { result.1 ≢ Astray }
+{
+    unanswered_clients_end();
+    let allocates = config.allocation_transport();
+    requests_are_lawful(&TurnRequest::FirstAllocate(allocates, config.requested_families()));
+    let mut client = Protocol::new(alloc, transport, local, remote, config, seed);
+    let stage = drive(&mut client, made, calls);
+    (client, stage)
+}
+
+/// Drives a client from a moment on, by so many calls, or until there is nothing more to do.
+pub fn drive(client: &mut Protocol, made: Instant, calls: u32) -> Stage
+    ensures { (many : ℕ) × (many ≤ calls)
+        × IsDrivenBy many (Drawing made) client.old result client.new
+        × ((many ≡ calls) ⊎ HasStopped result) }
+{
+    let mut stage = Stage::Drawing(made);
+    for _ in 0..calls {
+        let Some(next) = go_on(client, &stage) else {
+            return stage;
+        };
+        stage = next;
+    }
+    stage
+}
+
+/// Does what comes next at a stage, where something does.
+fn go_on(client: &mut Protocol, stage: &Stage) -> Option<Stage>
+    ensures some { IfSome result (λ next. IsStep stage.now client.old next client.new) }
+    ensures none { IfNone result (HasStopped stage.now × (client.new ≡ client.old)) }
+{
+    match *stage {
+        Stage::Drawing(now) if now.as_nanos() <= CLIENT_END => Some(draw(client, now)),
+        Stage::Polling(now) if now.as_nanos() <= CLIENT_END => Some(ask(client, now)),
+        _ => None,
+    }
+}
+
+/// Asks for what is to be sent at a moment.
+fn draw(client: &mut Protocol, now: Instant) -> Stage
+    requires { now ≤ 2 ^ 62 }
+    ensures { IsStep (Drawing now) client.old result client.new }
+{
+    match poll_transmit(client, now) {
+        Ok(Some(_)) => Stage::Drawing(now),
+        Ok(None) => Stage::Polling(now),
+        Err(NoMemory) => Stage::Failed(now),
+    }
+}
+
+/// Polls the client at a moment.
+fn ask(client: &mut Protocol, now: Instant) -> Stage
+    requires { now ≤ 2 ^ 62 }
+    ensures { IsStep (Polling now) client.old result client.new }
+{
+    match poll(client, now) {
+        TurnPollRet::WaitUntil(moment) => Stage::Drawing(moment),
+        TurnPollRet::AllocateTcpSocket { .. } | TurnPollRet::TcpClose { .. } => Stage::Astray,
+        TurnPollRet::Closed => Stage::Over(now),
+        TurnPollRet::NoMemory => Stage::Failed(now),
+    }
+}

@@ -1,0 +1,119 @@
+-- The texts of a client can be read: a challenge tells none that can't.
+use Rattle.std.specs.Prelude.{IfSome, MatchResult, Result, Ok, Err}
+use Rattle.std.proofs.Common.{◌≡◌, ℕ, Bool, true, false, eqb, if◌then◌else◌, List, Option, Some, None, refl, subst, inl, inr}
+use Rattle.std.proofs.lemmas.Bool.{cases_Bool}
+use Rattle.stun_types_write.specs.Adding.{attr_of}
+use Rattle.stun_types_wire.specs.Attributes.{Attr}
+use Rattle.stun_types_attributes.specs.AuthAttributes.Entries.{algorithms_read_refusal}
+use Rattle.stun_types_wire.specs.Grammar.{shown}
+use Rattle.stun_types_wire.specs.declared.algorithm.IntegrityAlgorithm.{IntegrityAlgorithm}
+use Rattle.stun_types_wire.specs.declared.error.StunParseError.{StunParseError}
+use Rattle.stun_types_wire.specs.RawBytes.{type_and_len_refusal}
+use Rattle.stun_types_wire.specs.Registry.{longest_text, nonce_kind, password_algorithms_kind, realm_kind}
+use Rattle.stun_types_write.specs.ValueReading.{text_read_refusal, utf8_refusal}
+use Rattle.stun_proto_auth.specs.Claims.{algorithms_told, claimed, last_of_kind, text_told, unless_refused}
+use Rattle.stun_proto_client.specs.Challenges.{Told, asks_again, challenge_shown, told_by, told_of}
+use Rattle.stun_proto_client.specs.Client.{Client}
+use Rattle.stun_proto_client.specs.ClientValidation.{IsTaken, IsTurnedDown, keeping}
+use Rattle.stun_proto_client.specs.declared.error.LongTermClientAuthError.{LongTermClientAuthError}
+use Rattle.stun_proto_client.specs.declared.error.LongTermClientAuthError.TheVariants.{Unauthorized, IntegrityFailed, UnsupportedFeature, NoMemory}
+use Rattle.stun_proto_client.specs.declared.validation.LongTermClientValidation.{LongTermClientValidation}
+use Rattle.stun_proto_client.specs.declared.validation.LongTermClientValidation.TheVariants.{ResendRequest, Validated}
+use Rattle.turn_client_proto_messages.specs.ReadTexts.{HasReadTexts}
+use Rattle.turn_client_proto_messages.proofs.Short.{or_second, same_told}
+
+-- ---- what is told can be read
+
+-- a text in UTF-8, and a list of known algorithms
+abbrev IsText : List ℕ → Type 0
+IsText text = utf8_refusal text ≡ None
+
+abbrev IsKnownList : List ℕ → Type 0
+IsKnownList list = algorithms_read_refusal (attr_of password_algorithms_kind list) ≡ None
+
+text_reads : (kind most : ℕ) (a : Attr) → text_read_refusal kind most a ≡ None → IsText a.value
+unfolding text_read_refusal
+text_reads kind most a h = or_second _ _ h
+
+list_reads : (a : Attr) → algorithms_read_refusal a ≡ None → IsKnownList a.value
+unfolding algorithms_read_refusal type_and_len_refusal
+list_reads a h =
+    elim (cases_Bool (eqb a.kind password_algorithms_kind)) [
+      | inl same ↦ rw same at h
+      | inr other ↦ absurd (let p = rw other at h in cc)
+    ]
+
+unless_reads : (P : List ℕ → Type 0) (refused : Option StunParseError) (value : List ℕ) → (refused ≡ None → P value) → IfSome (unless_refused refused value) P
+unless_reads P None value h = h refl
+unless_reads P (Some e) value h = tt
+
+text_told_reads : (kind most : ℕ) (a : Option Attr) → IfSome (text_told kind most a) IsText
+unfolding text_told
+text_told_reads kind most None = tt
+text_told_reads kind most (Some a) = unless_reads IsText (text_read_refusal kind most a) a.value (text_reads kind most a)
+
+list_told_reads : (a : Option Attr) → IfSome (algorithms_told a) IsKnownList
+unfolding algorithms_told
+list_told_reads None = tt
+list_told_reads (Some a) = unless_reads IsKnownList (algorithms_read_refusal a) a.value (list_reads a)
+
+-- ---- a challenge
+
+-- what a challenge tells can be read
+record IsReadTold (told : Told) : Type 0 where
+  realm : IsText told.realm
+  nonce : IsText told.nonce
+  offered : IfSome told.offered IsKnownList
+
+list_counts : (list : Option (List ℕ)) (counts : Bool) → IfSome list IsKnownList → IfSome (if counts then list else None) IsKnownList
+list_counts list true reads = reads
+list_counts list false reads = tt
+
+told_reads : (realm nonce list : Option (List ℕ)) (told : Told) → IfSome realm IsText → IfSome nonce IsText → IfSome list IsKnownList → told_by realm nonce list ≡ Some told → IsReadTold told
+told_reads None _ list told r n l is = absurd (Prim.cc is)
+told_reads (Some realm) None list told r n l is = absurd (Prim.cc is)
+told_reads (Some realm) (Some nonce) list told r n l is =
+    subst IsReadTold (same_told is) (record { realm = r; nonce = n; offered = list_counts list _ l })
+
+challenge_reads : (bytes : List ℕ) (told : Told) → challenge_shown bytes ≡ Some told → IsReadTold told
+challenge_reads bytes told is = by (asks_again bytes) is
+  where
+    by : (asks : Bool) → (if asks then told_of (claimed bytes) else None) ≡ Some told → IsReadTold told
+    by true h =
+        told_reads (claimed bytes).realm (claimed bytes).nonce (claimed bytes).algorithms told
+        (text_told_reads realm_kind longest_text (last_of_kind realm_kind (shown bytes)))
+        (text_told_reads nonce_kind longest_text (last_of_kind nonce_kind (shown bytes)))
+        (list_told_reads (last_of_kind password_algorithms_kind (shown bytes))) h
+    by false h = absurd (Prim.cc h)
+
+-- ---- a validation
+
+kept_reads : (old new : Client) (told : Told) (choice : IntegrityAlgorithm) → new ≡ keeping old told choice → IsReadTold told → HasReadTexts old → HasReadTexts new
+kept_reads old new told choice is reads own = rw is (record {
+  username = own.username;
+  challenge = record { realm = reads.realm; nonce = reads.nonce; offered = reads.offered };
+})
+
+going_reads : (old new : Client) (by : Option IntegrityAlgorithm) → new ≡ record old { integrity = by } → HasReadTexts old → HasReadTexts new
+going_reads old new by is own = rw is (record { username = own.username; challenge = own.challenge })
+
+same_reads : (old new : Client) → new ≡ old → HasReadTexts old → HasReadTexts new
+same_reads old new is own = rw is own
+
+taken_reads : (old : Client) (bytes : List ℕ) (answer : LongTermClientValidation) (new : Client) → IsTaken old bytes answer new → HasReadTexts old → HasReadTexts new
+taken_reads old bytes (ResendRequest choice) new taken own = kept_reads old new taken.told choice taken.kept (challenge_reads bytes taken.told taken.shown) own
+taken_reads old bytes (Validated algorithm) new taken own = going_reads old new (Some algorithm) taken.kept own
+
+turned_reads : (old : Client) (bytes : List ℕ) (error : LongTermClientAuthError) (new : Client) → IsTurnedDown old bytes error new → HasReadTexts old → HasReadTexts new
+turned_reads old bytes Unauthorized new down own = going_reads old new None down.kept own
+turned_reads old bytes (IntegrityFailed algorithm) new down own = going_reads old new (Some down.standing.challenge.choice) down.kept own
+turned_reads old bytes UnsupportedFeature new down own = same_reads old new down.unchanged own
+turned_reads old bytes NoMemory new down own = same_reads old new down.unchanged own
+
+pub stay_readable : (old new : Client) (bytes : List ℕ) (result : Result LongTermClientValidation LongTermClientAuthError)
+    → MatchResult result (λ answer. IsTaken old bytes answer new) (λ error. IsTurnedDown old bytes error new) → HasReadTexts old → HasReadTexts new
+stay_readable old new bytes (Ok answer) outcome own = taken_reads old bytes answer new outcome own
+stay_readable old new bytes (Err error) outcome own = turned_reads old bytes error new outcome own
+
+pub fresh_readable : (client : Client) → client.challenge ≡ None → IfSome client.account (λ account. utf8_refusal account.username ≡ None) → HasReadTexts client
+fresh_readable client none reads = record { username = reads; challenge = rw none tt }

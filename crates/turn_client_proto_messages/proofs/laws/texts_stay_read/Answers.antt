@@ -1,0 +1,8 @@
+use Rattle.turn_client_proto_messages.proofs.Readable.{fresh_readable, stay_readable}
+use Rattle.turn_client_proto_messages.proofs.laws.texts_stay_read.Goals as goal
+
+pub returns-clause-stay : goal.returns-clause-stay
+returns-clause-stay c = λ old new bytes result outcome own. stay_readable old new bytes result outcome own
+
+pub returns-clause-fresh : goal.returns-clause-fresh
+returns-clause-fresh c = λ client none reads. fresh_readable client none reads

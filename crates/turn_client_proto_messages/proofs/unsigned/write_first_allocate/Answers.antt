@@ -1,0 +1,14 @@
+use Rattle.std.proofs.Common.{[]}
+use Rattle.stun_types_wire.specs.declared.class.MessageClass.TheVariants.{Request}
+use Rattle.stun_types_wire.specs.Types.{type_of}
+use Rattle.turn_types_attributes.specs.TurnRegistry.{allocate_method}
+use Rattle.turn_client_proto_messages.proofs.unsigned.write_first_allocate.Goals as goal
+
+pub returns-clause-request : goal.returns-clause-request
+returns-clause-request c =
+    let kind = type_of Request allocate_method in
+    let number = c.args.number in
+    let one = c.in_ok-add_lifetime.ensures.behind kind number [] c.in_ok-first.ensures.unsigned in
+    let two = c.in_ok-add_transport.ensures.behind kind number _ one in
+    let three = c.in_ok-add_dont_fragment.ensures.behind kind number _ two in
+    c.in_ok-add_families.ensures.families.behind kind number _ three

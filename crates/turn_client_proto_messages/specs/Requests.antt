@@ -1,0 +1,136 @@
+-- The requests of a TURN client, as they are written (RFC 8656, sections 7.1, 8.1, 10.1 and 12.1; RFC
+-- 6062, sections 4.3 and 4.4).
+use Rattle.std.specs.Prelude.{ℕ, Bool, true, false, if◌then◌else◌, List, [], ◌∷◌, ◌++◌, map}
+use Rattle.std.specs.List.{flat_map}
+use Rattle.std.specs.declared.net.ip_addr.IpAddr.{IpAddr}
+use Rattle.std.specs.declared.net.ip_addr.IpAddr.TheVariants as Ip
+use Rattle.std.specs.declared.net.socket_addr.SocketAddr.{SocketAddr}
+use Rattle.std.specs.declared.net.socket_addr.SocketAddr.TheVariants as Socket
+use Rattle.byteorder.specs.Endian.{big_bytes}
+use Rattle.stun_types_attributes.specs.Addresses.{address_value}
+use Rattle.stun_types_wire.specs.Attributes.{Attr}
+use Rattle.stun_types_add.specs.Calls.{Add, Ordinary, attributes_of}
+use Rattle.stun_types_wire.specs.declared.class.MessageClass.TheVariants.{Request}
+use Rattle.stun_types_wire.specs.Text.{message_text}
+use Rattle.stun_types_wire.specs.Types.{type_of}
+use Rattle.stun_types_attributes.specs.Xor.{xored}
+use Rattle.stun_types_base.specs.declared.family.AddressFamily.{AddressFamily}
+use Rattle.stun_types_base.specs.declared.family.AddressFamily.TheVariants.{IPV4, IPV6}
+use Rattle.stun_types_base.specs.declared.transport.TransportType.{TransportType}
+use Rattle.stun_types_base.specs.declared.transport.TransportType.TheVariants.{Udp, Tcp}
+use Rattle.turn_types_attributes.specs.FamilyValues.{family_value}
+use Rattle.turn_types_attributes.specs.Transports.{transport_value}
+use Rattle.turn_types_peer.specs.PeerValues.{channel_value}
+use Rattle.turn_types_attributes.specs.TurnRegistry.{allocate_method, channel_bind_method, connect_method, connection_bind_method, create_permission_method, refresh_method}
+use Rattle.turn_types_attributes.specs.TurnRegistry.{additional_address_family_kind, channel_number_kind, connection_id_kind, dont_fragment_kind, lifetime_kind, requested_address_family_kind, requested_transport_kind, xor_peer_address_kind}
+use Rattle.turn_types_attributes.specs.TurnRegistry.{tcp_protocol, udp_protocol}
+use Rattle.stun_proto_auth.specs.Addition.{Addition, calls_of, no_addition}
+use Rattle.stun_proto_client.specs.Client as auth
+use Rattle.stun_proto_client.specs.ClientSigning.{addition_for}
+use Rattle.turn_client_proto_messages.specs.declared.request.TurnRequest.{TurnRequest}
+use Rattle.turn_client_proto_messages.specs.declared.request.TurnRequest.TheVariants.{FirstAllocate, Allocate, Refresh, CreatePermission, ChannelBind, Connect, ConnectionBind}
+
+-- ---- the type
+
+abbrev pub request_method : TurnRequest → ℕ
+request_method (FirstAllocate transport families) = allocate_method
+request_method (Allocate transport families) = allocate_method
+request_method (Refresh lifetime) = refresh_method
+request_method (CreatePermission ip) = create_permission_method
+request_method (ChannelBind channel peer) = channel_bind_method
+request_method (Connect peer) = connect_method
+request_method (ConnectionBind connection) = connection_bind_method
+
+abbrev pub request_type : TurnRequest → ℕ
+request_type request = type_of Request (request_method request)
+
+-- ---- single attributes
+
+-- for how many seconds a client asks for an allocation: half an hour
+abbrev pub allocation_lifetime : ℕ
+allocation_lifetime = 1800
+
+-- LIFETIME
+abbrev pub lifetime_attribute : ℕ → Attr
+lifetime_attribute seconds = record { kind = lifetime_kind; value = big_bytes 4 seconds }
+
+-- the number of a transport
+abbrev pub protocol_of : TransportType → ℕ
+protocol_of Udp = udp_protocol
+protocol_of Tcp = tcp_protocol
+
+-- REQUESTED-TRANSPORT
+abbrev pub transport_attribute : TransportType → Attr
+transport_attribute transport =
+    record { kind = requested_transport_kind; value = transport_value (protocol_of transport) }
+
+-- DONT-FRAGMENT, which has no value
+abbrev pub dont_fragment_attribute : Attr
+dont_fragment_attribute = record { kind = dont_fragment_kind; value = [] }
+
+-- ADDITIONAL-ADDRESS-FAMILY of a family other than IPv4, of which an address is given anyway
+abbrev pub additional_family : AddressFamily → List Attr
+additional_family IPV4 = []
+additional_family IPV6 = record { kind = additional_address_family_kind; value = family_value IPV6 } ∷ []
+
+-- REQUESTED-ADDRESS-FAMILY of a family that is asked for alone; without it, IPv4 is
+abbrev pub requested_family : AddressFamily → List Attr
+requested_family IPV4 = []
+requested_family IPV6 = record { kind = requested_address_family_kind; value = family_value IPV6 } ∷ []
+
+-- the families of the addresses that are asked for
+abbrev pub families_attributes : List AddressFamily → List Attr
+families_attributes [] = []
+families_attributes (family ∷ []) = requested_family family
+families_attributes (first ∷ second ∷ others) = flat_map additional_family (first ∷ second ∷ others)
+
+-- XOR-PEER-ADDRESS, in a message of this number
+abbrev pub peer_attribute : ℕ → SocketAddr → Attr
+peer_attribute number peer = record { kind = xor_peer_address_kind; value = xored number (address_value peer) }
+
+-- the peer of an IP, with a port that is not looked at (RFC 8656, section 10.1)
+abbrev pub peer_of : IpAddr → SocketAddr
+peer_of (Ip.V4 address) = Socket.V4 (record { ip = address; port = 0 })
+peer_of (Ip.V6 address) = Socket.V6 (record { ip = address; port = 0; flowinfo = 0; scope_id = 0 })
+
+-- CHANNEL-NUMBER
+abbrev pub channel_attribute : ℕ → Attr
+channel_attribute channel = record { kind = channel_number_kind; value = channel_value channel }
+
+-- CONNECTION-ID
+abbrev pub connection_attribute : ℕ → Attr
+connection_attribute connection = record { kind = connection_id_kind; value = big_bytes 4 connection }
+
+-- ---- all of them
+
+-- what a request of this number shows before it is signed
+abbrev pub request_attributes : TurnRequest → ℕ → List Attr
+request_attributes (FirstAllocate transport families) number =
+    lifetime_attribute allocation_lifetime ∷ transport_attribute transport ∷ dont_fragment_attribute
+    ∷ families_attributes families
+request_attributes (Allocate transport families) number =
+    transport_attribute transport ∷ lifetime_attribute allocation_lifetime ∷ families_attributes families
+request_attributes (Refresh lifetime) number = lifetime_attribute lifetime ∷ []
+request_attributes (CreatePermission ip) number = peer_attribute number (peer_of ip) ∷ []
+request_attributes (ChannelBind channel peer) number = channel_attribute channel ∷ peer_attribute number peer ∷ []
+request_attributes (Connect peer) number = peer_attribute number peer ∷ []
+request_attributes (ConnectionBind connection) number = connection_attribute connection ∷ []
+
+-- whether a request is signed: all but the first ALLOCATE
+abbrev pub is_signed : TurnRequest → Bool
+is_signed (FirstAllocate transport families) = false
+is_signed _ = true
+
+-- what the client's authenticator adds
+abbrev pub addition_of : auth.Client → TurnRequest → Addition
+addition_of client request = if is_signed request then addition_for client Request else no_addition
+
+-- the calls that make a request of its header
+abbrev pub request_calls : auth.Client → TurnRequest → ℕ → List Add
+request_calls client request number =
+    map Ordinary (request_attributes request number) ++ calls_of (addition_of client request)
+
+-- the text of a request
+unfoldable pub request_text : auth.Client → TurnRequest → ℕ → List ℕ
+request_text client request number = message_text (request_type request) number
+    (attributes_of (request_type request) number (request_calls client request number))

@@ -1,0 +1,119 @@
+//! The client's side of authentication, whose texts are short enough to be written.
+
+ghost use Rattle.std.specs.Prelude.{◌≡◌, ◌≢◌, ◌≤◌, [], IfOk, None, true, length};
+ghost use Rattle.std.specs.List.{IsDistinct};
+ghost use Rattle.stun_proto_auth.specs.SupportedAlgorithms.{is_same_algorithm};
+ghost use Rattle.stun_types_wire.specs.Grammar.{number_at, refusal};
+ghost use Rattle.turn_client_proto_api.specs.StunProtoAgent.Sending.{is_request};
+ghost use Rattle.stun_types_wire.specs.Registry.{longest_username};
+ghost use Rattle.turn_client_proto_messages.specs.Answers.{answer_text};
+ghost use Rattle.turn_client_proto_messages.specs.Requests.{request_text};
+ghost use Rattle.turn_client_proto_messages.specs.Judging.{IsJudged, signer_of};
+
+use crate::answer::{AttemptAnswer, write_answer};
+use crate::laws::{requests_are_lawful, requests_are_read, texts_stay_short};
+use crate::request::{TurnRequest, write_request};
+use std::alloc::Global;
+use std::marker::Model;
+use stun_proto_client::error::LongTermClientAuthError;
+use stun_proto_client::long_term::LongTermClientAuth;
+use stun_proto_client::validation::LongTermClientValidation;
+use stun_types_base::memory::NoMemory;
+use stun_types_integrity::credentials::LongTermCredentials;
+use stun_types_message::parsed::Message;
+use stun_types_wire::algorithm::IntegrityAlgorithm;
+use stun_types_wire::transaction::TransactionId;
+use turn_client_proto_api::config::TurnConfig;
+
+/// The client's side of long-term authentication. Its name, and the realm and the nonce of the
+/// challenge that it keeps, are no longer than their attributes may be, so that each request can be
+/// signed. Contracts see the record `Client` of `stun_proto`.
+#[derive(Debug, Drop)]
+pub struct Signer {
+    auth: LongTermClientAuth,
+}
+
+impl Model for Signer {
+    ghost use Rattle.stun_proto_client.specs.Client.{Client};
+    ghost use Rattle.turn_client_proto_messages.specs.ShortTexts.{HasShortTexts};
+
+    ghost Value = { Client };
+
+    ghost view = { λ s. s.auth };
+
+    ghost invariant = { λ s. HasShortTexts s.auth };
+}
+
+/// Supports these algorithms alone, in this order.
+fn set_algorithms(auth: &mut LongTermClientAuth, algorithms: &[IntegrityAlgorithm])
+    requires never_empty { algorithms.now ≢ [] }
+    requires distinct { IsDistinct is_same_algorithm algorithms.now }
+    ensures { auth.new ≡ record auth.old { algorithms = algorithms.now } }
+{
+    if let Some((first, others)) = algorithms.split_first() {
+        auth.set_supported_integrity(*first);
+        let mut left = others;
+        while let Some((algorithm, rest)) = left.split_first() {
+            auth.add_supported_integrity(*algorithm);
+            left = rest;
+        }
+    }
+}
+
+impl Signer {
+    /// The authenticator of a new client with these settings: it has the credentials and the algorithms
+    /// of the settings, hides its name as they say, and keeps no challenge.
+    pub fn new(alloc: Global, config: TurnConfig) -> Signer
+        requires { length config.credentials.username ≤ longest_username }
+        ensures { result ≡ signer_of config }
+    {
+        texts_stay_short();
+        let mut auth = LongTermClientAuth::new(alloc);
+        set_algorithms(&mut auth, config.supported_integrity());
+        auth.set_anonymous_username(config.anonymous_username());
+        auth.set_credentials(LongTermCredentials::from(config.into_credentials()));
+        Signer { auth }
+    }
+
+    /// Validates a message that came, as `LongTermClientAuth::validate_incoming_message` does.
+    pub fn validate_incoming_message(
+        &mut self,
+        message: &Message<'_>,
+    ) -> Result<LongTermClientValidation, LongTermClientAuthError>
+        ensures { IsJudged self.old message.now result self.new }
+    {
+        texts_stay_short();
+        self.auth.validate_incoming_message(message)
+    }
+
+    /// The bytes of a request of this number: a message of class request. Where memory is refused,
+    /// `NoMemory`.
+    pub fn write_request(
+        &self,
+        alloc: Global,
+        number: TransactionId,
+        request: TurnRequest,
+    ) -> Result<Vec<u8>, NoMemory>
+        ensures bytes { IfOk result (λ bytes.
+            bytes.items ≡ request_text self.now request number) }
+        ensures message { IfOk result (λ bytes. (refusal bytes.items ≡ None)
+            × (is_request bytes.items ≡ true) × (number_at bytes.items ≡ number)) }
+    {
+        requests_are_lawful(&request);
+        requests_are_read();
+        write_request(alloc, &self.auth, number, request)
+    }
+
+    /// The bytes of the answer to a CONNECTION_ATTEMPT of this number. Where memory is refused,
+    /// `NoMemory`.
+    pub fn write_answer(
+        &self,
+        alloc: Global,
+        number: TransactionId,
+        answer: AttemptAnswer,
+    ) -> Result<Vec<u8>, NoMemory>
+        ensures { IfOk result (λ bytes. bytes.items ≡ answer_text self.now answer number) }
+    {
+        write_answer(alloc, &self.auth, number, answer)
+    }
+}

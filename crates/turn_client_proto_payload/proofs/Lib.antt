@@ -1,0 +1,3 @@
+pub mod Last
+pub mod OfPeers
+pub mod Parts

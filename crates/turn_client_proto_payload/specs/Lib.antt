@@ -1,0 +1,3 @@
+pub mod OfPeers
+pub mod Payloads
+pub mod Sending

@@ -1,0 +1,32 @@
+-- The earliest of the moments at which permissions have something to do.
+use Rattle.std.proofs.Common.{◌≡◌, ℕ, List, [], ◌∷◌, ◌++◌, Option, fold, map, min, refl, sym, ap, ◌∙◌}
+use Rattle.std.specs.List.{flat_map}
+use Rattle.turn_client_proto_allocation.specs.StunProtoTransaction.Least.{IsLeastOf}
+use Rattle.turn_client_proto_allocation.proofs.StunProtoTransaction.Leasts.{least_is, least_of}
+use Rattle.turn_client_proto_allocation.specs.Permissions.{next_of_permission}
+use Rattle.turn_client_proto_allocation.specs.declared.allocation.Allocation.{Allocation}
+use Rattle.turn_client_proto_allocation.specs.declared.permission.Permission.{Permission}
+use Rattle.turn_client_proto_peers.specs.Permission.Telling.{all_nexts, earlier_of}
+
+-- one allocation after another, the earlier is kept
+abbrev pub earliest : Option ℕ → (ready now wait : ℕ) → List Allocation → ℕ
+earliest ended ready now wait allocations = fold (λ w (a : Allocation). earlier_of ended ready now w a.permissions) wait allocations
+
+folded : (h : Permission → ℕ) (wait : ℕ) (all : List Permission) → fold (λ w p. min w (h p)) wait all ≡ least_of wait (map h all)
+folded h wait [] = refl
+folded h wait (p ∷ rest) = folded h (min wait (h p)) rest
+
+joined : (wait : ℕ) (one other : List ℕ) → least_of wait (one ++ other) ≡ least_of (least_of wait one) other
+joined wait [] other = refl
+joined wait (n ∷ one) other = joined (min wait n) one other
+
+all_folded : (h : Permission → ℕ) (wait : ℕ) (all : List Allocation)
+    → fold (λ w (a : Allocation). fold (λ v p. min v (h p)) w a.permissions) wait all ≡ least_of wait (flat_map (λ (a : Allocation). map h a.permissions) all)
+all_folded h wait [] = refl
+all_folded h wait (a ∷ rest) =
+    all_folded h (fold (λ v p. min v (h p)) wait a.permissions) rest
+    ∙ ap (λ w. least_of w (flat_map (λ (b : Allocation). map h b.permissions) rest)) (folded h wait a.permissions)
+    ∙ sym (joined wait (map h a.permissions) (flat_map (λ (b : Allocation). map h b.permissions) rest))
+
+pub earliest_is : (ended : Option ℕ) (ready now wait : ℕ) (all : List Allocation) (next : ℕ) → next ≡ earliest ended ready now wait all → IsLeastOf wait (all_nexts ended ready now all) next
+earliest_is ended ready now wait all next is = least_is wait (all_nexts ended ready now all) next (is ∙ all_folded (next_of_permission ended ready now) wait all)

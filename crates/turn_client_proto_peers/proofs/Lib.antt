@@ -1,0 +1,7 @@
+pub mod EarliestPermission
+pub mod Distinct
+pub mod EarliestChannel
+pub mod Granting
+pub mod Marks
+pub mod Places
+pub mod Walks

@@ -1,0 +1,25 @@
+use Rattle.std.proofs.Common.{◌≡◌, ◌<◌, List, ap, get_or, length, slice_set, subst, ◌∙◌}
+use Rattle.std.proofs.lemmas.List.{get_or-set_same, length-set}
+use Rattle.turn_client_proto_allocation.specs.declared.allocation.Allocation.{Allocation}
+use Rattle.turn_client_proto_peers.specs.Channel.Binding.{asking}
+use Rattle.turn_client_proto_allocation.proofs.Lent.{lent_back}
+use Rattle.turn_client_proto_allocation.proofs.SetAgain.{set_back}
+use Rattle.turn_client_proto_peers.proofs.channel.binding.forget.Goals as goal
+
+pub returns : goal.returns
+returns c = λ before a pending there is.
+    let place = c.args.place in
+    let lent : List Allocation = c.as_mut_slice-items.result.now in
+    let found : Allocation = c.index-items-place.result in
+    let x : Allocation = get_or lent place found in
+    let after : Allocation = record x { pending_channels = c.pop.new.self } in
+    let left : List Allocation = slice_set lent place after in
+    let was = c.as_mut_slice-items.ensures.value ∙ is in
+    let long : place < length before = subst (λ n. place < n) (ap length is ∙ length-set before place (asking pending a)) c.requires in
+    let here : x ≡ asking pending a =
+    ap (λ l. get_or l place found) was ∙ get_or-set_same before place (asking pending a) found long in
+    let popped : c.pop.new.self ≡ a.pending_channels = c.pop.ensures.undone a.pending_channels pending (ap (λ (y : Allocation). y.pending_channels) here) in
+    lent_back c.args.allocations.now left (length-set lent place after ∙ ap (λ (l : List Allocation). length l) c.as_mut_slice-items.ensures.value)
+    ∙ ap (λ l. slice_set l place after) was
+    ∙ ap (λ y. slice_set (slice_set before place (asking pending a)) place y) (ap (λ (y : Allocation). record y { pending_channels = c.pop.new.self }) here ∙ ap (λ l. record a { pending_channels = l }) popped)
+    ∙ set_back before place a (asking pending a) there

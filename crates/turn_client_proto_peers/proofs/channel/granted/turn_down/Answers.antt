@@ -1,0 +1,17 @@
+use Rattle.std.proofs.Common.{◌≡◌, ap, get_or, rules, slice_set, ◌∙◌}
+use Rattle.std.proofs.lemmas.Fn.{filter_same}
+use Rattle.std.proofs.lemmas.List.Edits.{map_over_more}
+use Rattle.turn_client_proto_allocation.specs.declared.allocation.Allocation.{Allocation}
+use Rattle.turn_client_proto_allocation.specs.Channels.{not_asked_by}
+use Rattle.turn_client_proto_peers.specs.Channel.Granted.{turned_down}
+use Rattle.turn_client_proto_peers.proofs.channel.granted.turn_down.Goals as goal
+
+pub loop-allocation-preserved : goal.loop-allocation-preserved
+unfolding turned_down
+loop-allocation-preserved c =
+    let all = c.loop-allocation.allocations in
+    let x : Allocation = get_or all c.loop-allocation.allocation-index c.allocation-item.result in
+    let is_there = ap (λ y. get_or all c.loop-allocation.allocation-index y) c.allocation-item.is in
+    let pending : c.retain.new.self ≡ not_asked_by c.args.number x.pending_channels = filter_same _ _ _ (λ x b f' k. search rules) _ _ c.retain.ensures in
+    ap (λ l. slice_set all c.loop-allocation.allocation-index (record x { pending_channels = l })) pending
+    ∙ map_over_more (turned_down c.args.number) c.args.allocations.now all c.loop-allocation.allocation-index x c.loop-allocation-test.true c.loop-allocation.invariant is_there

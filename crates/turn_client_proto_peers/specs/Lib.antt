@@ -1,0 +1,2 @@
+pub mod Permission
+pub mod Channel

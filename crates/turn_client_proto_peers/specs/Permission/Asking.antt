@@ -1,0 +1,50 @@
+-- Permissions that are asked for (RFC 8656, section 10.1).
+use Rattle.turn_client_proto_allocation.specs.Permits.{permits}
+use Rattle.std.specs.Prelude.{ℕ, nat_le, Bool, true, not, ◌&&◌, ◌||◌, [], ◌∷◌, ◌++◌}
+use Rattle.std.specs.List.{list_any}
+use Rattle.std.specs.declared.net.ip_addr.IpAddr.{IpAddr}
+use Rattle.stun_types_base.specs.Family.{family_of_socket}
+use Rattle.stun_types_base.specs.declared.family.AddressFamily.{AddressFamily}
+use Rattle.stun_types_base.specs.declared.transport.TransportType.{TransportType}
+use Rattle.turn_client_proto_allocation.specs.declared.allocation.Allocation.{Allocation}
+use Rattle.turn_client_proto_allocation.specs.declared.permission.PendingPermission.{PendingPermission}
+use Rattle.turn_client_proto_allocation.specs.declared.permission.Permission.{Permission}
+use Rattle.turn_client_proto_api.specs.Families.{is_same_family}
+use Rattle.turn_client_proto_allocation.specs.Same.{is_same_ip, is_same_transport}
+
+-- ---- which allocation
+
+-- an allocation of this transport, whose address is of this family
+abbrev pub is_of : TransportType → AddressFamily → Allocation → Bool
+is_of transport family a = is_same_transport a.transport transport && is_same_family (family_of_socket a.address) family
+
+-- the time of an allocation is over
+abbrev pub is_past : ℕ → Allocation → Bool
+is_past now a = nat_le a.expiry now
+
+-- an allocation that is marked as expired
+abbrev pub marked : Allocation → Allocation
+marked a = record a { is_expired = true }
+
+-- ---- what it knows
+
+abbrev pub is_pending_for : IpAddr → PendingPermission → Bool
+is_pending_for ip p = is_same_ip p.ip ip
+
+-- a permission for an address was asked for
+abbrev pub asks_for : IpAddr → Allocation → Bool
+asks_for ip a = list_any (is_pending_for ip) a.pending_permissions
+
+-- a permission for an address stands, or was asked for
+abbrev pub knows : IpAddr → Allocation → Bool
+knows ip a = permits ip a || asks_for ip a
+
+-- a permission for an address stands, in an allocation of a transport that is not marked as expired
+abbrev pub permits_over : TransportType → IpAddr → Allocation → Bool
+permits_over transport ip a = not a.is_expired && (is_same_transport a.transport transport && permits ip a)
+
+-- ---- a request
+
+-- an allocation for which a permission was asked
+abbrev pub asking : PendingPermission → Allocation → Allocation
+asking pending a = record a { pending_permissions = a.pending_permissions ++ pending ∷ [] }

@@ -1,8 +1,0 @@
-use Rattle.std.proofs.Common.{◌≡◌, drop}
-use Rattle.turn_client_proto_poll.specs.Sending.{channel_to}
-use Rattle.turn_client_proto_poll.proofs.sending.channel_to.Given as goal
-
--- what is left comes to the same
-abbrev pub invariant-loop-allocation : goal.invariant-loop-allocation
-invariant-loop-allocation l =
-    channel_to l.transport l.peer (drop l.allocation-index l.allocations) ≡ channel_to l.fn.transport l.fn.peer l.fn.allocations

@@ -1,8 +1,0 @@
--- The answers to the server's own requests that wait to be sent (RFC 6062, section 4.4).
-use Rattle.std.specs.Prelude.{List}
-use Rattle.turn_client_proto_core.specs.Allocation.Changes.{without_first}
-use Rattle.turn_client_proto_core.specs.Waiting.{Queued, is_answer}
-
--- what waits but for the first answer, in its order
-abbrev pub without_answer : List Queued → List Queued
-without_answer queue = without_first is_answer queue

@@ -1,0 +1,16 @@
+pub mod Asks
+pub mod Between
+pub mod Binds
+pub mod Bound
+pub mod Frames
+pub mod Given
+pub mod Granted
+pub mod Hearing
+pub mod Kept
+pub mod Lists
+pub mod Moving
+pub mod Others
+pub mod Own
+pub mod Pieces
+pub mod Speaking
+pub mod Tools

@@ -1,0 +1,217 @@
+-- A client that has asked, where something else becomes of it.
+use Rattle.std.proofs.Common.{◌≡◌, ℕ, ◌<◌, ◌≤◌, arith, Bool, true, false, cond, ◌||◌, List, [], ◌∷◌, Option, Some, refl, sym, ap, ◌∙◌, subst, inl, inr}
+use Rattle.std.specs.Prelude.{◌==◌, nat_le, is_some}
+use Rattle.std.specs.FinMap as finite
+use Rattle.std.specs.Cmp.{nat_cmp_total}
+use Rattle.std.specs.Ordering.{is_eq, nat_cmp}
+use Rattle.std.proofs.lemmas.Bool.{cases_Bool, eq-eqb, eqb-true, leb-false, lt-leb}
+use Rattle.std.specs.declared.net.socket_addr.SocketAddr.{SocketAddr}
+use Rattle.turn_client_proto_messages.specs.StunTypesWire.Grammar.{number_at}
+use Rattle.turn_client_proto_messages.specs.StunProtoTransaction.Agents.{Transaction, has_left, is_ended, is_over, transmitted}
+use Rattle.turn_client_proto_messages.specs.StunProtoAgent.Sending.{begun, kept_under, with_request}
+use Rattle.turn_client_proto_messages.specs.StunProtoTransaction.Schedule.{end_at}
+use Rattle.turn_client_proto_messages.specs.StunProtoAgent.State as agents
+use Rattle.turn_client_proto_messages.proofs.StunProtoTransaction.Leasts.{same_number}
+use Rattle.turn_client_proto_messages.specs.Allocation.Awaited.{is_among}
+use Rattle.turn_client_proto_messages.specs.Allocation.Listed.{is_any_awaited}
+use Rattle.turn_client_proto_messages.specs.Allocation.declared.allocation.Allocation.{Allocation}
+use Rattle.turn_client_proto_messages.specs.StunProtoAgent.declared.agent.StunAgentPollRet.{StunAgentPollRet}
+use Rattle.turn_client_proto_messages.specs.StunProtoAgent.declared.agent.StunAgentPollRet.TheVariants.{TransactionCancelled, TransactionTimedOut, WaitUntil}
+use Rattle.turn_client_proto_handshake_laws.specs.Core.Numbering.{IsNextNumber, awaits, is_taken}
+use Rattle.turn_client_proto_messages.specs.Requests.{request_text}
+use Rattle.turn_client_proto_messages.specs.ToldRequests.{IsLawfulRequest}
+use Rattle.turn_client_proto_messages.specs.declared.request.TurnRequest.{TurnRequest}
+use Rattle.turn_client_proto_handshake_laws.specs.Core.declared.protocol.Phase.{Phase}
+use Rattle.turn_client_proto_handshake_laws.specs.Core.declared.protocol.Protocol.{Protocol}
+use Rattle.turn_client_proto_step_laws.specs.Timers.Polling.{ended_of}
+use Rattle.turn_client_proto_messages.proofs.Reading.{number_law}
+use Rattle.turn_client_proto_step_laws.proofs.Numbers.{number_small}
+use Rattle.turn_client_proto_progress_laws.proofs.Asking.Tools.{Table, put_there, stays_there}
+use Rattle.turn_client_proto_handshake_laws.specs.Stages.{IsOf}
+use Rattle.turn_client_proto_handshake_laws.specs.Sent.{Beginning}
+use Rattle.turn_client_proto_progress_laws.specs.Asking.{HasAsked, Wanted, request_for}
+use Rattle.turn_client_proto_progress_laws.specs.Speaking.{HasAtMost, HasBeenServed, IsOwn, Signs, Speaks}
+use Rattle.turn_client_proto_progress_laws.proofs.Asking.Lists.{first_not, not_both}
+use Rattle.turn_client_proto_progress_laws.proofs.Asking.Kept.{Keeps}
+
+-- ---- what no call changes but a message that comes
+
+pub record Same (p q : Protocol) : Type 0 where
+  pub server : q.server ≡ p.server
+  pub remote : q.agent.remote ≡ p.agent.remote
+  pub transport : q.agent.transport ≡ p.agent.transport
+  pub here : q.agent.here ≡ p.agent.here
+  pub waits : q.agent.waits ≡ p.agent.waits
+  pub allocates : q.allocates ≡ p.allocates
+  pub families : q.families ≡ p.families
+  pub auth : q.auth ≡ p.auth
+  pub phase : q.phase ≡ p.phase
+
+pub settings_on : (b : Beginning) (p q : Protocol) → Same p q → IsOf b p → IsOf b q
+settings_on b p q same of = record {
+  server = same.server ∙ of.server;
+  remote = same.remote ∙ of.remote;
+  transport = same.transport ∙ of.transport;
+  here = same.here ∙ of.here;
+  waits = same.waits ∙ of.waits;
+  allocates = same.allocates ∙ of.allocates;
+  families = same.families ∙ of.families;
+}
+
+pub speaks_on : (b : Beginning) (realm : List ℕ) (address : SocketAddr) (p q : Protocol) → Same p q → HasAtMost b address q.allocations → Speaks b realm address p → Speaks b realm address q
+speaks_on b realm address p q same one is = record {
+  settings = settings_on b p q same is.settings;
+  signs = subst (λ x. Signs b realm x) (sym same.auth) is.signs;
+  served = subst (λ (f : Phase). HasBeenServed f) (sym same.phase) is.served;
+  one = one;
+}
+
+-- ---- transactions
+
+-- what is found under another number than that of one that was put
+pub beside_put : (m : Table) (key other : ℕ) (x : Transaction) → (other ≡ key → ⊥) → finite.get (finite.insert m key x) other ≡ finite.get m other
+beside_put m key other x apart =
+    finite.get-insert nat_cmp_total m key x other
+    ∙ elim (is_eq (nat_cmp other key)) as (λ (z : Bool). is_eq (nat_cmp other key) ≡ z → cond z (Some x) (finite.get m other) ≡ finite.get m other) [
+      | true ↦ λ same. absurd (apart (same_number other key same))
+      | false ↦ λ differs. refl
+    ] refl
+
+-- one more transmission of a transaction doesn't end it
+more_sent : (now : ℕ) (tcp : Bool) (t : Transaction) → is_ended now (transmitted tcp t) ≡ is_ended now t
+more_sent now tcp t = elim (cases_Bool (has_left tcp t)) [
+  | inl left ↦ rw left refl
+  | inr none ↦ rw none refl
+]
+
+-- ---- a client that has asked
+
+module _ (b : Beginning) (realm : List ℕ) (address : SocketAddr) (wanted : Wanted) (request : List ℕ) (now : ℕ) (p : Protocol) (h : HasAsked b realm address wanted request now p) where
+  pub own : IsOwn b address h.allocation
+  own = subst (λ (l : List Allocation). HasAtMost b address l) h.only h.speaks.one
+
+  pub asked_still : (q : Protocol) → Same p q → (a : Allocation) → q.allocations ≡ a ∷ [] → Keeps h.number wanted h.allocation a → (t : Transaction) → finite.get q.agent.outstanding h.number ≡ Some t → is_ended now t ≡ false
+      → HasAsked b realm address wanted request now q
+  asked_still q same a only keeps t there lasting = record {
+    speaks = speaks_on b realm address p q same
+        (subst (λ (l : List Allocation). HasAtMost b address l) (sym only) (record { transport = keeps.transport ∙ own.transport; address_is = keeps.address ∙ own.address_is })) h.speaks;
+    phase = same.phase ∙ h.phase;
+    allocation = a;
+    only = only;
+    stands = keeps.shown ∙ h.stands;
+    later = subst (λ (n : ℕ). now < n) (sym keeps.expiry) h.later;
+    number = h.number;
+    fits = h.fits;
+    lawful = h.lawful;
+    text = h.text ∙ ap (λ x. request_text x (request_for wanted) h.number) (sym same.auth);
+    awaits = keeps.awaits h.awaits;
+    transaction = t;
+    outstanding = there;
+    goes_on = lasting;
+  }
+
+  -- ---- another request is made
+
+  taken_number : is_some (finite.get p.agent.outstanding h.number) ≡ true
+  taken_number = ap is_some h.outstanding
+
+  pub other_number : (number : ℕ) → IsNextNumber p number → number ≡ h.number → ⊥
+  unfolding is_taken
+  other_number number next same =
+      let free : is_some (finite.get p.agent.outstanding number) ≡ false = first_not (is_some (finite.get p.agent.outstanding number)) (awaits number p.phase || is_any_awaited number p.allocations) next.free in
+      not_both (is_some (finite.get p.agent.outstanding number)) (ap (λ (n : ℕ). is_some (finite.get p.agent.outstanding n)) same ∙ taken_number) free
+
+  pub apart_from : (number : ℕ) → IsNextNumber p number → (number == h.number) ≡ false
+  apart_from number next = elim (cases_Bool (number == h.number)) [
+    | inl is ↦ absurd (other_number number next (eqb-true number h.number is))
+    | inr differs ↦ differs
+  ]
+
+  pub beside_made : (other : TurnRequest) (number at : ℕ) (to : SocketAddr) → IsLawfulRequest other → IsNextNumber p number
+      → finite.get (with_request p.agent (request_text p.auth other number) to at).outstanding h.number ≡ Some h.transaction
+  beside_made other number at to lawful next =
+      let text = request_text p.auth other number in
+      let shows : number_at text ≡ number = number_law p.auth other number h.speaks.signs.short lawful (number_small p number next) in
+      beside_put p.agent.outstanding (number_at text) h.number (begun p.agent text to at) (λ same. other_number number next (sym shows ∙ sym same)) ∙ h.outstanding
+
+  -- ---- a transmission more is made
+
+  pub beside_sent : (number : ℕ) (t : Transaction) (tcp : Bool) → finite.get p.agent.outstanding number ≡ Some t
+      → (u : Transaction) × (finite.get (kept_under p.agent number (transmitted tcp t)).outstanding h.number ≡ Some u) × (is_ended now u ≡ false)
+  beside_sent number t tcp there = elim (cases_Bool (h.number == number)) [
+    | inl is ↦ (
+        let same : h.number ≡ number = eqb-true h.number number is in
+        let own_one : t ≡ h.transaction = Prim.cc (sym there ∙ ap (λ (n : ℕ). finite.get p.agent.outstanding n) (sym same) ∙ h.outstanding) in
+        (transmitted tcp t, ap (λ (n : ℕ). finite.get (finite.insert p.agent.outstanding number (transmitted tcp t)) n) same ∙ put_there p.agent.outstanding number (transmitted tcp t), more_sent now tcp t ∙ ap (λ (x : Transaction). is_ended now x) own_one ∙ h.goes_on))
+    | inr differs ↦ (
+      h.transaction,
+      beside_put p.agent.outstanding number h.number (transmitted tcp t) (λ same. not_both (h.number == number) (eq-eqb h.number number same) differs) ∙ h.outstanding,
+      h.goes_on,
+    )
+  ]
+
+  -- ---- the agent is polled, not later
+
+  pub record IsTickedOn (ticked : StunAgentPollRet) (agent : agents.Agent) : Type 0 where
+    pub goes_on : is_among (ended_of ticked) (h.number ∷ []) ≡ false
+    pub there : finite.get agent.outstanding h.number ≡ Some h.transaction
+    pub remote : agent.remote ≡ p.agent.remote
+    pub transport : agent.transport ≡ p.agent.transport
+    pub here : agent.here ≡ p.agent.here
+    pub waits : agent.waits ≡ p.agent.waits
+
+  -- it has not ended
+  open_at : (at : ℕ) → at ≤ now → is_ended at h.transaction ≡ false
+  open_at at early = elim (cases_Bool (is_over h.transaction.cancelled)) [
+    | inl over ↦
+        let here : is_ended now h.transaction ≡ true = rw over refl in
+        not_both (is_ended now h.transaction) here h.goes_on
+    | inr lasts ↦
+        let ends : is_ended now h.transaction ≡ nat_le (end_at h.transaction.sent h.transaction.waits) now = rw lasts refl in
+        let later = leb-false (end_at h.transaction.sent h.transaction.waits) now (sym ends ∙ h.goes_on) in
+        let at_later = lt-leb (end_at h.transaction.sent h.transaction.waits) at (omega (arith, later, early)) in
+        rw (lasts, at_later) refl
+  ]
+
+  not_it : (at number : ℕ) (t : Transaction) → at ≤ now → finite.get p.agent.outstanding number ≡ Some t → is_ended at t ≡ true → number ≡ h.number → ⊥
+  not_it at number t early there ended same =
+      let own_one : t ≡ h.transaction = Prim.cc (sym there ∙ ap (λ (n : ℕ). finite.get p.agent.outstanding n) same ∙ h.outstanding) in
+      not_both (is_ended at t) ended (ap (λ (x : Transaction). is_ended at x) own_one ∙ open_at at early)
+
+  ended_beside : (at number : ℕ) (over : Bool) (agent : agents.Agent) → at ≤ now → (is : agents.IsEnd p.agent at number over agent)
+      → ((h.number == number) ≡ false) × (finite.get agent.outstanding h.number ≡ Some h.transaction)
+  ended_beside at number over agent early is =
+      let apart : number ≡ h.number → ⊥ = λ same. not_it at number is.transaction early is.least.present is.least.passes same in
+      let differs : (h.number == number) ≡ false = elim (cases_Bool (h.number == number)) [
+        | inl same ↦ absurd (apart (sym (eqb-true h.number number same)))
+        | inr not ↦ not
+      ] in
+      let unlike : is_eq (nat_cmp h.number number) ≡ false = elim (cases_Bool (is_eq (nat_cmp h.number number))) [
+        | inl same ↦ absurd (apart (sym (same_number h.number number same)))
+        | inr not ↦ not
+      ] in
+      (differs, ap (λ (x : agents.Agent). finite.get x.outstanding h.number) is.gone ∙ stays_there p.agent.outstanding number h.number unlike ∙ h.outstanding)
+
+  ended_on : (at number : ℕ) (over : Bool) (agent : agents.Agent) (ticked : StunAgentPollRet) → ended_of ticked ≡ Some number → at ≤ now → agents.IsEnd p.agent at number over agent → IsTickedOn ticked agent
+  ended_on at number over agent ticked which early is =
+      let left = ended_beside at number over agent early is in
+      record {
+        goes_on = ap (λ (o : Option ℕ). is_among o (h.number ∷ [])) which ∙ ap (λ (x : Bool). x || false) left.0;
+        there = left.1;
+        remote = ap (λ (x : agents.Agent). x.remote) is.gone;
+        transport = ap (λ (x : agents.Agent). x.transport) is.gone;
+        here = ap (λ (x : agents.Agent). x.here) is.gone;
+        waits = ap (λ (x : agents.Agent). x.waits) is.gone;
+      }
+
+  pub ticked_on : (at : ℕ) (ticked : StunAgentPollRet) (agent : agents.Agent) → at ≤ now → agents.IsPolled p.agent at ticked agent → IsTickedOn ticked agent
+  ticked_on at (TransactionTimedOut number) agent early is = ended_on at number false agent (TransactionTimedOut number) refl early is
+  ticked_on at (TransactionCancelled number) agent early is = ended_on at number true agent (TransactionCancelled number) refl early is
+  ticked_on at (WaitUntil until) agent early is = record {
+    goes_on = refl;
+    there = ap (λ (x : agents.Agent). finite.get x.outstanding h.number) is.2 ∙ h.outstanding;
+    remote = ap (λ (x : agents.Agent). x.remote) is.2;
+    transport = ap (λ (x : agents.Agent). x.transport) is.2;
+    here = ap (λ (x : agents.Agent). x.here) is.2;
+    waits = ap (λ (x : agents.Agent). x.waits) is.2;
+  }

@@ -1,0 +1,3 @@
+pub mod Renewing
+pub mod Asking
+pub mod Linking

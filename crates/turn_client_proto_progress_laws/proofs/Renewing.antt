@@ -1,0 +1,9 @@
+pub mod Arriving
+pub mod Awaiting
+pub mod Drawn
+pub mod Held
+pub mod Lasting
+pub mod Only
+pub mod Polled
+pub mod Renewed
+pub mod Tools

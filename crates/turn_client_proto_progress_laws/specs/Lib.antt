@@ -1,0 +1,12 @@
+pub mod Keeping
+pub mod Reaching
+pub mod Refreshed
+pub mod Asking
+pub mod Holding
+pub mod Speaking
+pub mod Free
+pub mod Holders
+pub mod Linking
+pub mod Overs
+pub mod Replies
+pub mod Resting

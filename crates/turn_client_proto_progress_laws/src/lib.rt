@@ -1,0 +1,9 @@
+//! Laws: what a client that holds an allocation asks for and is granted, how it binds a
+//! connection, and how it renews what it holds.
+#![tactic(auto)]
+
+pub mod channels;
+pub mod connections;
+pub mod renewals;
+pub mod requests;
+pub mod streams;

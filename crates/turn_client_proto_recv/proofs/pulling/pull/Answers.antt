@@ -1,0 +1,31 @@
+use Rattle.std.proofs.Common.{subst, sym, ◌∙◌}
+use Rattle.turn_client_proto_recv.specs.Pieces.{IsTakenOff}
+use Rattle.turn_client_proto_recv.proofs.Loops.{ends, gives, goes, less, lost, on_err}
+use Rattle.turn_client_proto_recv.proofs.pulling.pull.Goals as goal
+
+pub returns-in_err-given-clause-err : goal.returns-in_err-given-clause-err
+returns-in_err-given-clause-err g c =
+    let failed = c.in_err-given.ensures.err in
+    on_err c.from_residual.result (lost c.args.now c.args.stream.now c.args.protocol.now c.loop-given.stream c.loop-given.protocol c.take_off.new.protocol c.loop-given.invariant failed.0 failed.1 failed.2)
+
+pub returns-then-is_some-clause-ok : goal.returns-then-is_some-clause-ok
+returns-then-is_some-clause-ok g c =
+    gives c.args.now c.args.stream.now c.args.protocol.now c.loop-given.stream c.loop-given.protocol c.loop-given.invariant c.take_off.new.stream c.take_off.new.protocol c.in-Some.given
+    (subst (λ found. IsTakenOff c.args.now c.loop-given.stream c.loop-given.protocol found c.take_off.new.stream c.take_off.new.protocol) c.in-Some.is c.in_ok-given.ensures.ok)
+    (sym c.is_some.ensures ∙ c.if-is_some.true)
+
+pub loop-given-smaller : goal.loop-given-smaller
+loop-given-smaller g c =
+    less c.args.now c.args.stream.now c.args.protocol.now c.loop-given.stream c.loop-given.protocol c.loop-given.invariant c.take_off.new.stream c.take_off.new.protocol c.in-Some.given
+    (subst (λ found. IsTakenOff c.args.now c.loop-given.stream c.loop-given.protocol found c.take_off.new.stream c.take_off.new.protocol) c.in-Some.is c.in_ok-given.ensures.ok)
+
+pub loop-given-preserved : goal.loop-given-preserved
+loop-given-preserved g c =
+    goes c.args.now c.args.stream.now c.args.protocol.now c.loop-given.stream c.loop-given.protocol c.loop-given.invariant c.take_off.new.stream c.take_off.new.protocol c.in-Some.given
+    (subst (λ found. IsTakenOff c.args.now c.loop-given.stream c.loop-given.protocol found c.take_off.new.stream c.take_off.new.protocol) c.in-Some.is c.in_ok-given.ensures.ok)
+    (sym c.is_some.ensures ∙ c.if-is_some.false)
+
+pub returns-clause-ok : goal.returns-clause-ok
+returns-clause-ok g c =
+    ends c.args.now c.args.stream.now c.args.protocol.now c.loop-given.stream c.loop-given.protocol c.loop-given.invariant c.take_off.new.stream c.take_off.new.protocol
+    (subst (λ found. IsTakenOff c.args.now c.loop-given.stream c.loop-given.protocol found c.take_off.new.stream c.take_off.new.protocol) c.in_default.is c.in_ok-given.ensures.ok)

@@ -1,0 +1,102 @@
+//! What a client makes of a message or a channel frame that came from its server.
+
+ghost use Rattle.std.specs.Prelude.{◌≡◌, IfOk, None, OnErr};
+ghost use Rattle.stun_types_wire.specs.Grammar.{refusal};
+ghost use Rattle.turn_client_proto_core.specs.Ending.{HasFailed};
+ghost use Rattle.turn_client_proto_core.specs.Receiving.{MayGrow};
+ghost use Rattle.turn_client_proto_payload.specs.Payloads.{payload_of};
+ghost use Rattle.turn_client_proto_recv.specs.HandingIn.{IsFrameTaken};
+ghost use Rattle.turn_client_proto_recv.specs.Datagrams.{IsHandedOver};
+
+use std::convert::AsSlice;
+use std::fmt::Debug;
+use stun_types_base::instant::Instant;
+use stun_types_base::memory::NoMemory;
+use stun_types_base::transmit::Transmit;
+use stun_types_message::parsed::Message;
+use turn_client_proto_api::answer::TurnRecvRet;
+use turn_client_proto_api::data::{DataRangeOrOwned, TurnPeerData};
+use turn_client_proto_core::protocol::Protocol;
+use turn_client_proto_payload::payload::{Payload, payload_framed, payload_in};
+use turn_types_frame::channel::ChannelData;
+
+/// What became of it.
+#[derive(Debug, Drop)]
+pub enum Taken {
+    /// It carries this of a peer.
+    Given(Payload),
+    /// It was for the client.
+    Handled,
+    /// It was not.
+    Ignored,
+    /// It is neither a message nor a channel frame.
+    Garbled,
+}
+
+/// Hands in bytes that came from the server at a moment.
+#[tactic(auto, unfolding(crate::proofs::UsualHanding::opened))]
+pub fn hand_in(protocol: &mut Protocol, bytes: &[u8], now: Instant) -> Result<Taken, NoMemory>
+    ensures ok { IfOk result (λ taken. IsFrameTaken protocol.old bytes.now now taken protocol.new) }
+    ensures err { OnErr result ((payload_of protocol.old bytes.now ≡ None)
+        × (refusal bytes.now ≡ None)
+        × MayGrow protocol.old bytes.now × HasFailed protocol.old protocol.new) }
+{
+    match Message::from_bytes(bytes) {
+        Ok(message) => {
+            if let Some(payload) = payload_in(protocol, &message) {
+                return Ok(Taken::Given(payload));
+            }
+            match protocol.handle_message(&message, now) {
+                Ok(true) => Ok(Taken::Handled),
+                Ok(false) => Ok(Taken::Ignored),
+                Err(error) => Err(error),
+            }
+        }
+        Err(_) => {
+            if let Some(payload) = payload_framed(protocol, bytes) {
+                return Ok(Taken::Given(payload));
+            }
+            match ChannelData::parse(bytes) {
+                Ok(_) => Ok(Taken::Ignored),
+                Err(_) => Ok(Taken::Garbled),
+            }
+        }
+    }
+}
+
+/// What is given of bytes that came: data by where it stands in them.
+pub fn given<T: AsSlice<u8> + Debug + Drop>(
+    transmit: Transmit<T>,
+    payload: Payload,
+) -> TurnRecvRet<T>
+    ensures { IsHandedOver T.items transmit payload result }
+{
+    match payload {
+        Payload::Data {
+            transport,
+            peer,
+            start,
+            end,
+        }
+        | Payload::Framed {
+            transport,
+            peer,
+            start,
+            end,
+            ..
+        } => {
+            let held = DataRangeOrOwned::Range {
+                bytes: transmit.bytes,
+                range: start..end,
+            };
+            TurnRecvRet::PeerData(TurnPeerData::new(held, transport, peer))
+        }
+        Payload::Report(transport, peer, report) => TurnRecvRet::PeerIcmp {
+            transport,
+            peer,
+            icmp_type: report.icmp_type(),
+            icmp_code: report.code(),
+            icmp_data: report.data(),
+        },
+    }
+}

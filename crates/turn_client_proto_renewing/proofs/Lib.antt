@@ -1,9 +1,0 @@
-mod Arriving
-mod Awaiting
-mod Drawn
-mod Held
-mod Lasting
-mod Only
-mod Polled
-mod Renewed
-mod Tools

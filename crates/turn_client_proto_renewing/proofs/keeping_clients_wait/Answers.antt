@@ -1,6 +1,0 @@
-use Rattle.turn_client_proto_renewing.proofs.Polled.{keeping_waits}
-use Rattle.turn_client_proto_renewing.proofs.keeping_clients_wait.Goals as goal
-
-pub returns : goal.returns
-returns c = λ b choice address t last queue events old new now ret w unanswered is in_range by_due reached polled.
-    keeping_waits b choice address t last queue events old w unanswered is now in_range by_due reached ret new polled

@@ -1,6 +1,0 @@
-use Rattle.stun_types.specs.Addresses.{address_value}
-use Rattle.turn_client_proto_request.proofs.Small.{peer_small}
-use Rattle.turn_client_proto_request.proofs.attributes.add_peer.Goals as goal
-
-pub add-requires-clause-small : goal.add-requires-clause-small
-add-requires-clause-small c κs = rw c.new-peer.ensures (peer_small c.args.number (address_value c.args.peer))

@@ -1,5 +1,0 @@
-use Rattle.turn_client_proto_request.proofs.Claims.{claim_law}
-use Rattle.turn_client_proto_request.proofs.laws.signed_requests_claim.Goals as goal
-
-pub returns : goal.returns
-returns c = λ client request number standing short reads lawful n signed stands. claim_law client request number standing short reads lawful n signed stands

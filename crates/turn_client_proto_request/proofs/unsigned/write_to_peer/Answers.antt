@@ -1,5 +1,0 @@
-use Rattle.std.proofs.Common.{[]}
-use Rattle.turn_client_proto_request.proofs.unsigned.write_to_peer.Goals as goal
-
-pub returns-clause-request : goal.returns-clause-request
-returns-clause-request c = c.in_ok-add_peer.ensures.behind _ c.args.number [] c.in_ok-draft.ensures.unsigned

@@ -1,3 +1,0 @@
-pub mod Granting
-pub mod Telling
-pub mod Told

@@ -1,0 +1,17 @@
+-- A client at the beginning of a run.
+use Rattle.std.specs.Prelude.{ℕ, List, []}
+use Rattle.rand_chacha.specs.ChaCha.{of_seed}
+use Rattle.turn_client_proto_timers.specs.StunTypesIntegrity.Credentials.{NameAndPassword}
+use Rattle.turn_client_proto_timers.specs.Core.declared.protocol.Protocol.{Protocol}
+use Rattle.turn_client_proto_step_laws.specs.RunClient.{Client}
+use Rattle.turn_client_proto_step_laws.specs.Sound.{stream_from}
+
+-- a client of which nothing was asked: its numbers are drawn from the generator of a seed, and none was; and no frame waits
+abbrev pub first_client : NameAndPassword → (seed : List ℕ) → Protocol → Client
+first_client credentials seed core = record {
+  credentials = credentials;
+  seed = stream_from (of_seed seed);
+  drawn = 0;
+  core = core;
+  waiting = [];
+}

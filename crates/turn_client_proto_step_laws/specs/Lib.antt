@@ -1,0 +1,16 @@
+pub mod RunClient
+pub mod Held
+pub mod ClientWords
+pub mod Sound
+pub mod Beginning
+pub mod RunSteps
+pub mod Adding
+pub mod Cuts
+pub mod Order
+pub mod SocketCuts
+-- What stands above this crate has these through it.
+pub use Rattle.turn_client_proto_timers.specs.Connection as Connection
+pub use Rattle.turn_client_proto_timers.specs.Peers as Peers
+pub use Rattle.turn_client_proto_recv.specs.Payload as Payload
+pub use Rattle.turn_client_proto_recv.specs as Recv
+pub use Rattle.turn_client_proto_timers.specs as Timers

@@ -1,5 +1,0 @@
-use Rattle.turn_client_proto_steps.proofs.Answered.{none_taken_up}
-use Rattle.turn_client_proto_steps.proofs.added.calls_add_nothing.Goals as goal
-
-pub returns : goal.returns
-returns c = λ call step none. none_taken_up call step none

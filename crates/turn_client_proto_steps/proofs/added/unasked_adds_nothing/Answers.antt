@@ -1,8 +1,0 @@
-use Rattle.turn_client_proto_steps.proofs.Unasked.{heard_at_comes, heard_keeps, none_more}
-use Rattle.turn_client_proto_steps.proofs.added.unasked_adds_nothing.Goals as goal
-
-pub returns : goal.returns
-returns c = record {
-  heard = λ old new bytes now handled isnt is. none_more bytes old new isnt ((heard_keeps bytes now old).keeps handled new is);
-  heard_at = λ old new here bytes now isnt is. none_more bytes old new isnt (heard_at_comes here bytes now new old is);
-}

@@ -1,9 +1,0 @@
-use Rattle.turn_client_proto_steps.proofs.Closed.{none_over}
-use Rattle.turn_client_proto_steps.proofs.Socketing.{close_step}
-use Rattle.turn_client_proto_steps.proofs.closings_are_steps.Goals as goal
-
-pub returns : goal.returns
-returns c = record {
-  step = λ client here server new sound is. close_step client here server new sound is;
-  gone = λ old new here peer number tcp is kept. none_over old new here peer number tcp is kept;
-}

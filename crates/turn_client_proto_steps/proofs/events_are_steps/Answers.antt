@@ -1,5 +1,0 @@
-use Rattle.turn_client_proto_steps.proofs.Ending.{event_step}
-use Rattle.turn_client_proto_steps.proofs.events_are_steps.Goals as goal
-
-pub returns : goal.returns
-returns c = λ client event new sound told others. event_step client event new sound told others

@@ -1,5 +1,0 @@
-use Rattle.turn_client_proto_steps.proofs.FirstNumber.{first_number}
-use Rattle.turn_client_proto_steps.proofs.first_numbers_are_of_the_seed.Goals as goal
-
-pub returns : goal.returns
-returns c = λ transport here server config seed core new now sent is short few drawn. first_number transport here server config seed core new now sent is short few drawn

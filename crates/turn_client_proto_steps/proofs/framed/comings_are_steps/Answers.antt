@@ -1,5 +1,0 @@
-use Rattle.turn_client_proto_steps.proofs.Frames.{coming_step}
-use Rattle.turn_client_proto_steps.proofs.framed.comings_are_steps.Goals as goal
-
-pub returns : goal.returns
-returns c = λ client came waiting sound of_these. coming_step client sound came waiting of_these

@@ -1,5 +1,0 @@
-use Rattle.turn_client_proto_steps.proofs.Receiving.{receive_step}
-use Rattle.turn_client_proto_steps.proofs.messages_are_steps.Goals as goal
-
-pub returns : goal.returns
-returns c = λ client bytes now handled new sound are_bytes message is. receive_step client bytes now handled new sound are_bytes message is

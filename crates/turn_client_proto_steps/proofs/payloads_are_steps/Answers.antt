@@ -1,5 +1,0 @@
-use Rattle.turn_client_proto_steps.proofs.Giving.{giving_step}
-use Rattle.turn_client_proto_steps.proofs.payloads_are_steps.Goals as goal
-
-pub returns : goal.returns
-returns c = λ client bytes payload sound is. giving_step client bytes payload sound is

@@ -1,8 +1,0 @@
-use Rattle.turn_client_proto_steps.proofs.Shown.{had_held, held_had}
-use Rattle.turn_client_proto_steps.proofs.permissions_had_are_held.Goals as goal
-
-pub returns : goal.returns
-returns c = record {
-  held = λ client transport ip is. had_held client.core.allocations transport ip is;
-  had = λ client transport ip held. held_had client.core.allocations transport ip held;
-}

@@ -1,5 +1,0 @@
-use Rattle.turn_client_proto_steps.proofs.Answering.{answer_step}
-use Rattle.turn_client_proto_steps.proofs.sockets.answers_are_steps.Goals as goal
-
-pub returns : goal.returns
-returns c = λ client here bytes now new sound are_bytes message is. answer_step client bytes now new here sound are_bytes message is

@@ -1,8 +1,0 @@
-use Rattle.turn_client_proto_steps.proofs.Streaming.{emptying_step, exchange_step}
-use Rattle.turn_client_proto_steps.proofs.sockets.exchanges_are_steps.Goals as goal
-
-pub returns : goal.returns
-returns c = record {
-  kept = λ client here stream sound. exchange_step client here stream sound;
-  taken = λ client sound. emptying_step client sound;
-}

@@ -1,8 +1,0 @@
-use Rattle.turn_client_proto_steps.proofs.Streaming.{from_here, raw_bound}
-use Rattle.turn_client_proto_steps.proofs.sockets.found_connections.Goals as goal
-
-pub returns : goal.returns
-returns c = record {
-  address = λ all here k is. from_here here all k is;
-  bound = λ all k is. raw_bound all k is;
-}

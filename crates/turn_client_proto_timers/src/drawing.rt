@@ -1,0 +1,310 @@
+//! What a client sends.
+
+ghost use Rattle.std.specs.Prelude.{◌≡◌, ◌≢◌, [], ℕ, IfOk, MatchOption, find, OnErr, OnOk, Some, None};
+ghost use Rattle.std.specs.Option.{option_map};
+ghost use Rattle.stun_proto_agent.specs.Sending.{NoneDue};
+ghost use Rattle.turn_client_proto_messages.specs.Requests.{request_text};
+ghost use Rattle.turn_client_proto_messages.specs.Waiting.{is_answer};
+ghost use Rattle.turn_client_proto_timers.specs.Drawing.{HasToBegin, HasToRepeat, HasToSend, IsAnswerSent, IsBegun};
+ghost use Rattle.turn_client_proto_timers.specs.Drawing.{IsChannelRenewalSent, IsDrawn, IsFirstSent, IsFreshSent};
+ghost use Rattle.turn_client_proto_timers.specs.Drawing.{IsNextSent, IsRefreshSent, IsRenewalSent};
+ghost use Rattle.turn_client_proto_timers.specs.Drawing.{IsRenewed, IsRepeated, after_sending};
+ghost use Rattle.turn_client_proto_timers.specs.Drawing.{first_allocated, first_bound, first_permitted};
+ghost use Rattle.turn_client_proto_timers.specs.Drawing.{first_refreshed, is_resting, sent_at_once};
+ghost use Rattle.turn_client_proto_api.specs.Sent.{sent_of};
+ghost use Rattle.turn_client_proto_timers.specs.Wanting.{wanted};
+ghost use Rattle.turn_client_proto_core.specs.Ending.{HasFailed, IsUnderWay};
+ghost use Rattle.turn_client_proto_core.specs.Numbering.{IsNextNumber, IsUnused};
+
+use crate::answers::take_answer;
+use crate::polling::next_send;
+use crate::wanting::{Want, refresh_first, renew_channel_first, renew_first, wanted};
+use std::net::{IpAddr, SocketAddr};
+use stun_proto_agent::error::StunError;
+use stun_types_base::data::{Data, DataOwned};
+use stun_types_base::instant::Instant;
+use stun_types_base::list::ListOf;
+use stun_types_base::memory::NoMemory;
+use stun_types_base::transmit::Transmit;
+use stun_types_base::transport::TransportType;
+use stun_types_wire::transaction::TransactionId;
+use turn_client_proto_allocation::channel::ChannelId;
+use turn_client_proto_allocation::refresh::PendingRefresh;
+use turn_client_proto_core::protocol::{Phase, Protocol};
+use turn_client_proto_messages::laws::requests_are_lawful;
+use turn_client_proto_messages::request::{ALLOCATION_LIFETIME, TurnRequest};
+
+/// What is to be sent at a moment, where there is something. A request that is due again comes
+/// first; then, 50 ms after the last message at the earliest, what waits longest, and before that
+/// moment the answer to a request of the server's that waits longest; then the first ALLOCATE, or what
+/// renews something whose time has come: a REFRESH for an allocation, a CHANNEL_BIND for a channel, or a
+/// CREATE_PERMISSION for a permission, for the first allocation for which there is one, in this order.
+/// Call it again until it answers `None`.
+///
+/// Memory is asked for where a request is due again, and where one is made. A message that waits
+/// takes none, and neither does a call that answers `None`. Where it is refused, `NoMemory`, and
+/// the client has failed.
+pub fn poll_transmit(
+    protocol: &mut Protocol,
+    now: Instant,
+) -> Result<Option<Transmit<Data<'static>>>, NoMemory>
+    ensures ok { IfOk result (λ answer.
+        IsDrawn protocol.old now (option_map sent_of answer) protocol.new) }
+    ensures err { OnErr result (HasFailed protocol.old protocol.new) }
+    ensures memory { OnErr result (HasToSend protocol.old now) }
+{
+    let events = protocol.events.len();
+    match draw(protocol, now) {
+        Ok(answer) => Ok(answer),
+        Err(e) => {
+            protocol.fail(events);
+            Err(e)
+        }
+    }
+}
+
+/// The same; but where memory is refused, the client is under way still.
+fn draw(protocol: &mut Protocol, now: Instant) -> Result<Option<Transmit<Data<'static>>>, NoMemory>
+    ensures ok { IfOk result (λ answer.
+        IsDrawn protocol.old now (option_map sent_of answer) protocol.new) }
+    ensures err { OnErr result (IsUnderWay protocol.old protocol.new) }
+    ensures memory { OnErr result (HasToSend protocol.old now) }
+{
+    if let Some(again) = draw_again(protocol, now)? {
+        return Ok(Some(again));
+    }
+    if is_resting(protocol, now) {
+        return Ok(draw_answer(protocol));
+    }
+    draw_next(protocol, now)
+}
+
+/// A request that is due again.
+fn draw_again(
+    protocol: &mut Protocol,
+    now: Instant,
+) -> Result<Option<Transmit<Data<'static>>>, NoMemory>
+    ensures ok { IfOk result (λ answer. MatchOption answer
+        (NoneDue protocol.old.agent now × (protocol.new ≡ protocol.old))
+        (λ sent. IsRepeated protocol.old now (sent_of sent) protocol.new)) }
+    ensures err { OnErr result (IsUnderWay protocol.old protocol.new) }
+    ensures memory { OnErr result (HasToRepeat protocol.old now) }
+{
+    let Some(due) = protocol.agent.poll_transmit(now) else {
+        return Ok(None);
+    };
+    let bytes = Vec::from_slice(protocol.alloc, due.bytes)?;
+    let again = transmit(bytes, due.transport, due.from, due.to);
+    protocol.last_send = Some(now);
+    Ok(Some(again))
+}
+
+/// Whether a message was sent so short a time ago that no other one is sent yet.
+fn is_resting(protocol: &Protocol, now: Instant) -> bool
+    ensures { result ≡ is_resting protocol.now.last_send now }
+{
+    match protocol.last_send {
+        Some(last) => now < next_send(last),
+        None => false,
+    }
+}
+
+/// The first answer to a request of the server's that waits. It is no message for whose sake others wait.
+fn draw_answer(protocol: &mut Protocol) -> Option<Transmit<Data<'static>>>
+    ensures { IsAnswerSent (find is_answer protocol.old.queue) protocol.old
+        (option_map sent_of result) protocol.new }
+{
+    let queued = take_answer(&mut protocol.queue)?;
+    let transport = protocol.agent.transport();
+    let from = queued.from();
+    Some(transmit(queued.into_bytes(), transport, from, protocol.server))
+}
+
+/// The first message that waits, or else one that is made now.
+fn draw_next(
+    protocol: &mut Protocol,
+    now: Instant,
+) -> Result<Option<Transmit<Data<'static>>>, NoMemory>
+    ensures ok { IfOk result (λ answer.
+        IsNextSent protocol.old.queue protocol.old now (option_map sent_of answer) protocol.new) }
+    ensures err { OnErr result (IsUnderWay protocol.old protocol.new) }
+    ensures memory { OnErr result ((protocol.old.queue ≡ [])
+        × HasToBegin protocol.old.phase protocol.old.allocations now) }
+{
+    match protocol.queue.pop_front() {
+        Some(queued) => {
+            let transport = protocol.agent.transport();
+            let from = queued.from();
+            let sent = transmit(queued.into_bytes(), transport, from, protocol.server);
+            protocol.last_send = Some(now);
+            Ok(Some(sent))
+        }
+        None => begin(protocol, now),
+    }
+}
+
+/// A message that is made now: the first ALLOCATE, or what renews something whose time has come.
+fn begin(protocol: &mut Protocol, now: Instant) -> Result<Option<Transmit<Data<'static>>>, NoMemory>
+    ensures ok { IfOk result (λ answer.
+        IsBegun protocol.old.phase protocol.old now (option_map sent_of answer) protocol.new) }
+    ensures err { OnErr result (IsUnderWay protocol.old protocol.new) }
+    ensures memory { OnErr result
+        (HasToBegin protocol.old.phase protocol.old.allocations now) }
+{
+    match &protocol.phase {
+        Phase::Initial => Ok(Some(send_first(protocol, now)?)),
+        Phase::Authenticated => renew(protocol, now),
+        Phase::InitialSent(_) | Phase::Authenticating(_) | Phase::Ended => Ok(None),
+    }
+}
+
+/// A REFRESH for an allocation, a CHANNEL_BIND for a channel, or a CREATE_PERMISSION for a
+/// permission, whose time has come.
+fn renew(protocol: &mut Protocol, now: Instant) -> Result<Option<Transmit<Data<'static>>>, NoMemory>
+    ensures ok { IfOk result (λ answer. IsRenewed (wanted now protocol.old.allocations)
+        protocol.old now (option_map sent_of answer) protocol.new) }
+    ensures err { OnErr result (IsUnderWay protocol.old protocol.new) }
+    ensures memory { OnErr result (wanted now protocol.old.allocations ≢ None) }
+{
+    let Some(want) = wanted(protocol.allocations.as_slice(), now) else {
+        return Ok(None);
+    };
+    match want {
+        Want::Refresh => Ok(Some(send_refresh(protocol, now)?)),
+        Want::Channel(channel, peer) => {
+            Ok(Some(send_channel_renewal(protocol, channel, peer, now)?))
+        }
+        Want::Permission(ip) => Ok(Some(send_renewal(protocol, ip, now)?)),
+    }
+}
+
+/// Sends the first ALLOCATE.
+fn send_first(protocol: &mut Protocol, now: Instant) -> Result<Transmit<Data<'static>>, NoMemory>
+    ensures ok { IfOk result (λ sent. IsFirstSent protocol.old now (sent_of sent) protocol.new) }
+    ensures err { OnErr result (IsUnderWay protocol.old protocol.new) }
+{
+    let number = protocol.draw_number()?;
+    let request = TurnRequest::FirstAllocate(protocol.allocates, protocol.families);
+    let sent = send_at_once(protocol, number, request, now)?;
+    let mut numbers = ListOf::new(protocol.alloc);
+    numbers.push(number)?;
+    protocol.phase = Phase::InitialSent(numbers);
+    protocol.last_send = Some(now);
+    Ok(sent)
+}
+
+/// Sends a REFRESH for the first allocation for which something is to be sent.
+fn send_refresh(protocol: &mut Protocol, now: Instant) -> Result<Transmit<Data<'static>>, NoMemory>
+    ensures ok { IfOk result (λ sent. IsRefreshSent protocol.old now (sent_of sent) protocol.new) }
+    ensures err { OnErr result (IsUnderWay protocol.old protocol.new) }
+{
+    let number = protocol.draw_number()?;
+    let sent = send_at_once(
+        protocol,
+        number,
+        TurnRequest::Refresh(ALLOCATION_LIFETIME),
+        now,
+    )?;
+    let refresh = PendingRefresh {
+        number,
+        lifetime: ALLOCATION_LIFETIME,
+    };
+    refresh_first(protocol.allocations.as_mut_slice(), now, &refresh)?;
+    protocol.last_send = Some(now);
+    Ok(sent)
+}
+
+/// Sends a CREATE_PERMISSION for an address, by which the first permission that is to be renewed
+/// is.
+fn send_renewal(
+    protocol: &mut Protocol,
+    ip: IpAddr,
+    now: Instant,
+) -> Result<Transmit<Data<'static>>, NoMemory>
+    ensures ok { IfOk result (λ sent.
+        IsRenewalSent protocol.old ip now (sent_of sent) protocol.new) }
+    ensures err { OnErr result (IsUnderWay protocol.old protocol.new) }
+{
+    let number = protocol.draw_number()?;
+    let request = TurnRequest::CreatePermission(ip);
+    requests_are_lawful(&request);
+    let sent = send_at_once(protocol, number, request, now)?;
+    renew_first(protocol.allocations.as_mut_slice(), now, number)?;
+    protocol.last_send = Some(now);
+    Ok(sent)
+}
+
+/// Sends a CHANNEL_BIND of a number to a peer, by which the first channel that is to be renewed is.
+fn send_channel_renewal(
+    protocol: &mut Protocol,
+    channel: ChannelId,
+    peer: SocketAddr,
+    now: Instant,
+) -> Result<Transmit<Data<'static>>, NoMemory>
+    ensures ok { IfOk result (λ sent.
+        IsChannelRenewalSent protocol.old channel peer now (sent_of sent) protocol.new) }
+    ensures err { OnErr result (IsUnderWay protocol.old protocol.new) }
+{
+    let number = protocol.draw_number()?;
+    let request = TurnRequest::ChannelBind(channel.number(), peer);
+    requests_are_lawful(&request);
+    let sent = send_at_once(protocol, number, request, now)?;
+    renew_channel_first(protocol.allocations.as_mut_slice(), now, number)?;
+    protocol.last_send = Some(now);
+    Ok(sent)
+}
+
+/// Makes a request of this number that is sent at once, and is outstanding from now on. Where
+/// memory is refused, nothing changes.
+fn send_at_once(
+    protocol: &mut Protocol,
+    number: TransactionId,
+    request: TurnRequest,
+    now: Instant,
+) -> Result<Transmit<Data<'static>>, NoMemory>
+    requires unused { IsUnused protocol.old.agent number }
+    ensures sent { IfOk result (λ sent. sent_of sent ≡ record {
+      bytes = request_text protocol.old.auth request number;
+      transport = protocol.old.agent.transport;
+      from = protocol.old.agent.here;
+      to = protocol.old.server;
+    }) }
+    ensures ok { OnOk result (protocol.new ≡ sent_at_once protocol.old request number now) }
+    ensures err { OnErr result (protocol.new ≡ protocol.old) }
+{
+    let bytes = protocol
+        .auth
+        .write_request(protocol.alloc, number, request)?;
+    match protocol
+        .agent
+        .send_request(bytes.as_slice(), protocol.server, now)
+    {
+        Ok(_) => {}
+        Err(e) => match e {
+            StunError::NoMemory => return Err(NoMemory),
+            // It is a request, and none of its number is outstanding.
+            _ => unreachable!(),
+        },
+    }
+    let transport = protocol.agent.transport();
+    let from = protocol.agent.local_addr();
+    Ok(transmit(bytes, transport, from, protocol.server))
+}
+
+/// Owned bytes that are sent.
+fn transmit(
+    bytes: Vec<u8>,
+    transport: TransportType,
+    from: SocketAddr,
+    to: SocketAddr,
+) -> Transmit<Data<'static>>
+    ensures { sent_of result ≡ record {
+      bytes = bytes.items;
+      transport = transport;
+      from = from;
+      to = to;
+    } }
+{
+    let owned = DataOwned::from(bytes.into_boxed_slice());
+    Transmit::new(Data::Owned(owned), transport, from, to)
+}

@@ -1,7 +1,0 @@
-use Rattle.turn_client_proto_unanswered.specs.Driving.{IsDrivenBy}
-use Rattle.turn_client_proto_unanswered.specs.declared.driving.Stage.TheVariants.{Drawing}
-use Rattle.turn_client_proto_unanswered.proofs.driving.drive.Given as goal
-
--- so many calls were made
-abbrev pub invariant-loop : goal.invariant-loop
-invariant-loop l = IsDrivenBy l.counter (Drawing l.fn.made) l.fn.client l.stage l.client

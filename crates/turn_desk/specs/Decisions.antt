@@ -1,0 +1,3 @@
+-- What a driver decides, by name.
+pub use Rattle.turn_desk_core.specs.declared.decision.Decision.{Decision}
+pub use Rattle.turn_desk_core.specs.declared.decision.Decision.TheVariants.{Refuse, Allocate, Refresh, Connect, Grant}

@@ -1,0 +1,403 @@
+//! The printing of answers.
+
+ghost use Rattle.std.specs.Prelude.{◌≡◌, ◌++◌, IfOk, OnOk, codes, decimal, string_bytes};
+ghost use Rattle.std.specs.List.{flat_map};
+ghost use Rattle.std.specs.Net.Text.{socket_text};
+ghost use Rattle.line_io.specs.LowerHex.{hex_text};
+ghost use Rattle.turn_desk_event.specs.Printed.{answer_text, answer_words, between_text, bind_error_text, channel_text, connection_text, delete_error_text, event_text, family_word, have_text, icmp_text, permission_error_text, permitted_text, placed_text, refusal_text, relayed_text, send_error_text, socket_error_text, transport_word, bound_text, connect_error_text};
+
+use crate::answer::{Answer, Refusal};
+use line_io::lower_hex::write_hex;
+use std::alloc::{AllocError, Global};
+use std::net::{IpAddr, SocketAddr};
+use stun_types_base::family::AddressFamily;
+use stun_types_base::transport::TransportType;
+use turn_client_proto_api::answer::Socket5Tuple;
+use turn_client_proto_api::error::{
+    BindChannelError, CreatePermissionError, DeleteError, SendError, TcpAllocateError,
+    TcpConnectError,
+};
+use turn_client_proto_api::event::TurnEvent;
+
+/// The line that an answer is printed as, with its line feed. Where memory is refused,
+/// `AllocError`.
+pub fn answer_line(alloc: Global, answer: &Answer) -> Result<String, AllocError>
+    ensures { IfOk result (λ text. string_bytes text ≡ answer_text answer.now) }
+{
+    let mut text = print_words(alloc, answer)?;
+    text.push_str("\n")?;
+    Ok(text)
+}
+
+/// What an answer is printed as, without the line feed.
+fn print_words(alloc: Global, answer: &Answer) -> Result<String, AllocError>
+    ensures { IfOk result (λ text. string_bytes text ≡ answer_words answer.now) }
+{
+    match answer {
+        Answer::Reply(reply) => print_reply(alloc, reply.as_slice()),
+        Answer::Nothing => String::from_str(alloc, "none"),
+        Answer::Transmit(sent) => print_transmit(alloc, sent.from, sent.to, sent.bytes.as_slice()),
+        Answer::Handled => String::from_str(alloc, "handled"),
+        Answer::Ignored => String::from_str(alloc, "ignored"),
+        Answer::Peer(data) => print_peer(alloc, data.transport, data.peer, data.data()),
+        Answer::Icmp {
+            transport,
+            peer,
+            icmp_type,
+            icmp_code,
+            icmp_data,
+        } => print_icmp(alloc, *transport, *peer, *icmp_type, *icmp_code, *icmp_data),
+        Answer::Wait(moment) => format!(in alloc; "wait {}", moment.as_nanos()),
+        Answer::Socket { id, socket, peer } => print_socket(alloc, *id, *socket, *peer),
+        Answer::Close { local, remote } => print_close(alloc, *local, *remote),
+        Answer::Closed => String::from_str(alloc, "closed"),
+        Answer::Event(event) => print_event(alloc, *event),
+        Answer::Done => String::from_str(alloc, "ok"),
+        Answer::Refused(refusal) => print_refusal(alloc, *refusal),
+        Answer::Have(stands) => String::from_str(alloc, name_of_have(*stands)),
+        Answer::Relayed(list) => print_relayed(alloc, list.as_slice()),
+        Answer::Permissions(list) => print_permissions(alloc, list.as_slice()),
+        Answer::Channels(list) => print_channels(alloc, list.as_slice()),
+        Answer::Connections(list) => print_connections(alloc, list.as_slice()),
+        Answer::OutOfRange => String::from_str(alloc, "out of range"),
+    }
+}
+
+/// `reply HEX`
+fn print_reply(alloc: Global, reply: &[u8]) -> Result<String, AllocError>
+    ensures { IfOk result (λ text. string_bytes text ≡ codes "reply " ++ hex_text reply.now) }
+{
+    let digits = write_hex(alloc, reply)?;
+    format!(in alloc; "reply {digits}")
+}
+
+/// `transmit FROM TO HEX`
+fn print_transmit(
+    alloc: Global,
+    from: SocketAddr,
+    to: SocketAddr,
+    bytes: &[u8],
+) -> Result<String, AllocError>
+    ensures { IfOk result (λ text. string_bytes text
+        ≡ codes "transmit " ++ between_text from to ++ codes " " ++ hex_text bytes.now) }
+{
+    let digits = write_hex(alloc, bytes)?;
+    format!(in alloc; "transmit {from} {to} {digits}")
+}
+
+/// `peer T ADDR HEX`
+fn print_peer(
+    alloc: Global,
+    transport: TransportType,
+    peer: SocketAddr,
+    payload: &[u8],
+) -> Result<String, AllocError>
+    ensures { IfOk result (λ text. string_bytes text ≡ codes "peer "
+        ++ placed_text transport (socket_text peer) ++ codes " " ++ hex_text payload.now) }
+{
+    let digits = write_hex(alloc, payload)?;
+    format!(in alloc; "peer {} {peer} {digits}", name_of_transport(transport))
+}
+
+/// `icmp T ADDR TYPE CODE DATA`
+fn print_icmp(
+    alloc: Global,
+    transport: TransportType,
+    peer: SocketAddr,
+    icmp_type: u8,
+    icmp_code: u8,
+    icmp_data: u32,
+) -> Result<String, AllocError>
+    ensures { IfOk result (λ text. string_bytes text ≡ codes "icmp "
+        ++ placed_text transport (socket_text peer) ++ codes " "
+        ++ icmp_text icmp_type icmp_code icmp_data) }
+{
+    let name = name_of_transport(transport);
+    format!(in alloc; "icmp {name} {peer} {icmp_type} {icmp_code} {icmp_data}")
+}
+
+/// `socket ID FROM TO PEER`
+fn print_socket(
+    alloc: Global,
+    id: u32,
+    socket: Socket5Tuple,
+    peer: SocketAddr,
+) -> Result<String, AllocError>
+    ensures { IfOk result (λ text. string_bytes text ≡ codes "socket " ++ decimal id ++ codes " "
+        ++ between_text socket.from socket.to ++ codes " " ++ socket_text peer) }
+{
+    format!(in alloc; "socket {id} {} {} {peer}", socket.from, socket.to)
+}
+
+/// `close LOCAL REMOTE`
+fn print_close(alloc: Global, local: SocketAddr, remote: SocketAddr) -> Result<String, AllocError>
+    ensures { IfOk result (λ text. string_bytes text
+        ≡ codes "close " ++ between_text local remote) }
+{
+    format!(in alloc; "close {local} {remote}")
+}
+
+/// `event NAME` and the values of the event.
+fn print_event(alloc: Global, event: TurnEvent) -> Result<String, AllocError>
+    ensures { IfOk result (λ text. string_bytes text ≡ codes "event " ++ event_text event) }
+{
+    match event {
+        TurnEvent::AllocationCreated(transport, address) => {
+            format!(in alloc;
+                "event AllocationCreated {} {address}",
+                name_of_transport(transport)
+            )
+        }
+        TurnEvent::AllocationCreateFailed(family) => {
+            format!(in alloc; "event AllocationCreateFailed {}", name_of_family(family))
+        }
+        TurnEvent::PermissionCreated(transport, ip) => {
+            format!(in alloc;
+                "event PermissionCreated {} {ip}",
+                name_of_transport(transport)
+            )
+        }
+        TurnEvent::PermissionCreateFailed(transport, ip) => {
+            format!(in alloc;
+                "event PermissionCreateFailed {} {ip}",
+                name_of_transport(transport)
+            )
+        }
+        TurnEvent::ChannelCreated(transport, peer) => {
+            format!(in alloc;
+                "event ChannelCreated {} {peer}",
+                name_of_transport(transport)
+            )
+        }
+        TurnEvent::ChannelCreateFailed(transport, peer) => {
+            format!(in alloc;
+                "event ChannelCreateFailed {} {peer}",
+                name_of_transport(transport)
+            )
+        }
+        TurnEvent::TcpConnected(peer) => format!(in alloc; "event TcpConnected {peer}"),
+        TurnEvent::TcpConnectFailed(peer) => format!(in alloc; "event TcpConnectFailed {peer}"),
+    }
+}
+
+/// `relayed`, and the transport and the address of each.
+fn print_relayed(alloc: Global, list: &[(TransportType, SocketAddr)]) -> Result<String, AllocError>
+    ensures { IfOk result (λ text. string_bytes text
+        ≡ codes "relayed" ++ flat_map relayed_text list.now) }
+{
+    let mut text = String::from_str(alloc, "relayed")?;
+    for relayed in list {
+        push_relayed(alloc, &mut text, *relayed)?;
+    }
+    Ok(text)
+}
+
+/// Appends the transport and the address of a relayed address, each behind a space.
+fn push_relayed(
+    alloc: Global,
+    text: &mut String,
+    relayed: (TransportType, SocketAddr),
+) -> Result<(), AllocError>
+    ensures { OnOk result (string_bytes text.new ≡ string_bytes text.old ++ relayed_text relayed) }
+{
+    let (transport, address) = relayed;
+    let words = format!(in alloc; " {} {address}", name_of_transport(transport))?;
+    text.push_str(words.as_str())
+}
+
+/// `permissions`, and the address of each.
+fn print_permissions(alloc: Global, list: &[IpAddr]) -> Result<String, AllocError>
+    ensures { IfOk result (λ text. string_bytes text
+        ≡ codes "permissions" ++ flat_map permitted_text list.now) }
+{
+    let mut text = String::from_str(alloc, "permissions")?;
+    for ip in list {
+        push_permitted(alloc, &mut text, *ip)?;
+    }
+    Ok(text)
+}
+
+/// Appends the address of a permission behind a space.
+fn push_permitted(alloc: Global, text: &mut String, ip: IpAddr) -> Result<(), AllocError>
+    ensures { OnOk result (string_bytes text.new ≡ string_bytes text.old ++ permitted_text ip) }
+{
+    let word = format!(in alloc; " {ip}")?;
+    text.push_str(word.as_str())
+}
+
+/// `channels`, and the number and the peer of each.
+fn print_channels(alloc: Global, list: &[(u16, SocketAddr)]) -> Result<String, AllocError>
+    ensures { IfOk result (λ text. string_bytes text
+        ≡ codes "channels" ++ flat_map channel_text list.now) }
+{
+    let mut text = String::from_str(alloc, "channels")?;
+    for channel in list {
+        push_channel(alloc, &mut text, *channel)?;
+    }
+    Ok(text)
+}
+
+/// Appends the number and the peer of a channel, each behind a space.
+fn push_channel(
+    alloc: Global,
+    text: &mut String,
+    channel: (u16, SocketAddr),
+) -> Result<(), AllocError>
+    ensures { OnOk result (string_bytes text.new ≡ string_bytes text.old ++ channel_text channel) }
+{
+    let (number, peer) = channel;
+    let words = format!(in alloc; " {number} {peer}")?;
+    text.push_str(words.as_str())
+}
+
+/// `connections`, and of each the own address, the peer, the number and whether it is bound.
+fn print_connections(
+    alloc: Global,
+    list: &[(SocketAddr, SocketAddr, u32, bool)],
+) -> Result<String, AllocError>
+    ensures { IfOk result (λ text. string_bytes text
+        ≡ codes "connections" ++ flat_map connection_text list.now) }
+{
+    let mut text = String::from_str(alloc, "connections")?;
+    for connection in list {
+        push_connection(alloc, &mut text, *connection)?;
+    }
+    Ok(text)
+}
+
+/// Appends what is shown of a connection, each word behind a space.
+fn push_connection(
+    alloc: Global,
+    text: &mut String,
+    connection: (SocketAddr, SocketAddr, u32, bool),
+) -> Result<(), AllocError>
+    ensures { OnOk result (string_bytes text.new
+        ≡ string_bytes text.old ++ connection_text connection) }
+{
+    let (here, peer, number, is_bound) = connection;
+    let words = format!(in alloc; " {here} {peer} {number} {}", name_of_bound(is_bound))?;
+    text.push_str(words.as_str())
+}
+
+/// The word for whether a connection is bound.
+fn name_of_bound(is_bound: bool) -> &'static str
+    ensures { result.now ≡ bound_text is_bound }
+{
+    if is_bound { "bound" } else { "waiting" }
+}
+
+/// `refused NAME`, and behind the name of an expired channel its moment.
+fn print_refusal(alloc: Global, refusal: Refusal) -> Result<String, AllocError>
+    ensures { IfOk result (λ text. string_bytes text ≡ codes "refused " ++ refusal_text refusal) }
+{
+    match refusal {
+        Refusal::Delete(error) => format!(in alloc; "refused {}", name_of_delete_error(error)),
+        Refusal::CreatePermission(error) => {
+            format!(in alloc; "refused {}", name_of_permission_error(error))
+        }
+        Refusal::BindChannel(error) => print_bind_refusal(alloc, error),
+        Refusal::TcpConnect(error) => format!(in alloc; "refused {}", name_of_connect_error(error)),
+        Refusal::TcpAllocate(error) => format!(in alloc; "refused {}", name_of_socket_error(error)),
+        Refusal::Send(error) => format!(in alloc; "refused {}", name_of_send_error(error)),
+    }
+}
+
+/// The name of the reason for which no connection is asked for.
+fn name_of_connect_error(error: TcpConnectError) -> &'static str
+    ensures { result.now ≡ connect_error_text error }
+{
+    match error {
+        TcpConnectError::AlreadyExists => "AlreadyExists",
+        TcpConnectError::NoAllocation => "NoAllocation",
+        TcpConnectError::NoPermission => "NoPermission",
+        _ => "NoMemory",
+    }
+}
+
+/// The name of the reason for which a socket is not taken.
+fn name_of_socket_error(error: TcpAllocateError) -> &'static str
+    ensures { result.now ≡ socket_error_text error }
+{
+    match error {
+        TcpAllocateError::AlreadyExists => "AlreadyExists",
+        TcpAllocateError::NoAllocation => "NoAllocation",
+        _ => "NoMemory",
+    }
+}
+
+/// The name of a `SendError`.
+fn name_of_send_error(error: SendError) -> &'static str
+    ensures { result.now ≡ send_error_text error }
+{
+    match error {
+        SendError::NoAllocation => "NoAllocation",
+        SendError::NoPermission => "NoPermission",
+        SendError::NoTcpSocket => "NoTcpSocket",
+        SendError::TooLarge => "TooLarge",
+        _ => "NoMemory",
+    }
+}
+
+/// `refused NAME` where no channel is asked for, and behind the name of an expired channel the moment
+/// through which none is bound to that peer.
+fn print_bind_refusal(alloc: Global, error: BindChannelError) -> Result<String, AllocError>
+    ensures { IfOk result (λ text. string_bytes text ≡ codes "refused " ++ bind_error_text error) }
+{
+    match error {
+        BindChannelError::AlreadyExists => String::from_str(alloc, "refused AlreadyExists"),
+        BindChannelError::ExpiredChannelExists(until) => {
+            format!(in alloc; "refused ExpiredChannelExists {}", until.as_nanos())
+        }
+        BindChannelError::NoAllocation => String::from_str(alloc, "refused NoAllocation"),
+        BindChannelError::NoChannel => String::from_str(alloc, "refused NoChannel"),
+        _ => String::from_str(alloc, "refused NoMemory"),
+    }
+}
+
+/// The word for whether a permission stands.
+fn name_of_have(stands: bool) -> &'static str
+    ensures { result.now ≡ have_text stands }
+{
+    if stands { "yes" } else { "no" }
+}
+
+/// The word for a transport.
+fn name_of_transport(transport: TransportType) -> &'static str
+    ensures { result.now ≡ transport_word transport }
+{
+    match transport {
+        TransportType::Udp => "udp",
+        TransportType::Tcp => "tcp",
+    }
+}
+
+/// The word for a family of addresses.
+fn name_of_family(family: AddressFamily) -> &'static str
+    ensures { result.now ≡ family_word family }
+{
+    match family {
+        AddressFamily::IPV4 => "4",
+        AddressFamily::IPV6 => "6",
+    }
+}
+
+/// The name of the reason for which allocations are not deleted.
+fn name_of_delete_error(error: DeleteError) -> &'static str
+    ensures { result.now ≡ delete_error_text error }
+{
+    match error {
+        DeleteError::NoAllocation => "NoAllocation",
+        _ => "NoMemory",
+    }
+}
+
+/// The name of the reason for which no permission is asked for.
+fn name_of_permission_error(error: CreatePermissionError) -> &'static str
+    ensures { result.now ≡ permission_error_text error }
+{
+    match error {
+        CreatePermissionError::AlreadyExists => "AlreadyExists",
+        CreatePermissionError::NoAllocation => "NoAllocation",
+        _ => "NoMemory",
+    }
+}

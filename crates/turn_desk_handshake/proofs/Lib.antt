@@ -1,2 +1,0 @@
-pub mod Requesting
-pub mod Succeeding

@@ -1,9 +1,0 @@
-use Rattle.std.proofs.Common.{◌≡◌, ◌++◌, codes, string_bytes, take}
-use Rattle.std.specs.List.{flat_map}
-use Rattle.turn_desk_print.specs.Printed.{relayed_text}
-use Rattle.turn_desk_print.proofs.print.print_relayed.Given as goal
-
--- the text so far has those of the list that were passed
-abbrev pub invariant-loop-relayed : goal.invariant-loop-relayed
-invariant-loop-relayed l =
-    string_bytes l.text ≡ codes "relayed" ++ flat_map relayed_text (take l.relayed-index l.list)

@@ -1,0 +1,96 @@
+use Rattle.std.proofs.Common.{◌≡◌, ◌++◌, ◌<◌, ◌^◌, ℕ, List, [], ◌∷◌, ap, refl, sym, ◌∙◌, subst}
+use Rattle.std.specs.declared.net.socket_addr.SocketAddr.{SocketAddr}
+use Rattle.turn_client_proto_messages.specs.StunProtoClient.Client.{standing_key}
+use Rattle.turn_client_proto_messages.specs.StunProtoClient.Digests.{IsRight}
+use Rattle.turn_client_proto_api.specs.declared.event.TurnEvent.{TurnEvent}
+use Rattle.turn_client_proto_api.specs.Sent.{Sent}
+use Rattle.turn_client_proto_step_laws.specs.Sound.{IsWhole}
+use Rattle.turn_client_proto_messages.specs.ReadTexts.{HasReadTexts}
+use Rattle.turn_client_proto_messages.specs.ShortTexts.{HasShortTexts}
+use Rattle.turn_client_proto_handshake_laws.specs.Choosing.{IsChoice, IsSignedAllocate, allocate_of, signed_request, signer_by, standing_by}
+use Rattle.turn_client_proto_handshake_laws.specs.Stages.{AsksForOne}
+use Rattle.turn_desk_event.specs.declared.answer.Answer.{Answer}
+use Rattle.turn_desk_event.specs.declared.answer.Answer.TheVariants as answer
+use Rattle.turn_desk_core.specs.declared.decision.Decision.TheVariants as by
+use Rattle.turn_desk_core.specs.declared.grant.Grant.{Grant}
+use Rattle.turn_desk_step_laws.proofs.Requesting.{is_served}
+use Rattle.turn_desk_step_laws.specs.Handshakes.{IsOfServer}
+use Rattle.turn_desk_world_laws.specs.World.Desks.{IsDeskAnswered, IsReply, words_of}
+use Rattle.turn_desk_world_laws.specs.World.Model.{World}
+use Rattle.turn_desk_progress_laws.specs.Promises.{IsFresh, allocation_granted, event_in}
+use Rattle.turn_desk_progress_laws.specs.Scripts.{Plan, replied_second}
+use Rattle.turn_desk_progress_laws.specs.Standing.{IsSigned, Stands}
+use Rattle.turn_desk_progress_laws.proofs.Coming.{none_yet}
+use Rattle.turn_desk_progress_laws.proofs.Places.{untold}
+use Rattle.turn_desk_progress_laws.proofs.Serving.{choice_of, differ_still, is_user, keeps_key, of_settings}
+use Rattle.turn_desk_progress_laws.proofs.honest.second_requests_are_granted.Goals as goal
+
+module _ (c : goal.After-messages_are_told_alike) (plan : Plan) (old w v : World) (told : List TurnEvent) (fresh : IsFresh plan old) (none : told ≡ []) (request : Sent) (is : IsSigned plan old request w)
+    (address : SocketAddr) (lifetime : ℕ) (seed : List ℕ) (asks : AsksForOne plan.client address) (whole : IsWhole address) (four : lifetime < 2 ^ 32) (client : v.client ≡ w.client) where
+  choice_is : IsChoice plan.client is.choice
+  choice_is = choice_of plan is.choice is.chosen.client.core is.chosen.client.is
+
+  short : HasShortTexts (signer_by plan.client is.choice)
+  short = c.signed_allocates_answer.ensures.short plan.client is.choice fresh.room choice_is
+
+  reads : HasReadTexts (signer_by plan.client is.choice)
+  reads = c.signed_allocates_answer.ensures.read plan.client is.choice fresh.text choice_is
+
+  own : IsOfServer w.desk.auth plan.client.here (standing_by plan.client is.choice)
+  own = is_user plan old.desk w.desk is.choice is.chosen.under is.chosen.answered fresh.user
+
+  signed : IsSignedAllocate plan.client is.choice
+  signed = c.signed_allocates_answer.ensures.request plan.client is.choice fresh.room fresh.text choice_is
+
+  abbrev bytes : List ℕ
+  bytes = signed_request plan.client is.choice
+
+  granted_grants : (grants : List Grant) → grants ≡ w.desk.grants ++ allocation_granted plan bytes address lifetime ∷ [] → grants ≡ old.desk.grants ++ allocation_granted plan request.bytes address lifetime ∷ []
+  granted_grants grants all =
+      all ∙ ap (λ (l : List Grant). l ++ allocation_granted plan bytes address lifetime ∷ []) is.chosen.under.challenge.granted
+      ∙ ap (λ (r : Sent). old.desk.grants ++ allocation_granted plan r.bytes address lifetime ∷ []) (sym is.request_is)
+
+  by_reply : (ret : Answer) → IsReply ret w.desk bytes plan.client.here plan.second (by.Allocate (address ∷ []) lifetime) seed v.desk → Stands plan old (told ++ event_in ret) (replied_second request address lifetime ret) v
+  by_reply (answer.Reply reply) replied =
+      let g = c.signed_allocates_are_granted.ensures w.desk v.desk plan.client.here (signer_by plan.client is.choice) plan.client.config.transport plan.client.config.families is.choice.number plan.second
+      (words_of seed) (standing_by plan.client is.choice) (address ∷ []) lifetime reply.items short reads fresh.room.1 choice_is.fits (c.signed_allocates_answer.ensures.stands plan.client is.choice) own
+      (differ_still plan old.desk w.desk is.choice.told is.chosen.under fresh.hashes) (is.chosen.under.challenge.stands plan.second fresh.stands) refl
+      (c.relayed_addresses_are_told.ensures.relayed is.choice.number (address ∷ []) (whole, tt)) four replied.answer in
+      let right = c.successes_are_right.ensures w.desk v.desk plan.client.here bytes reply.items plan.client.config.transport (address ∷ []) lifetime (standing_by plan.client is.choice) own g in (
+        untold told [] none refl,
+        record {
+          choice = is.choice;
+          is = record {
+            request_is = is.request_is;
+            made = is.chosen.made;
+            answered = is.chosen.answered;
+            of = of_settings plan old.desk w.desk is.choice.told is.chosen.under;
+            asks = asks;
+            request_right = subst (λ (r : Sent). IsRight r.bytes (standing_key (standing_by plan.client is.choice))) (sym is.request_is)
+                signed.valid;
+            message = g.message;
+            grant = record {
+              number = g.number ∙ signed.number;
+              success = g.success;
+              right = right.0;
+              relayed = c.messages_are_told_alike.ensures.relayed reply.items g.each ∙ g.shows;
+              lifetime_is = c.messages_are_told_alike.ensures.lifetime reply.items ∙ g.tells;
+            };
+            no_challenge = right.1;
+            keeps = keeps_key w.desk.auth v.desk.auth plan.client.here (standing_by plan.client is.choice) own g.kept;
+            granted = granted_grants v.desk.grants g.granted;
+          };
+          part = none_yet reply.items g.message;
+          client = record { core = is.chosen.client.core; there = client ∙ is.chosen.client.there; is = is.chosen.client.is };
+        },
+      )
+  by_reply answer.Nothing replied =
+      absurd (replied.0 (is_served (signer_by plan.client is.choice) plan.client.config.transport plan.client.config.families is.choice.number
+      (c.requests_are_read.ensures.read (signer_by plan.client is.choice) (allocate_of plan.client) is.choice.number short fresh.room.1 choice_is.fits)))
+  by_reply _ replied = absurd replied
+
+pub returns : goal.returns
+returns c = λ plan old w v told ret request bytes address lifetime seed fresh is same asks whole step.
+    let at = subst (λ (b : List ℕ). IsDeskAnswered ret w.desk b request.from plan.second (by.Allocate (address ∷ []) lifetime) seed v.desk) same step.0 in
+    let of = subst (λ (r : Sent). IsDeskAnswered ret w.desk r.bytes r.from plan.second (by.Allocate (address ∷ []) lifetime) seed v.desk) is.1.request_is at in
+    by_reply c plan old w v told fresh is.0 request is.1 address lifetime seed asks whole of.four_bytes (ap (λ (x : World). x.client) step.1) ret of.reply

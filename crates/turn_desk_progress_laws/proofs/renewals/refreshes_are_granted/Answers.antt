@@ -1,0 +1,195 @@
+use Rattle.std.proofs.Common.{◌≡◌, ◌++◌, ◌<◌, ◌≤◌, ◌^◌, ℕ, Bool, true, false, List, [], ◌∷◌, Some, None, ap, sym, ◌∙◌, subst, inl, inr, Vec, ◌/◌, ◌%◌, eqb, arith}
+use Rattle.std.proofs.lemmas.Grind.{common_steps}
+use Rattle.std.specs.List.{find}
+use Rattle.byteorder.specs.Endian.{big_bytes, big_number}
+use Rattle.byteorder.specs.Numbers.{big_number-reads_back}
+use Rattle.turn_desk_core.specs.StunTypesWire.Grammar.{shown}
+use Rattle.turn_desk_core.specs.StunTypesWire.RawBytes.{type_and_len_refusal}
+use Rattle.turn_desk_core.specs.StunTypesWrite.ValueReading.{value_refusal}
+use Rattle.std.specs.Prelude.{is_some, if◌then◌else◌}
+use Rattle.std.specs.FinMap as map
+use Rattle.std.specs.declared.alloc.Global.{Global}
+use Rattle.std.specs.declared.net.socket_addr.SocketAddr.{SocketAddr}
+use Rattle.turn_desk_core.specs.StunTypesWire.Attributes.{Attr, kind_at}
+use Rattle.turn_client_proto_messages.specs.StunTypesIntegrity.Integrity.{Validates}
+use Rattle.turn_desk_core.specs.StunTypesWire.declared.algorithm.IntegrityAlgorithm.{IntegrityAlgorithm}
+use Rattle.turn_desk_core.specs.StunTypesWire.declared.class.MessageClass.TheVariants.{Error, Success}
+use Rattle.turn_desk_core.specs.StunTypesWire.Types.{class_of, type_of}
+use Rattle.turn_desk_core.specs.StunTypesAuthAttributes.Userhashes.{userhash_of}
+use Rattle.turn_client_proto_api.specs.StunProtoAuth.Claims.{Claimed}
+use Rattle.turn_client_proto_messages.specs.StunProtoClient.Client.{Standing, standing_key}
+use Rattle.turn_client_proto_messages.specs.StunProtoClient.ClientSigning.{hides_name}
+use Rattle.turn_client_proto_messages.specs.StunProtoClient.Digests.{IsRight}
+use Rattle.turn_desk_core.specs.StunProtoVerify.Judgement.{user_key}
+use Rattle.turn_desk_core.specs.StunProtoServer.Server.{Server, refreshed}
+use Rattle.turn_desk_core.specs.StunProtoServer.Users.{IsClaimedName}
+use Rattle.turn_desk_core.specs.TurnTypesAttributes.TurnRegistry.{lifetime_kind}
+use Rattle.turn_desk_core.specs.TurnTypesPeer.TurnShows.{number_in, number_shown, unless_refused}
+use Rattle.turn_client_proto_handshake_laws.specs.Choosing.{Choice, standing_by}
+use Rattle.turn_client_proto_api.specs.Sent.{Sent}
+use Rattle.turn_client_proto_progress_laws.specs.Refreshed.{IsSignedRefresh, refresh_request}
+use Rattle.turn_desk_world_laws.specs.World.Desks.{IsDeskAnswered, IsReplied, words_of}
+use Rattle.turn_desk_core.specs.DeskSteps.{DeskStep}
+use Rattle.turn_desk_core.specs.Granted.{refreshed_attributes}
+use Rattle.turn_desk_core.specs.Grants.{Allocated, Bound, Connected, IsGrant, Joined, Permitted, Refreshed}
+use Rattle.turn_desk_core.specs.State.{State}
+use Rattle.turn_desk_core.specs.Steps.{IsAnswer, IsChallenge, IsVerdict}
+use Rattle.turn_desk_core.specs.Verdicts.{verdict_on}
+use Rattle.turn_desk_event.specs.declared.answer.Answer.TheVariants as answer
+use Rattle.turn_desk_core.specs.declared.decision.Decision.TheVariants as by
+use Rattle.turn_desk_event.specs.declared.event.Event.TheVariants.{ToDesk}
+use Rattle.turn_desk_core.specs.declared.grant.Grant.{Grant}
+use Rattle.turn_desk_world_laws.specs.World.Model.{World}
+use Rattle.turn_desk_world_laws.specs.World.Runs.{IsStep}
+use Rattle.turn_desk_progress_laws.specs.Promises.{IsFresh}
+use Rattle.turn_desk_progress_laws.specs.Scripts.{Plan}
+use Rattle.turn_desk_progress_laws.proofs.Coming.{none_yet}
+use Rattle.turn_desk_progress_laws.proofs.Places.{is_message}
+use Rattle.turn_desk_progress_laws.specs.Turns.{Renewing, least}
+use Rattle.turn_desk_progress_laws.specs.Watched.{IsAnswered, IsAwaiting, IsServing, StandsAt}
+use Rattle.turn_desk_progress_laws.proofs.RenewalServing.{refreshed_realm, serves_on}
+use Rattle.turn_desk_progress_laws.proofs.renewals.refreshes_are_granted.Goals as goal
+
+-- ---- what is told
+
+four_accepted : (a b c d : ℕ) → value_refusal lifetime_kind 4 4 (record { kind = lifetime_kind; value = a ∷ b ∷ c ∷ d ∷ [] }) ≡ None
+unfolding type_and_len_refusal
+four_accepted a b c d = grind (arith, common_steps)
+
+-- the number in four bytes
+number_again : (n : ℕ) → n < 2 ^ 32 → number_in 4 (Some (record { kind = lifetime_kind; value = big_bytes 4 n })) ≡ Some n
+number_again n small =
+    ap (λ refused. unless_refused refused (Some (big_number 4 (big_bytes 4 n)))) (four_accepted (n / 16777216 % 256) (n / 65536 % 256) (n / 256 % 256) (n % 256))
+    ∙ ap Some (big_number-reads_back 4 n [] small)
+
+refreshed_lifetime : (reply : List ℕ) (lifetime : ℕ) (seal : Attr) → lifetime < 2 ^ 32 → shown reply ≡ refreshed_attributes lifetime ++ seal ∷ [] → number_shown 4 lifetime_kind reply ≡ Some lifetime
+refreshed_lifetime reply lifetime seal small shows =
+    ap (λ (l : List Attr). number_in 4 (find (λ (a : Attr). eqb a.kind lifetime_kind) l)) shows ∙ number_again lifetime small
+
+shows_it : (bytes : List ℕ) (from : SocketAddr) (lifetime : ℕ) (shows : List Attr) (grant : Grant) → IsGrant bytes from (by.Refresh lifetime) shows grant → shows ≡ refreshed_attributes lifetime
+shows_it bytes from lifetime shows grant (Refreshed g) =
+    let same : lifetime ≡ g.lifetime = Prim.cc g.decided in
+    g.shown ∙ ap refreshed_attributes (sym same)
+shows_it bytes from lifetime shows grant (Allocated g) = absurd (Prim.cc g.decided)
+shows_it bytes from lifetime shows grant (Permitted g) = absurd (Prim.cc g.decided)
+shows_it bytes from lifetime shows grant (Bound g) = absurd (Prim.cc g.decided)
+shows_it bytes from lifetime shows grant (Connected g) = absurd (Prim.cc g.decided)
+shows_it bytes from lifetime shows grant (Joined g) = absurd (Prim.cc g.decided)
+
+tells_it : (old new : State) (from : SocketAddr) (bytes reply : List ℕ) (lifetime : ℕ) → DeskStep old from bytes (by.Refresh lifetime) reply new → class_of (kind_at reply) ≡ Success → lifetime < 2 ^ 32 → number_shown 4 lifetime_kind reply ≡ Some lifetime
+tells_it old new from bytes reply lifetime step success small =
+    let r = step.grants success in
+    refreshed_lifetime reply lifetime r.integrity small (r.told ∙ ap (λ (l : List Attr). l ++ r.integrity ∷ []) (shows_it bytes from lifetime r.shows r.grant r.granted_by))
+
+-- ---- whose key signs it
+
+-- one who claims the name of a user, or its hash, is that user
+same_name : (realm own name : List ℕ) (hidden : Bool) → IsClaimedName realm (if hidden then None else Some own) (if hidden then Some (userhash_of own realm) else None) name → (userhash_of name realm ≡ userhash_of own realm → name ≡ own) → name ≡ own
+same_name realm own name false named differ = named
+same_name realm own name true named differ = differ (Prim.cc (sym named))
+
+module _ (plan : Plan) (old d e : State) (serving : IsServing plan old d) (c : Choice) (realm_is : c.told.realm ≡ old.auth.realm) (number : ℕ) (request : IsSignedRefresh plan.client c number)
+    (now more : ℕ) (seed reply : List ℕ) (success : class_of (kind_at reply) ≡ Success) where
+  abbrev bytes : List ℕ
+  bytes = refresh_request plan.client c number
+
+  abbrev s : Standing
+  s = standing_by plan.client c
+
+  -- the desk's realm is that of the challenge
+  realm_same : d.auth.realm ≡ c.told.realm
+  realm_same = serving.realm ∙ sym realm_is
+
+  refused : {A : Type 0} → IsChallenge d plan.client.here bytes now (words_of seed) reply e → A
+  refused is = absurd (Prim.cc (sym success ∙ (ap class_of is.read.kind ∙ ap (λ (m : ℕ). class_of (type_of Error m)) request.method)))
+
+  module _ (v : IsVerdict d plan.client.here bytes now (words_of seed) (verdict_on bytes (by.Refresh more)) reply e) where
+    abbrev server : Server
+    server = refreshed d.auth plan.client.here now (words_of seed)
+
+    server_realm : server.realm ≡ c.told.realm
+    server_realm = refreshed_realm d.auth plan.client.here now (words_of seed) ∙ realm_same
+
+    names : v.name ≡ plan.client.config.credentials.username
+    names =
+        let claims = subst (λ (x : Claimed). IsClaimedName server.realm x.username x.user_hash v.name) request.claims v.judged.accepts.named.named in
+        let here = subst (λ (r : List ℕ). IsClaimedName r (if hides_name plan.client.config.anonymous_username c.told.nonce then None else Some plan.client.config.credentials.username)
+        (if hides_name plan.client.config.anonymous_username c.told.nonce then Some (userhash_of plan.client.config.credentials.username c.told.realm) else None) v.name) server_realm claims in
+        same_name c.told.realm plan.client.config.credentials.username v.name (hides_name plan.client.config.anonymous_username c.told.nonce) here (λ same.
+        serving.hashes v.name plan.client.config.credentials.username (ap is_some v.present) (ap is_some serving.user)
+        (subst (λ (r : List ℕ). userhash_of v.name r ≡ userhash_of plan.client.config.credentials.username r) (sym realm_same) same))
+
+    passwords : v.password ≡ plan.client.config.credentials.password
+    passwords = Prim.cc (sym (ap (map.get d.auth.users) (sym names) ∙ v.present) ∙ serving.user)
+
+    algorithms : v.algorithm ≡ c.algorithm
+    algorithms = Prim.cc (sym v.judged.accepts.judged.last ∙ ap (λ (x : Claimed). x.integrity) request.claims)
+
+    right_by : (text : List ℕ) → Validates reply (user_key d.auth.realm v.name v.password v.algorithm) v.algorithm text → IsRight reply (standing_key s)
+    right_by text valid = record {
+      text = text;
+      validates = subst (λ (a : IntegrityAlgorithm). Validates reply (user_key c.told.realm plan.client.config.credentials.username plan.client.config.credentials.password a) a text) algorithms
+          (subst (λ (x : List ℕ). Validates reply (user_key c.told.realm plan.client.config.credentials.username x v.algorithm) v.algorithm text) passwords
+          (subst (λ (x : List ℕ). Validates reply (user_key c.told.realm x v.password v.algorithm) v.algorithm text) names
+          (subst (λ (x : List ℕ). Validates reply (user_key x v.name v.password v.algorithm) v.algorithm text) realm_same valid)));
+    }
+
+  pub signed_so : IsAnswer d plan.client.here bytes now (words_of seed) (by.Refresh more) reply e → IsRight reply (standing_key s)
+  signed_so (inl is) = refused is
+  signed_so (inr v) = right_by v _ v.valid
+
+-- ---- in a world
+
+module _ (c : goal.After-messages_are_told_alike) (plan : Plan) (old w v : World) (fresh : IsFresh plan old) (address : SocketAddr) (request : Sent) (from lifetime now more : ℕ) (x : IsAwaiting plan old address request from lifetime now [] w) (enough : least ≤ more)
+    (seed reply : List ℕ) (success : class_of (kind_at reply) ≡ Success) (fits : more < 2 ^ 32) (client : v.client ≡ w.client) where
+  abbrev own : List ℕ
+  own = refresh_request plan.client x.choice x.number
+
+  signed : IsSignedRefresh plan.client x.choice x.number
+  signed = c.refreshes_are_signed.ensures.request plan.client x.choice x.number fresh.room fresh.text x.agreed.chosen x.fits
+
+  pub granted : IsReplied w.desk own plan.client.here now (by.Refresh more) (words_of seed) reply v.desk → IsAnswered plan old address request reply [] more now v
+  granted replied =
+      let step = c.desk_steps.ensures w.desk v.desk plan.client.here own reply now (words_of seed) (by.Refresh more) replied.served replied.answer in
+      let message = is_message w.desk v.desk plan.client.here own reply now seed (by.Refresh more) replied.answer in
+      record {
+        from = from;
+        before = lifetime;
+        awaits = record {
+          choice = x.choice;
+          agreed = x.agreed;
+          serving = serves_on plan old.desk w.desk v.desk plan.client.here own reply now seed (by.Refresh more) x.serving replied.answer;
+          first = x.first;
+          lasts = x.lasts;
+          in_time = x.in_time;
+          in_range = x.in_range;
+          number = x.number;
+          fits = x.fits;
+          request_is = x.request_is;
+          many = x.many;
+          events = x.events;
+          client = record { core = x.client.core; there = client ∙ x.client.there; is = x.client.is };
+        };
+        enough = enough;
+        fits = fits;
+        part = none_yet reply message;
+        renewal = record {
+          number_is = step.number ∙ signed.number_is;
+          success = success;
+          method = step.method ∙ signed.method;
+          right = signed_so plan old.desk w.desk v.desk x.serving x.choice x.agreed.of.realm x.number signed now more seed reply success replied.answer;
+          lifetime_is = c.messages_are_told_alike.ensures.lifetime reply ∙ tells_it w.desk v.desk plan.client.here own reply more step success fits;
+        };
+      }
+
+pub granted_so : (c : goal.After-messages_are_told_alike) (plan : Plan) (old w v : World) → IsFresh plan old → (address : SocketAddr) (request : Sent) (from lifetime now more : ℕ) → IsAwaiting plan old address request from lifetime now [] w → least ≤ more
+    → (bytes reply : Vec ℕ Global) (seed : List ℕ) → bytes.items ≡ request.bytes → IsStep (ToDesk bytes request.from now (by.Refresh more) seed) w (answer.Reply reply) v → class_of (kind_at reply.items) ≡ Success
+    → StandsAt plan old address (Renewing request reply.items [] more now) v
+granted_so c plan old w v fresh address request from lifetime now more x enough came reply seed same step success =
+    let at = subst (λ (b : List ℕ). IsDeskAnswered (answer.Reply reply) w.desk b request.from now (by.Refresh more) seed v.desk) same step.0 in
+    let of = subst (λ (r : Sent). IsDeskAnswered (answer.Reply reply) w.desk r.bytes r.from now (by.Refresh more) seed v.desk) x.request_is at in
+    granted c plan old w v fresh address request from lifetime now more x enough seed reply.items success of.four_bytes (ap (λ (y : World). y.client) step.1) of.reply
+
+pub returns : goal.returns
+returns c = λ plan old w v address request from lifetime now more bytes reply seed fresh x same enough step success.
+    granted_so c plan old w v fresh address request from lifetime now more x enough bytes reply seed same step success

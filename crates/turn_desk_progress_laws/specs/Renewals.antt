@@ -1,0 +1,68 @@
+-- What a client that is left alone with its allocation comes to, over UDP or TCP (RFC 8656, section 8).
+use Rattle.std.specs.Prelude.{◌≡◌, ◌≢◌, ◌≤◌, ◌<◌, ℕ, Bool, true, false, List, [], ◌∷◌, None, Some}
+use Rattle.std.specs.declared.net.socket_addr.SocketAddr.{SocketAddr}
+use Rattle.turn_desk_core.specs.StunTypesWire.Attributes.{kind_at}
+use Rattle.turn_desk_core.specs.StunTypesWire.Grammar.{refusal}
+use Rattle.turn_desk_core.specs.StunTypesWire.declared.algorithm.IntegrityAlgorithm.{IntegrityAlgorithm}
+use Rattle.turn_desk_core.specs.StunTypesWire.declared.class.MessageClass.TheVariants.{Request}
+use Rattle.turn_desk_core.specs.StunTypesWire.Types.{class_of, method_of}
+use Rattle.turn_client_proto_messages.specs.StunProtoClient.Digests.{IsRight}
+use Rattle.turn_desk_core.specs.TurnTypesAttributes.TurnRegistry.{lifetime_kind, refresh_method}
+use Rattle.turn_desk_core.specs.TurnTypesPeer.TurnShows.{number_shown}
+use Rattle.turn_client_proto_messages.specs.Allocation.Listed.{relayed_shown}
+use Rattle.turn_client_proto_api.specs.Sent.{Sent}
+use Rattle.turn_client_proto_messages.specs.Requests.{allocation_lifetime}
+use Rattle.turn_desk_world_laws.specs.World.Model.{World}
+use Rattle.turn_desk_progress_laws.specs.Promises.{HasClient, IsOwnSent, IsStrongestOf, key_in_realm}
+use Rattle.turn_desk_progress_laws.specs.Scripts.{Plan}
+use Rattle.turn_desk_progress_laws.specs.Turns.{Turn, Watch, Watching, Refreshing, Renewing, Off, due}
+
+-- the client holds exactly the allocation of that address
+abbrev pub HoldsStill : Plan → SocketAddr → (front : List ℕ) → World → Type 0
+HoldsStill plan address front w =
+    HasClient plan front w (λ p. relayed_shown p.allocations ≡ (plan.client.config.transport, address) ∷ [])
+
+-- one moment is before another, or not behind it
+abbrev pub IsBefore : (strictly : Bool) → (now moment : ℕ) → Type 0
+IsBefore true now moment = now < moment
+IsBefore false now moment = now ≤ moment
+
+-- no REFRESH was sent: one other message at most
+abbrev pub AreEarly : List Sent → Type 0
+AreEarly [] = Unit {0}
+AreEarly (sent ∷ []) = method_of (kind_at sent.bytes) ≢ refresh_method
+AreEarly (sent ∷ other ∷ others) = ⊥
+
+-- the allocation is held. Nothing that the client awaits is behind the minute before the end, and if it awaits that
+-- moment, something is to be drawn then. No REFRESH was sent before
+pub record IsHeldOn (plan : Plan) (address : SocketAddr) (s : Watch) (w : World) : Type 0 where
+  pub held : HoldsStill plan address [] w
+  pub by_due : IsBefore s.drawn s.until (due s.from s.lifetime)
+  pub early : AreEarly s.early
+
+-- a message is a REFRESH, which asks for a lifetime, and right under the user's key in the desk's realm, by the
+-- strongest common algorithm
+pub record IsOwnRefresh (plan : Plan) (old : World) (bytes : List ℕ) : Type 0 where
+  pub message : refusal bytes ≡ None
+  pub request : class_of (kind_at bytes) ≡ Request
+  pub method : method_of (kind_at bytes) ≡ refresh_method
+  pub lifetime : number_shown 4 lifetime_kind bytes ≡ Some allocation_lifetime
+  pub algorithm : IntegrityAlgorithm
+  pub strongest : IsStrongestOf plan.client.config.algorithms old.desk.auth.algorithms algorithm
+  pub right : IsRight bytes (key_in_realm plan old algorithm)
+
+-- it is sent a minute before the end, from the client's own address to the server's, and the allocation is held
+pub record IsSentInTime (plan : Plan) (old : World) (address : SocketAddr) (request : Sent) (from lifetime now : ℕ)
+    (w : World) : Type 0 where
+  pub held : HoldsStill plan address [] w
+  pub in_time : now ≡ due from lifetime
+  pub is_own : IsOwnSent plan request
+  pub refresh : IsOwnRefresh plan old request.bytes
+
+-- what holds where a client was driven to a turn
+abbrev pub HasRenewed : Plan → World → SocketAddr → Turn → World → Type 0
+HasRenewed plan old address (Watching s) w = IsHeldOn plan address s w
+HasRenewed plan old address (Refreshing request from lifetime now) w =
+    IsSentInTime plan old address request from lifetime now w
+HasRenewed plan old address (Renewing request reply front lifetime now) w = HoldsStill plan address front w
+HasRenewed plan old address Off w = ⊥

@@ -1,0 +1,10 @@
+//! Laws on a client and a desk over an honest network: what a new client holds after two replies,
+//! what it then asks for and is granted, and what it renews.
+#![tactic(auto)]
+
+pub mod connections;
+pub mod fresh;
+pub mod honest;
+pub mod renewals;
+pub mod requests;
+pub mod unforged;

@@ -1,3 +1,0 @@
-mod Moments
-mod Serving
-mod Waiting

@@ -1,3 +1,0 @@
-pub mod Renewals
-pub mod Turns
-pub mod Watched

@@ -1,3 +1,0 @@
--- What events in a world are answered, by name.
-pub use Rattle.turn_desk_world.specs.declared.answer.Answer.{Answer}
-pub use Rattle.turn_desk_world.specs.declared.answer.Answer.TheVariants.{Reply, Nothing, Transmit, Handled, Ignored, Peer, Icmp, Wait, Socket, Close, Closed, Event, Done, Refused, Have, Relayed, Permissions, Channels, Connections, OutOfRange}

@@ -1,4 +1,0 @@
-pub mod Adding
-pub mod GrantedReplies
-pub mod Room
-pub mod Sizes

@@ -1,0 +1,135 @@
+-- A client's requests as a desk takes them.
+use Rattle.std.proofs.Common.{◌≡◌, ℕ, Bool, true, false, List, [], ◌∷◌, Option, Some, None, refl, sym, ap, ◌∙◌, subst, inl, inr}
+use Rattle.std.specs.Prelude.{if◌then◌else◌}
+use Rattle.std.specs.List.{flat_map, list_any}
+use Rattle.std.specs.Option.{option_map, option_or}
+use Rattle.std.specs.declared.net.socket_addr.SocketAddr.{SocketAddr}
+use Rattle.turn_desk_core.specs.StunTypesWire.Attributes.{Attr}
+use Rattle.turn_desk_core.specs.StunTypesAdd.Calls.{attributes_after, attributes_of}
+use Rattle.turn_client_proto_messages.specs.StunTypesIntegrity.Integrity.{Validates, algorithm_of}
+use Rattle.turn_desk_core.specs.StunTypesWire.declared.algorithm.IntegrityAlgorithm.{IntegrityAlgorithm}
+use Rattle.turn_desk_core.specs.StunTypesWire.declared.algorithm.IntegrityAlgorithm.TheVariants.{Sha1, Sha256, Sha512}
+use Rattle.turn_desk_core.specs.StunTypesWire.MessageReading.{IsReadAs}
+use Rattle.turn_desk_core.specs.StunTypesMessage.MessageValidation.{last_algorithm}
+use Rattle.turn_desk_core.specs.StunTypesWire.Types.{class_of, method_of}
+use Rattle.turn_desk_core.specs.StunTypesAuthAttributes.Userhashes.{userhash_of}
+use Rattle.turn_desk_core.specs.StunTypesBase.declared.family.AddressFamily.{AddressFamily}
+use Rattle.turn_desk_core.specs.StunTypesBase.declared.family.AddressFamily.TheVariants.{IPV4, IPV6}
+use Rattle.turn_desk_core.specs.StunTypesBase.declared.transport.TransportType.{TransportType}
+use Rattle.turn_client_proto_messages.specs.StunProtoAuth.Claims.{Claimed, claimed}
+use Rattle.turn_client_proto_messages.specs.StunProtoClient.Client.{Client, Standing, standing_key}
+use Rattle.turn_client_proto_messages.specs.StunProtoClient.ClientSigning.{hides_name}
+use Rattle.turn_desk_core.specs.StunProtoVerify.Consistency.{AreConsistent}
+use Rattle.turn_client_proto_messages.specs.StunProtoClient.Digests.{IsRight}
+use Rattle.turn_desk_core.specs.StunProtoVerify.Judgement.{user_key}
+use Rattle.turn_desk_core.specs.StunProtoServer.Server.{Server}
+use Rattle.turn_client_proto_messages.specs.StunProtoAuth.SupportedAlgorithms.{is_same_algorithm, list_of, needs_password_algorithms, number_by}
+use Rattle.turn_desk_core.specs.StunProtoServer.Users.{IsClaimedName}
+use Rattle.turn_client_proto_messages.specs.OwnClaims.{own_claim}
+use Rattle.turn_client_proto_messages.specs.Requests.{additional_family, dont_fragment_attribute, families_attributes, lifetime_attribute, allocation_lifetime, request_attributes, request_calls, request_text, request_type, transport_attribute}
+use Rattle.turn_client_proto_messages.specs.declared.request.TurnRequest.{TurnRequest}
+use Rattle.turn_client_proto_messages.specs.declared.request.TurnRequest.TheVariants.{Allocate, FirstAllocate}
+use Rattle.turn_client_proto_messages.proofs.Reading.{ordinary_then}
+use Rattle.turn_desk_core.specs.Requests.{IsServed}
+use Rattle.turn_desk_step_laws.specs.Users.{IsOfUser}
+use Rattle.turn_desk_step_laws.specs.Handshakes.{IsOfServer, user_of}
+
+-- ---- the first request
+
+-- an attribute that is no integrity attribute, before others of which none is
+none_more : (a : Attr) (rest : List Attr) → algorithm_of a.kind ≡ None → last_algorithm rest ≡ None → last_algorithm (a ∷ rest) ≡ None
+unfolding last_algorithm
+none_more a rest other none = ap (λ (o : Option IntegrityAlgorithm). option_or o (algorithm_of a.kind)) none ∙ other
+
+none_here : last_algorithm [] ≡ None
+unfolding last_algorithm
+none_here = refl
+
+none_in_families : (families : List AddressFamily) → last_algorithm (flat_map additional_family families) ≡ None
+none_in_families [] = none_here
+none_in_families (IPV4 ∷ families) = none_in_families families
+none_in_families (IPV6 ∷ families) = none_more _ _ refl (none_in_families families)
+
+none_asked : (families : List AddressFamily) → last_algorithm (families_attributes families) ≡ None
+none_asked [] = none_here
+none_asked (IPV4 ∷ []) = none_here
+none_asked (IPV6 ∷ []) = none_more _ _ refl none_here
+none_asked (a ∷ b ∷ rest) = none_in_families (a ∷ b ∷ rest)
+
+module _ (auth : Client) (transport : TransportType) (families : List AddressFamily) (number : ℕ) where
+  abbrev first : TurnRequest
+  first = FirstAllocate transport families
+
+  abbrev own : List Attr
+  own = request_attributes first number
+
+  -- it shows its own attributes
+  shows_own : attributes_of (request_type first) number (request_calls auth first number) ≡ own
+  unfolding attributes_after
+  shows_own = ordinary_then (request_type first) number own [] []
+
+  none_own : last_algorithm own ≡ None
+  none_own =
+      none_more (lifetime_attribute allocation_lifetime) (transport_attribute transport ∷ dont_fragment_attribute ∷ families_attributes families) refl
+      (none_more (transport_attribute transport) (dont_fragment_attribute ∷ families_attributes families) refl
+      (none_more dont_fragment_attribute (families_attributes families) refl (none_asked families)))
+
+  pub is_served_first : IsReadAs (request_type first) number (attributes_of (request_type first) number (request_calls auth first number)) (request_text auth first number) → IsServed (request_text auth first number)
+  is_served_first read = record { message = read.message; request = ap class_of read.kind; method = inl (inl (ap method_of read.kind)) }
+
+  pub is_unsigned : IsReadAs (request_type first) number (attributes_of (request_type first) number (request_calls auth first number)) (request_text auth first number) → (claimed (request_text auth first number)).integrity ≡ None
+  is_unsigned read = ap last_algorithm (read.shows ∙ shows_own) ∙ none_own
+
+-- ---- a signed request
+
+-- the user whom the client claims to be
+named : (realm name : List ℕ) (hidden : Bool) → IsClaimedName realm (if hidden then None else Some name) (if hidden then Some (userhash_of name realm) else None) name
+named realm name true = refl
+named realm name false = refl
+
+-- a list of one algorithm that needs no list is of Sha1, and so is the choice
+own_choice : (algorithms : List IntegrityAlgorithm) (choice : IntegrityAlgorithm) → needs_password_algorithms algorithms ≡ false → list_any (is_same_algorithm choice) algorithms ≡ true → choice ≡ Sha1
+own_choice [] choice none among = absurd (Prim.cc among)
+own_choice (Sha1 ∷ []) Sha1 none among = refl
+own_choice (Sha1 ∷ []) Sha256 none among = absurd (Prim.cc among)
+own_choice (Sha1 ∷ []) Sha512 none among = absurd (Prim.cc among)
+own_choice (Sha256 ∷ []) choice none among = absurd (Prim.cc none)
+own_choice (Sha512 ∷ []) choice none among = absurd (Prim.cc none)
+own_choice (Sha1 ∷ b ∷ rest) choice none among = absurd (Prim.cc none)
+own_choice (Sha256 ∷ b ∷ rest) choice none among = absurd (Prim.cc none)
+own_choice (Sha512 ∷ b ∷ rest) choice none among = absurd (Prim.cc none)
+
+-- what is claimed of algorithms fits
+fits : (algorithms : List IntegrityAlgorithm) (choice : IntegrityAlgorithm) (offered : Option (List ℕ)) (claim : Claimed) (needs : Bool) → needs_password_algorithms algorithms ≡ needs → offered ≡ (if needs then Some (list_of algorithms) else None)
+    → list_any (is_same_algorithm choice) algorithms ≡ true → claim.algorithms ≡ offered → claim.algorithm ≡ option_map (λ (list : List ℕ). number_by choice) offered → AreConsistent algorithms claim choice
+fits algorithms choice offered claim true needs is among list one =
+    inr (record { list = list ∙ is; choice = one ∙ ap (option_map (λ (l : List ℕ). number_by choice)) is; among = among })
+fits algorithms choice offered claim false needs is among list one =
+    inl (record { list = list ∙ is; choice = one ∙ ap (option_map (λ (l : List ℕ). number_by choice)) is; own = own_choice algorithms choice needs among; among = among })
+
+pub as_asked : (server : Server) (from : SocketAddr) (auth : Client) (s : Standing) (bytes : List ℕ) → claimed bytes ≡ own_claim auth.anonymous_username s → IsRight bytes (standing_key s) → IsOfServer server from s
+    → IsOfUser server s.challenge.nonce bytes (user_of s)
+as_asked server from auth s bytes claims right own =
+    let hidden = hides_name auth.anonymous_username s.challenge.nonce in
+    record {
+      present = own.present;
+      last = ap (λ (c : Claimed). c.integrity) claims;
+      named = subst (λ (c : Claimed). IsClaimedName server.realm c.username c.user_hash s.account.username) (sym claims)
+          (subst (λ (r : List ℕ). IsClaimedName r (if hidden then None else Some s.account.username) (if hidden then Some (userhash_of s.account.username s.challenge.realm) else None) s.account.username) own.realm
+          (named s.challenge.realm s.account.username hidden));
+      realm = s.challenge.realm;
+      has_realm = ap (λ (c : Claimed). c.realm) claims;
+      has_nonce = ap (λ (c : Claimed). c.nonce) claims;
+      consistent = fits server.algorithms s.challenge.choice s.challenge.offered (claimed bytes) (needs_password_algorithms server.algorithms) refl own.offered own.choice
+          (ap (λ (c : Claimed). c.algorithms) claims) (ap (λ (c : Claimed). c.algorithm) claims);
+      text = right.text;
+      validates = subst (λ (r : List ℕ). Validates bytes (user_key r s.account.username s.account.password s.challenge.choice) s.challenge.choice right.text) own.realm right.validates;
+    }
+
+-- ---- the ALLOCATE
+
+-- a desk serves it
+pub is_served : (auth : Client) (transport : TransportType) (families : List AddressFamily) (number : ℕ)
+    → IsReadAs (request_type (Allocate transport families)) number (attributes_of (request_type (Allocate transport families)) number (request_calls auth (Allocate transport families) number)) (request_text auth (Allocate transport families) number)
+    → IsServed (request_text auth (Allocate transport families) number)
+is_served auth transport families number read = record { message = read.message; request = ap class_of read.kind; method = inl (inl (ap method_of read.kind)) }

@@ -1,8 +1,0 @@
-use Rattle.turn_desk_steps.proofs.Told.{challenge_read, takes_own}
-use Rattle.turn_desk_steps.proofs.challenged.challenges_are_read.Goals as goal
-
-pub returns-clause-read : goal.returns-clause-read
-returns-clause-read c = λ old new from bytes reply now stream served is other. challenge_read old new from bytes reply now stream served is other
-
-pub returns-clause-takes : goal.returns-clause-takes
-returns-clause-takes c = λ party algorithm features. takes_own party algorithm features

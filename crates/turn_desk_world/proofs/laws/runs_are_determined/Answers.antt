@@ -1,6 +1,0 @@
-use Rattle.std.proofs.Common.{inr}
-use Rattle.turn_desk_world.proofs.Once.{run_once}
-use Rattle.turn_desk_world.proofs.laws.runs_are_determined.Goals as goal
-
-pub returns : goal.returns
-returns c = λ old new left pairs others differ same run other. run_once pairs others old new left (inr differ) same run other

@@ -1,0 +1,309 @@
+//! What a replay keeps from line to line, and what a line makes of it.
+
+ghost use Rattle.std.specs.Prelude.{◌≡◌, ◌≤◌, ◌||◌, ◌++◌, ◌∷◌, [], Err, IfOk, OnOk, false, is_some, length, true};
+ghost use Rattle.std.specs.Option.{option_map};
+ghost use Rattle.std.specs.String.{string_bytes};
+ghost use Rattle.turn_desk_trace.specs.Answer.{named_by};
+ghost use Rattle.turn_desk_trace.specs.Setup.{CanAsk};
+ghost use Rattle.turn_desk_world.specs.Progress.{IsBounded, IsClientAdded, IsDeskAdded, IsRtoSet, IsRunOfOne, IsSetUp, IsUserAdded, can_happen, can_happen_in, can_set_up, is_of_client, progress_of, world_of};
+ghost use Rattle.turn_desk_world.specs.Replay.{IsBadLine, line_text, start};
+ghost use Rattle.turn_desk_world.specs.Keeping.{IsHappenedKept, IsLineDoneKept, IsToldKept};
+ghost use Rattle.turn_desk_world.specs.Wanted.{is_wanted, kept_if};
+
+use crate::setting::{Rto, add_user, new_client, new_desk};
+use crate::world::World;
+use line_io::cut::is_skipped;
+use line_io::refusal::LineError;
+use std::alloc::{AllocError, Global};
+use stun_proto_auth::feature::Feature;
+use stun_proto_auth::supported::SupportedIntegrity;
+use stun_types_base::memory::NoMemory;
+use stun_types_base::transport::TransportType;
+use turn_client_proto::client::TurnClient;
+use turn_desk_core::desk::Desk;
+use turn_desk_event::answer::Answer;
+use turn_desk_event::event::Event;
+use turn_desk_event::print::answer_line;
+use turn_desk_trace::line::{Line, read_line};
+use turn_desk_trace::named::Named;
+use turn_desk_trace::setup::{Client, MAX_REALM, MAX_USERNAME, Setup};
+
+/// What a replay keeps from line to line: what the setup lines have made, the world from the first
+/// event on, and for each event line so far the bytes that it was answered, or none where no line can
+/// name them. Contracts see the record `Progress` of `specs/Progress.antt`, by `progress_of`.
+#[derive(Debug, Drop)]
+pub(crate) struct Progress {
+    alloc: Global,
+    desk: Option<Desk>,
+    rto: Option<Rto>,
+    client: Option<TurnClient>,
+    world: Option<World>,
+    named: Vec<Named>,
+}
+
+impl Progress {
+    /// Nothing was said yet. It keeps the allocator, and has room for the answers of so many event
+    /// lines. `NoMemory` where that is refused.
+    pub(crate) fn new(alloc: Global, lines: usize) -> Result<Self, NoMemory>
+        ensures { IfOk result (λ progress. progress_of progress ≡ start) }
+    {
+        let named = Vec::with_capacity(alloc, lines)?;
+        Ok(Progress {
+            alloc,
+            desk: None,
+            rto: None,
+            client: None,
+            world: None,
+            named,
+        })
+    }
+
+    /// Does what a line says, where it says something. Answers the line that is printed, where the
+    /// line is an event's. Of its answer the bytes are kept where a later line can name them, as the
+    /// flag in `wanted` says. `Bad` where it spells no line that may stand here; `NoMemory` where
+    /// memory is refused. With either the replay has ended.
+    pub(crate) fn take_line(
+        &mut self,
+        line: &[u8],
+        wanted: &[bool],
+    ) -> Result<Option<String>, LineError>
+        ensures done { IfOk result (λ text. IsLineDoneKept wanted.now (progress_of self.old)
+            line.now (line_text (option_map (λ t. string_bytes t) text)) (progress_of self.new)) }
+        ensures bad { result ≡ Err LineError.Bad → IsBadLine (progress_of self.old) line.now }
+    {
+        if is_skipped(line) {
+            return Ok(None);
+        }
+        match read_line(self.alloc, line, self.named.as_slice()) {
+            Ok(Line::Setup(setup)) => match self.set_up(&setup) {
+                Ok(()) => Ok(None),
+                Err(error) => Err(error),
+            },
+            Ok(Line::Event(event)) => match self.tell(event, wanted) {
+                Ok(text) => Ok(Some(text)),
+                Err(error) => Err(error),
+            },
+            Err(error) => Err(error),
+        }
+    }
+
+    /// Does what a setup line says. `Bad` where it may not stand here: behind an event line; a second
+    /// `desk`, `rto` or `client`; a `user` before the `desk`; an `rto` behind the `client`.
+    fn set_up(&mut self, setup: &Setup<'_>) -> Result<(), LineError>
+        requires { IsBounded setup.now }
+        ensures ok { OnOk result ((can_set_up (progress_of self.old) setup.now ≡ true)
+            × IsSetUp (progress_of self.old) setup.now (progress_of self.new)) }
+        ensures bad { result ≡ Err LineError.Bad
+            → can_set_up (progress_of self.old) setup.now ≡ false }
+    {
+        if self.world.is_some() {
+            return Err(LineError::Bad);
+        }
+        match setup {
+            Setup::Desk {
+                realm,
+                algorithms,
+                anonymity,
+            } => self.add_desk(realm, *algorithms, *anonymity),
+            Setup::User { name, password } => self.add_user(name, password),
+            Setup::Rto {
+                initial,
+                max,
+                retransmits,
+                last,
+            } => self.set_rto(Rto {
+                initial: *initial,
+                max: *max,
+                retransmits: *retransmits,
+                last: *last,
+            }),
+            Setup::Client { by, over, settings } => self.add_client(*by, *over, settings),
+        }
+    }
+
+    /// Makes the desk. `Bad` where there is one.
+    fn add_desk(
+        &mut self,
+        realm: &str,
+        algorithms: SupportedIntegrity,
+        anonymity: Feature,
+    ) -> Result<(), LineError>
+        requires { length realm.now ≤ MAX_REALM }
+        ensures ok { OnOk result (IsDeskAdded (progress_of self.old) realm.now algorithms
+            anonymity (progress_of self.new)) }
+        ensures bad { result ≡ Err LineError.Bad → is_some self.old.desk ≡ true }
+    {
+        if self.desk.is_some() {
+            return Err(LineError::Bad);
+        }
+        let desk = new_desk(self.alloc, realm, algorithms, anonymity)?;
+        self.desk = Some(desk);
+        Ok(())
+    }
+
+    /// Makes a user known to the desk. `Bad` where there is none.
+    fn add_user(&mut self, name: &str, password: &str) -> Result<(), LineError>
+        ensures ok { OnOk result (IsUserAdded (progress_of self.old) name.now password.now
+            (progress_of self.new)) }
+        ensures bad { result ≡ Err LineError.Bad → is_some self.old.desk ≡ false }
+    {
+        let Some(mut desk) = self.desk.take() else {
+            return Err(LineError::Bad);
+        };
+        add_user(self.alloc, &mut desk, name, password)?;
+        self.desk = Some(desk);
+        Ok(())
+    }
+
+    /// Sets how long each request of the client waits. `Bad` where that was said, or there is a client.
+    fn set_rto(&mut self, rto: Rto) -> Result<(), LineError>
+        ensures ok { OnOk result (IsRtoSet (progress_of self.old) rto (progress_of self.new)) }
+        ensures bad { result ≡ Err LineError.Bad
+            → (is_some self.old.rto || is_some self.old.client) ≡ true }
+    {
+        if self.rto.is_some() || self.client.is_some() {
+            return Err(LineError::Bad);
+        }
+        self.rto = Some(rto);
+        Ok(())
+    }
+
+    /// Makes the client. `Bad` where there is one.
+    fn add_client(
+        &mut self,
+        by: TransportType,
+        over: TransportType,
+        settings: &Client<'_>,
+    ) -> Result<(), LineError>
+        requires name { length settings.now.name.now ≤ MAX_USERNAME }
+        requires over { CanAsk by over }
+        ensures ok { OnOk result (IsClientAdded (progress_of self.old) by over settings.now
+            (progress_of self.new)) }
+        ensures bad { result ≡ Err LineError.Bad → is_some self.old.client ≡ true }
+    {
+        if self.client.is_some() {
+            return Err(LineError::Bad);
+        }
+        let client = new_client(self.alloc, by, over, settings, self.rto)?;
+        self.client = Some(client);
+        Ok(())
+    }
+}
+
+impl Progress {
+    /// Lets an event happen, and answers the line that tells what it was answered. `Bad` where there is
+    /// no desk, or an event of the client comes with no client.
+    fn tell(&mut self, event: Event, wanted: &[bool]) -> Result<String, LineError>
+        ensures ok { IfOk result (λ text. IsToldKept wanted.now (progress_of self.old) event
+            (string_bytes text) (progress_of self.new)) }
+        ensures bad { result ≡ Err LineError.Bad
+            → can_happen (progress_of self.old) event ≡ false }
+    {
+        let answer = self.happen(&event, wanted)?;
+        let text = answer_line(self.alloc, &answer)?;
+        Ok(text)
+    }
+
+    /// Lets an event happen, and answers what it is answered, whose bytes are kept where a later line
+    /// can name them. `Bad` where there is no desk, or an event of the client comes with no client.
+    fn happen(&mut self, event: &Event, wanted: &[bool]) -> Result<Answer, LineError>
+        ensures ok { IfOk result (λ answer. IsHappenedKept wanted.now (progress_of self.old)
+            event.now answer (progress_of self.new)) }
+        ensures bad { result ≡ Err LineError.Bad
+            → can_happen (progress_of self.old) event.now ≡ false }
+    {
+        self.begin();
+        let Some(world) = &mut self.world else {
+            return Err(LineError::Bad);
+        };
+        if !can_happen_in(world, event) {
+            return Err(LineError::Bad);
+        }
+        let answer = run_one(world, event)?;
+        keep(self.alloc, wanted, &mut self.named, &answer)?;
+        Ok(answer)
+    }
+
+    /// Makes the world of the desk and the client that the setup lines have made, before the first event.
+    /// There is none where there is no desk.
+    fn begin(&mut self)
+        ensures world { self.new.world ≡ world_of (progress_of self.old) }
+        ensures named { self.new.named.items ≡ self.old.named.items }
+    {
+        if self.world.is_none()
+            && let Some(desk) = self.desk.take()
+        {
+            self.world = Some(World::new(self.alloc, desk, self.client.take()));
+        }
+    }
+}
+
+/// Keeps the bytes of an answer behind those of the answers before: none where no line can name them.
+fn keep(
+    alloc: Global,
+    wanted: &[bool],
+    named: &mut Vec<Named>,
+    answer: &Answer,
+) -> Result<(), NoMemory>
+    ensures { OnOk result (named.new.items ≡ named.old.items
+        ++ kept_if (is_wanted wanted.now (length named.old.items)) (named_by answer.now) ∷ []) }
+{
+    let bytes = kept(alloc, is_wanted(wanted, named.len()), answer)?;
+    named.push(bytes)?;
+    Ok(())
+}
+
+/// Whether a line can name the answer at this place, by its flag.
+fn is_wanted(wanted: &[bool], place: usize) -> bool
+    ensures { result ≡ is_wanted wanted.now place }
+{
+    match wanted.get(place) {
+        Some(flag) => *flag,
+        None => true,
+    }
+}
+
+/// The bytes of an answer where they are wanted, else none.
+fn kept(alloc: Global, wanted: bool, answer: &Answer) -> Result<Named, AllocError>
+    ensures { IfOk result (λ bytes. bytes ≡ kept_if wanted (named_by answer.now)) }
+{
+    if wanted {
+        Named::of(alloc, answer)
+    } else {
+        Ok(Named::new(Vec::new(alloc)))
+    }
+}
+
+/// Whether an event may happen in a world: where it is the client's, there is a client.
+fn can_happen_in(world: &World, event: &Event) -> bool
+    ensures { result ≡ can_happen_in world.now event.now }
+{
+    !is_of_client(event) || has_client(world)
+}
+
+/// Whether there is a client in a world.
+fn has_client(world: &World) -> bool
+    ensures { result ≡ is_some world.now.client }
+{
+    world.client().is_some()
+}
+
+/// Whether an event is the client's.
+fn is_of_client(event: &Event) -> bool
+    ensures { result ≡ is_of_client event.now }
+{
+    match event {
+        Event::Call(_, _) | Event::Draw(_) | Event::ToClient { .. } => true,
+        Event::ToDesk { .. } => false,
+    }
+}
+
+/// What an event in a world is answered.
+fn run_one(world: &mut World, event: &Event) -> Result<Answer, NoMemory>
+    ensures { IfOk result (λ answer. IsRunOfOne world.old event.now answer world.new) }
+{
+    match world.step(event) {
+        Ok(answer) => Ok(answer),
+        Err(e) => Err(e),
+    }
+}

@@ -1,0 +1,179 @@
+//! What the setup lines of a trace make: a desk and a client.
+
+ghost use Rattle.std.specs.Prelude.{◌≡◌, ◌≢◌, ◌≤◌, [], IfOk, OnErr, OnOk, length};
+ghost use Rattle.std.specs.List.{IsDistinct};
+ghost use Rattle.stun_proto_auth.specs.SupportedAlgorithms.{is_same_algorithm};
+ghost use Rattle.turn_client_proto.specs.Clients.{kept_of};
+ghost use Rattle.turn_desk_world.specs.Settings.{config_of, desk_of, IsNewBy, waiting, with_user};
+ghost use Rattle.turn_desk_trace.specs.Setup.{CanAsk, families_in_order};
+
+use std::alloc::Global;
+use std::time::Duration;
+use stun_proto_auth::feature::Feature;
+use stun_proto_auth::supported::SupportedIntegrity;
+use stun_proto_server::long_term::LongTermServerAuth;
+use stun_types_base::family::AddressFamily;
+use stun_types_base::memory::NoMemory;
+use stun_types_base::transport::TransportType;
+use stun_types_integrity::credentials::LongTermCredentials;
+use stun_types_wire::algorithm::IntegrityAlgorithm;
+use turn_client_proto::client::TurnClient;
+use turn_client_proto::tcp::TurnClientTcp;
+use turn_client_proto::udp::TurnClientUdp;
+use turn_client_proto_api::config::TurnConfig;
+use turn_desk_core::desk::Desk;
+use turn_desk_trace::setup::{Client, Families, MAX_REALM, MAX_USERNAME};
+use turn_types_attributes::credentials::TurnCredentials;
+
+/// How long each request of a client waits for its response.
+#[derive(Clone, Copy, Debug)]
+pub struct Rto {
+    /// The wait behind the first transmission.
+    pub initial: Duration,
+    /// The longest wait but the last.
+    pub max: Duration,
+    /// How often a request is sent in all.
+    pub retransmits: u32,
+    /// The wait behind the last transmission.
+    pub last: Duration,
+}
+
+/// A desk of a realm, which knows no user and has granted nothing. It supports the algorithms that
+/// were named, in their order.
+pub(crate) fn new_desk(
+    alloc: Global,
+    realm: &str,
+    algorithms: SupportedIntegrity,
+    anonymity: Feature,
+) -> Result<Desk, NoMemory>
+    requires { length realm.now ≤ MAX_REALM }
+    ensures { IfOk result (λ desk. desk ≡ desk_of realm.now algorithms anonymity) }
+{
+    let realm = String::from_str(alloc, realm)?;
+    let mut auth = LongTermServerAuth::new(alloc, realm);
+    support(&mut auth, algorithms.as_slice());
+    auth.set_anonymous_username(anonymity);
+    Ok(Desk::new(alloc, auth))
+}
+
+/// Has a server support these algorithms in their order, and no other.
+fn support(auth: &mut LongTermServerAuth, algorithms: &[IntegrityAlgorithm])
+    requires never_empty { algorithms.now ≢ [] }
+    requires distinct { IsDistinct is_same_algorithm algorithms.now }
+    ensures { auth.new ≡ record auth.old { algorithms = algorithms.now } }
+{
+    if let Some((first, others)) = algorithms.split_first() {
+        auth.set_supported_integrity(*first);
+        let mut left = others;
+        while let Some((algorithm, rest)) = left.split_first() {
+            auth.add_supported_integrity(*algorithm);
+            left = rest;
+        }
+    }
+}
+
+/// Makes a user known to a desk. Where memory is refused, nothing changes.
+pub(crate) fn add_user(
+    alloc: Global,
+    desk: &mut Desk,
+    name: &str,
+    password: &str,
+) -> Result<(), NoMemory>
+    ensures ok { OnOk result (desk.new ≡ with_user desk.old name.now password.now) }
+    ensures err { OnErr result (desk.new ≡ desk.old) }
+{
+    let name = String::from_str(alloc, name)?;
+    let password = String::from_str(alloc, password)?;
+    let user = LongTermCredentials::new(name, password);
+    desk.auth_mut().add_user(user)
+}
+
+/// A client between these transports, of these settings, whose requests wait so, or as those of a new client
+/// do. Over UDP it asks for an allocation over UDP.
+pub(crate) fn new_client(
+    alloc: Global,
+    by: TransportType,
+    over: TransportType,
+    settings: &Client<'_>,
+    rto: Option<Rto>,
+) -> Result<TurnClient, NoMemory>
+    requires name { length settings.now.name.now ≤ MAX_USERNAME }
+    requires over { CanAsk by over }
+    ensures { IfOk result (λ client. IsNewBy by settings.now.local settings.now.remote
+        (config_of over settings.now rto) settings.now.seed (kept_of client)) }
+{
+    let config = config_of(alloc, settings, over, rto)?;
+    let (local, remote, seed) = (settings.local, settings.remote, settings.seed);
+    match by {
+        TransportType::Udp => match TurnClientUdp::allocate(alloc, local, remote, config, seed) {
+            Ok(client) => Ok(TurnClient::Udp(client)),
+            Err(error) => Err(error),
+        },
+        TransportType::Tcp => match TurnClientTcp::allocate(alloc, local, remote, config, seed) {
+            Ok(client) => Ok(TurnClient::Tcp(client)),
+            Err(error) => Err(error),
+        },
+    }
+}
+
+/// The settings of a client, whose requests wait so, or as those of a new client do.
+fn config_of(
+    alloc: Global,
+    settings: &Client<'_>,
+    over: TransportType,
+    rto: Option<Rto>,
+) -> Result<TurnConfig, NoMemory>
+    ensures { IfOk result (λ config. config ≡ config_of over settings.now rto) }
+{
+    let credentials = TurnCredentials::new(alloc, settings.name, settings.password)?;
+    let mut config = TurnConfig::new(credentials);
+    config.set_allocation_transport(over);
+    ask_for(&mut config, settings.families);
+    offer(&mut config, settings.algorithms.as_slice());
+    config.set_anonymous_username(settings.anonymity);
+    wait(&mut config, rto);
+    Ok(config)
+}
+
+/// Has the requests of a client wait so, where that was said.
+fn wait(config: &mut TurnConfig, rto: Option<Rto>)
+    ensures { config.new ≡ waiting rto config.old }
+{
+    if let Some(rto) = rto {
+        config.set_request_retransmits(rto.initial, rto.max, rto.retransmits, rto.last);
+    }
+}
+
+/// Has a client ask for addresses of these families in their order, and of no other.
+fn ask_for(config: &mut TurnConfig, families: Families)
+    ensures { config.new ≡ record config.old { families = families_in_order families } }
+{
+    match families {
+        Families::V4 => config.set_address_family(AddressFamily::IPV4),
+        Families::V6 => config.set_address_family(AddressFamily::IPV6),
+        Families::V4AndV6 => {
+            config.set_address_family(AddressFamily::IPV4);
+            config.add_address_family(AddressFamily::IPV6);
+        }
+        Families::V6AndV4 => {
+            config.set_address_family(AddressFamily::IPV6);
+            config.add_address_family(AddressFamily::IPV4);
+        }
+    }
+}
+
+/// Has a client support these algorithms in their order, and no other.
+fn offer(config: &mut TurnConfig, algorithms: &[IntegrityAlgorithm])
+    requires never_empty { algorithms.now ≢ [] }
+    requires distinct { IsDistinct is_same_algorithm algorithms.now }
+    ensures { config.new ≡ record config.old { algorithms = algorithms.now } }
+{
+    if let Some((first, others)) = algorithms.split_first() {
+        config.set_supported_integrity(*first);
+        let mut left = others;
+        while let Some((algorithm, rest)) = left.split_first() {
+            config.add_supported_integrity(*algorithm);
+            left = rest;
+        }
+    }
+}

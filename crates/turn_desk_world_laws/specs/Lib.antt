@@ -1,0 +1,13 @@
+pub mod AddressRuns
+pub mod Copies
+pub mod Ends
+pub mod Safety
+pub mod SocketCalls
+pub mod Told
+-- What stands above this crate has these through it.
+pub use Rattle.turn_desk_world.specs.TurnClientProtoConnection as TurnClientProtoConnection
+pub use Rattle.turn_desk_world.specs.TurnClientProtoPeers as TurnClientProtoPeers
+pub use Rattle.turn_desk_world.specs.TurnClientProtoPayload as TurnClientProtoPayload
+pub use Rattle.turn_desk_world.specs.TurnClientProto as TurnClientProto
+pub use Rattle.turn_desk_world.specs as World
+pub use Rattle.turn_client_proto_step_laws.specs as TurnClientProtoStepLaws

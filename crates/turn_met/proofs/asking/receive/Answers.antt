@@ -1,6 +1,0 @@
-use Rattle.turn_met.specs.Meetings.{plan_of}
-use Rattle.turn_met.proofs.Hearing.{known}
-use Rattle.turn_met.proofs.asking.receive.Goals as goal
-
-pub returns : goal.returns
-returns c = known (plan_of c.args.setting.now) c.args.address c.in_ok-world.world c.receive_in-wish.new.world c.in_ok-world.ensures c.receive_in-wish.result (c.receive_in-wish.ensures c.in_ok-world.ensures)

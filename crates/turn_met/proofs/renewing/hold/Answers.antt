@@ -1,5 +1,0 @@
-use Rattle.turn_met.proofs.Passing.{still_on}
-use Rattle.turn_met.proofs.renewing.hold.Goals as goal
-
-pub returns-then-branch : goal.returns-then-branch
-returns-then-branch c = still_on c.args.now c.args.world.now c.wait.new.world c.shows.new.world (rw c.if-branch.true at c.in_ok-wait.ensures) c.shows.result c.shows.ensures

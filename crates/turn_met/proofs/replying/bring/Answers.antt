@@ -1,7 +1,0 @@
-use Rattle.std.proofs.Common.{◌∙◌}
-use Rattle.turn_met.proofs.Replied.{brought}
-use Rattle.turn_met.proofs.replying.bring.Goals as goal
-
-pub returns-in-Reply : goal.returns-in-Reply
-returns-in-Reply c = brought c.args.now c.args.decision c.args.world.now c.give.new.world c.args.sent.now c.in_ok-from_slice.field-0 c.in-Reply.bytes _ c.happen.new.world
-    (c.in_ok-from_slice.ensures.items ∙ c.as_slice.ensures) (rw c.in-Reply.is at c.in_ok-bytes.ensures) c.give.result c.give.ensures

@@ -1,0 +1,16 @@
+pub mod Tools
+pub mod Grants
+pub mod Numbers
+pub mod Keeps
+pub mod Safe
+pub mod Chains
+pub mod AnyRealm
+pub mod Bound
+pub mod Handshakes
+pub mod Joined
+pub mod Rounds
+pub mod Ungranted
+pub mod Unsigned
+pub mod AnyNumber
+pub mod OtherKeys
+pub mod Lawful

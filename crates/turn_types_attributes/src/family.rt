@@ -1,0 +1,51 @@
+//! Values that ask for a family of addresses.
+
+ghost use Rattle.std.specs.Prelude.{◌≡◌, None, MatchResult, slice_index};
+ghost use Rattle.stun_types_write.specs.ValueReading.{IsNamed};
+ghost use Rattle.turn_types_attributes.specs.FamilyValues.{family_number, family_read_refusal, family_refusal, family_value};
+
+use stun_types_base::family::AddressFamily;
+use stun_types_wire::attribute::{AttributeType, RawAttribute};
+use stun_types_wire::error::StunParseError;
+use stun_types_wire::registry::{IPV4_FAMILY, IPV6_FAMILY};
+use stun_types_write::reading::value_of;
+
+/// The value that names a family: its number, and three zeros.
+pub(crate) fn value_of_family(family: AddressFamily) -> [u8; 4]
+    ensures { result ≡ family_value family }
+{
+    match family {
+        AddressFamily::IPV4 => [IPV4_FAMILY, 0, 0, 0],
+        AddressFamily::IPV6 => [IPV6_FAMILY, 0, 0, 0],
+    }
+}
+
+/// The family in the first of four bytes. The other three are not looked at. Refused, in this order:
+/// `WrongAttributeImplementation` where the attribute has another type, `Truncated` where the value is
+/// shorter, `TooLarge` where it is longer, `InvalidAttributeData` where the number is that of no
+/// family.
+#[tactic(auto, unfolding(crate::specs::FamilyValues::family_read_refusal))]
+pub(crate) fn read_family(
+    raw: &RawAttribute<'_>,
+    atype: AttributeType,
+) -> Result<AddressFamily, StunParseError>
+    ensures { MatchResult result (λ family. (family_read_refusal atype.0 raw.now ≡ None)
+        × (raw.now.kind ≡ atype.0) × (family_number family ≡ slice_index raw.now.value 0))
+        (IsNamed (family_read_refusal atype.0 raw.now)) }
+{
+    let value = value_of(raw, atype, 4, 4)?;
+    family_of(value[0])
+}
+
+/// The family of a number. Refused with `InvalidAttributeData` where it is that of no family.
+#[tactic(auto, unfolding(crate::specs::FamilyValues::family_refusal))]
+fn family_of(number: u8) -> Result<AddressFamily, StunParseError>
+    ensures { MatchResult result (λ family. (family_refusal number ≡ None)
+        × (family_number family ≡ number)) (IsNamed (family_refusal number)) }
+{
+    match number {
+        IPV4_FAMILY => Ok(AddressFamily::IPV4),
+        IPV6_FAMILY => Ok(AddressFamily::IPV6),
+        _ => Err(StunParseError::InvalidAttributeData),
+    }
+}

@@ -1,0 +1,127 @@
+//! LIFETIME (RFC 8656, section 18.2).
+
+ghost use Rattle.std.specs.Prelude.{◌≡◌};
+ghost use Rattle.turn_types_attributes.specs.TurnRegistry.{lifetime_kind};
+
+use crate::number::read_number;
+use crate::registry;
+use std::alloc::Global;
+use std::convert::TryFrom;
+use std::marker::Model;
+use stun_types_base::memory::NoMemory;
+use stun_types_wire::attribute::{AttributeType, RawAttribute};
+use stun_types_wire::error::StunParseError;
+use stun_types_write::attribute::{
+    Attribute, AttributeFromRaw, AttributeStaticType, AttributeWrite,
+};
+use stun_types_write::text::write_attribute;
+
+/// For how many seconds an allocation stands without a refresh (RFC 8656, section 18.2). Any number
+/// of 32 bits is lawful. Contracts see the number.
+#[derive(Debug, Drop)]
+pub struct Lifetime {
+    seconds: u32,
+}
+
+impl Model for Lifetime {
+    ghost use Rattle.std.specs.Prelude.{ℕ};
+
+    ghost Value = { ℕ };
+
+    ghost view = { λ a. a.seconds };
+}
+
+impl Lifetime {
+    /// The LIFETIME of so many seconds.
+    pub fn new(seconds: u32) -> Lifetime
+        ensures { result ≡ seconds }
+    {
+        Lifetime { seconds }
+    }
+
+    /// How many seconds.
+    pub fn seconds(&self) -> u32
+        ensures { result ≡ self.now }
+    {
+        self.seconds
+    }
+}
+
+impl AttributeStaticType for Lifetime {
+    ghost TYPE = { record { 0 = lifetime_kind } };
+
+    const TYPE: AttributeType = registry::LIFETIME;
+}
+
+impl Attribute for Lifetime {
+    ghost use Rattle.byteorder.specs.Endian.{big_bytes};
+
+    ghost kind = { λ _. lifetime_kind };
+
+    ghost value = { big_bytes 4 };
+
+    fn get_type(&self) -> AttributeType {
+        Lifetime::TYPE
+    }
+
+    fn length(&self) -> u16 {
+        4
+    }
+}
+
+impl AttributeWrite for Lifetime {
+    fn write_into_unchecked(&self, dest: &mut [u8]) {
+        write_attribute(Lifetime::TYPE, &self.seconds().to_be_bytes(), dest);
+    }
+
+    fn to_raw(&self, alloc: Global) -> Result<RawAttribute<'_>, NoMemory> {
+        let value = Vec::from_slice(alloc, &self.seconds().to_be_bytes())?;
+        Ok(RawAttribute::new_owned(Lifetime::TYPE, value.into_boxed_slice()))
+    }
+}
+
+/// The number in four bytes, the highest first. Refused, in this order: `WrongAttributeImplementation`
+/// where it is another type, `Truncated` where the value is shorter, `TooLarge` where it is longer.
+impl<'a, 'raw> TryFrom<&'raw RawAttribute<'a>> for Lifetime {
+    ghost use Rattle.std.specs.Prelude.{◌≡◌, MatchResult, Some, None};
+    ghost use Rattle.stun_types_write.specs.ValueReading.{IsNamed, value_refusal};
+    ghost use Rattle.byteorder.specs.Endian.{big_number};
+
+    type Error = StunParseError;
+
+    ghost try_from_gives = { λ raw result. MatchResult result
+        (λ read. (value_refusal lifetime_kind 4 4 raw.now ≡ None) × (read
+        ≡ big_number 4 raw.now.value))
+        (IsNamed (value_refusal lifetime_kind 4 4 raw.now)) };
+
+    fn try_from(raw: &'raw RawAttribute<'a>) -> Result<Lifetime, StunParseError> {
+        let seconds = read_number(raw, Lifetime::TYPE)?;
+        Ok(Lifetime { seconds })
+    }
+}
+
+/// Refused as `try_from` is; no memory is taken.
+impl<'a> AttributeFromRaw<'a> for Lifetime {
+    ghost use Rattle.std.specs.Prelude.{false};
+    ghost use Rattle.stun_types_write.specs.ValueReading.{value_refusal};
+
+    ghost read_refusal = { value_refusal lifetime_kind 4 4 };
+
+    ghost read_value = { λ value. value };
+
+    ghost reading_takes_memory = { false };
+
+    fn from_raw_ref(_alloc: Global, raw: &RawAttribute<'_>) -> Result<Lifetime, StunParseError> {
+        let seconds = read_number(raw, Lifetime::TYPE)?;
+        Ok(Lifetime { seconds })
+    }
+
+    fn from_raw(alloc: Global, raw: RawAttribute<'a>) -> Result<Lifetime, StunParseError> {
+        Lifetime::from_raw_ref(alloc, &raw)
+    }
+
+    #[tactic(auto, using(crate::proofs::Numbers::numbers))]
+    fn is_read_back(&self, read: &Lifetime) {
+        let _ = (self.seconds(), read.seconds());
+    }
+}

@@ -1,0 +1,137 @@
+//! REQUESTED-ADDRESS-FAMILY (RFC 8656, section 18.6).
+
+ghost use Rattle.std.specs.Prelude.{◌≡◌};
+ghost use Rattle.turn_types_attributes.specs.TurnRegistry.{requested_address_family_kind};
+
+use crate::family::{read_family, value_of_family};
+use crate::registry;
+use std::alloc::Global;
+use std::convert::TryFrom;
+use std::marker::Model;
+use stun_types_base::family::AddressFamily;
+use stun_types_base::memory::NoMemory;
+use stun_types_wire::attribute::{AttributeType, RawAttribute};
+use stun_types_wire::error::StunParseError;
+use stun_types_write::attribute::{
+    Attribute, AttributeFromRaw, AttributeStaticType, AttributeWrite,
+};
+use stun_types_write::text::write_attribute;
+
+/// The family of the address that a client asks for; without it, IPv4 (RFC 8656, section 18.6).
+/// Contracts see the family.
+#[derive(Debug, Drop)]
+pub struct RequestedAddressFamily {
+    family: AddressFamily,
+}
+
+impl Model for RequestedAddressFamily {
+    ghost use Rattle.stun_types_base.specs.declared.family.AddressFamily.{AddressFamily};
+
+    ghost Value = { AddressFamily };
+
+    ghost view = { λ a. a.family };
+}
+
+impl RequestedAddressFamily {
+    /// The REQUESTED-ADDRESS-FAMILY of a family.
+    pub fn new(family: AddressFamily) -> RequestedAddressFamily
+        ensures { result ≡ family }
+    {
+        RequestedAddressFamily { family }
+    }
+
+    /// The family.
+    pub fn family(&self) -> AddressFamily
+        ensures { result ≡ self.now }
+    {
+        self.family
+    }
+}
+
+impl AttributeStaticType for RequestedAddressFamily {
+    ghost TYPE = { record { 0 = requested_address_family_kind } };
+
+    const TYPE: AttributeType = registry::REQUESTED_ADDRESS_FAMILY;
+}
+
+impl Attribute for RequestedAddressFamily {
+    ghost use Rattle.turn_types_attributes.specs.FamilyValues.{family_value};
+
+    ghost kind = { λ _. requested_address_family_kind };
+
+    ghost value = { family_value };
+
+    fn get_type(&self) -> AttributeType {
+        RequestedAddressFamily::TYPE
+    }
+
+    fn length(&self) -> u16 {
+        4
+    }
+}
+
+impl AttributeWrite for RequestedAddressFamily {
+    fn write_into_unchecked(&self, dest: &mut [u8]) {
+        write_attribute(
+            RequestedAddressFamily::TYPE,
+            &value_of_family(self.family),
+            dest,
+        );
+    }
+
+    fn to_raw(&self, alloc: Global) -> Result<RawAttribute<'_>, NoMemory> {
+        let value = Vec::from_slice(alloc, &value_of_family(self.family))?;
+        Ok(RawAttribute::new_owned(RequestedAddressFamily::TYPE, value.into_boxed_slice()))
+    }
+}
+
+/// The family in the first of four bytes. The other three are not looked at. Refused, in this order:
+/// `WrongAttributeImplementation` where it is another type, `Truncated` where the value is shorter,
+/// `TooLarge` where it is longer, `InvalidAttributeData` where the number is that of no family.
+impl<'a, 'raw> TryFrom<&'raw RawAttribute<'a>> for RequestedAddressFamily {
+    ghost use Rattle.std.specs.Prelude.{◌≡◌, MatchResult, Some, None, slice_index};
+    ghost use Rattle.stun_types_write.specs.ValueReading.{IsNamed};
+    ghost use Rattle.turn_types_attributes.specs.FamilyValues.{family_number, family_read_refusal};
+
+    type Error = StunParseError;
+
+    ghost try_from_gives = { λ raw result. MatchResult result
+        (λ read. (family_read_refusal requested_address_family_kind raw.now ≡ None)
+        × (family_number read ≡ slice_index raw.now.value 0))
+        (IsNamed (family_read_refusal requested_address_family_kind raw.now)) };
+
+    fn try_from(raw: &'raw RawAttribute<'a>) -> Result<RequestedAddressFamily, StunParseError> {
+        let family = read_family(raw, RequestedAddressFamily::TYPE)?;
+        Ok(RequestedAddressFamily { family })
+    }
+}
+
+/// Refused as `try_from` is; no memory is taken.
+impl<'a> AttributeFromRaw<'a> for RequestedAddressFamily {
+    ghost use Rattle.std.specs.Prelude.{false, slice_index};
+    ghost use Rattle.turn_types_attributes.specs.FamilyValues.{family_entry, family_read_refusal};
+
+    ghost read_refusal = { family_read_refusal requested_address_family_kind };
+
+    ghost read_value = { λ value. family_entry (slice_index value 0) };
+
+    ghost reading_takes_memory = { false };
+
+    fn from_raw_ref(
+        _alloc: Global,
+        raw: &RawAttribute<'_>,
+    ) -> Result<RequestedAddressFamily, StunParseError> {
+        let family = read_family(raw, RequestedAddressFamily::TYPE)?;
+        Ok(RequestedAddressFamily { family })
+    }
+
+    fn from_raw(
+        alloc: Global,
+        raw: RawAttribute<'a>,
+    ) -> Result<RequestedAddressFamily, StunParseError> {
+        RequestedAddressFamily::from_raw_ref(alloc, &raw)
+    }
+
+    #[tactic(auto, using(crate::proofs::Families::families))]
+    fn is_read_back(&self, _read: &RequestedAddressFamily) {}
+}

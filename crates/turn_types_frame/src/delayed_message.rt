@@ -1,0 +1,120 @@
+//! Data that is sent by an indication (RFC 8656, sections 11.1 and 11.3).
+
+ghost use Rattle.std.specs.Prelude.{◌≡◌, ◌+◌, ◌≤◌, length};
+ghost use Rattle.turn_types_attributes.specs.TurnRegistry.{data_method, most_payload, send_method};
+
+use crate::build::DelayedTransmitBuild;
+use std::alloc::Global;
+use std::convert::AsSlice;
+use std::fmt::Debug;
+use std::marker::Model;
+use std::net::SocketAddr;
+use stun_types_base::memory::NoMemory;
+use stun_types_wire::attribute::RawAttribute;
+use stun_types_wire::class::{MessageClass, MessageType, Method};
+use stun_types_wire::header::MessageHeader;
+use stun_types_wire::transaction::TransactionId;
+use stun_types_write::attribute::{Attribute, AttributeWrite};
+use turn_types_attributes::registry::{DATA, DATA_ATTRIBUTE, SEND};
+use turn_types_peer::xor_peer_address::XorPeerAddress;
+
+/// An indication with the address of a peer and data, that isn't written yet. Contracts see the record
+/// `Sent`.
+#[derive(Debug, Drop)]
+pub struct DelayedMessage<T: AsSlice<u8>> {
+    method: Method,
+    peer: SocketAddr,
+    number: TransactionId,
+    payload: T,
+}
+
+impl<T: AsSlice<u8>> Model for DelayedMessage<T> {
+    ghost use Rattle.std.specs.Prelude.{◌≤◌, ◌<◌, ◌^◌, length};
+    ghost use Rattle.turn_types_attributes.specs.TurnRegistry.{most_payload};
+    ghost use Rattle.turn_types_frame.specs.Indications.{IsMethod, Sent};
+
+    ghost Value = { Sent };
+
+    ghost view = { λ m. record {
+      method = m.method.0;
+      peer = m.peer;
+      number = m.number;
+      payload = T.items m.payload;
+    } };
+
+    ghost invariant = { λ m. IsMethod m.method.0 (length (T.items m.payload)) };
+}
+
+impl<T: AsSlice<u8> + Debug + Drop> DelayedMessage<T> {
+    /// A SEND indication, which asks a server to send at most 65,504 bytes to a peer.
+    pub fn for_server(peer: SocketAddr, number: TransactionId, payload: T) -> DelayedMessage<T>
+        requires { length (T.items payload) ≤ most_payload }
+        ensures { result
+            ≡ record {
+              method = send_method;
+              peer = peer;
+              number = number;
+              payload = T.items payload;
+            } }
+    {
+        DelayedMessage {
+            method: SEND,
+            peer,
+            number,
+            payload,
+        }
+    }
+
+    /// A DATA indication, which tells a client of at most 65,504 bytes from a peer.
+    pub fn for_client(peer: SocketAddr, number: TransactionId, payload: T) -> DelayedMessage<T>
+        requires { length (T.items payload) ≤ most_payload }
+        ensures { result
+            ≡ record {
+              method = data_method;
+              peer = peer;
+              number = number;
+              payload = T.items payload;
+            } }
+    {
+        DelayedMessage {
+            method: DATA,
+            peer,
+            number,
+            payload,
+        }
+    }
+}
+
+impl<T: AsSlice<u8> + Debug + Drop> DelayedTransmitBuild for DelayedMessage<T> {
+    ghost use Rattle.turn_types_frame.specs.Indications.{indication_text};
+
+    ghost text = { indication_text };
+
+    #[tactic(auto, using(crate::proofs::Texts::whole_length))]
+    fn len(&self) -> usize {
+        let peer = XorPeerAddress::new(self.peer, self.number);
+        let data = RawAttribute::new(DATA_ATTRIBUTE, self.payload.as_slice());
+        MessageHeader::LENGTH + peer.padded_len() + data.padded_len()
+    }
+
+    #[tactic(auto, using(crate::proofs::Texts::whole_length, crate::proofs::Texts::put_together))]
+    fn write_into(self, dest: &mut [u8]) -> usize {
+        let peer = XorPeerAddress::new(self.peer, self.number);
+        let data = RawAttribute::new(DATA_ATTRIBUTE, self.payload.as_slice());
+        let len = dest.len();
+        let mtype = MessageType::from_class_method(MessageClass::Indication, self.method);
+        let header = MessageHeader::new(mtype, (len - MessageHeader::LENGTH) as u16, self.number);
+        let (front, body) = dest.split_at_mut(MessageHeader::LENGTH);
+        let (first, second) = body.split_at_mut(peer.padded_len());
+        front.copy_from_slice(&header.to_bytes());
+        peer.write_into_unchecked(first);
+        data.write_into_unchecked(second);
+        len
+    }
+
+    fn build(self, alloc: Global) -> Result<Vec<u8>, NoMemory> {
+        let mut bytes = Vec::from_elem(alloc, 0u8, self.len())?;
+        self.write_into(bytes.as_mut_slice());
+        Ok(bytes)
+    }
+}
